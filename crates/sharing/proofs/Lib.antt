@@ -1,0 +1,4 @@
+-- Lemmas that the proofs of `sharing` share.
+mod Horner
+mod Terms
+mod Sums

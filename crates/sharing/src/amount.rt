@@ -1,0 +1,111 @@
+// Sharing amounts.
+ghost use mathlib.Core.Path.{_≡_};
+ghost use mathlib.Core.List.{_∷_};
+ghost use Prim.Native.Nat.{_≤_};
+ghost use lib.ListN.{length, take};
+ghost use Rattle.fields.specs.Amount.{amounts};
+ghost use Rattle.sharing.specs.Polynomial.{value};
+ghost use Rattle.sharing.specs.Scheme.{points, weights, amount-scheme};
+ghost use Rattle.sharing.specs.Opening.{products, total, opened};
+use crate::opening::Opening;
+use crate::opening::readable;
+use crate::opening::threshold;
+use fields::AmountShare;
+
+const P: u64 = (1 << 61) - 1;
+
+// The weights of n parties stand in row n - 3.
+const WEIGHTS: [[u64; 9]; 7] = [
+    [3, P - 3, 1, 0, 0, 0, 0, 0, 0],
+    [4, P - 6, 4, P - 1, 0, 0, 0, 0, 0],
+    [5, P - 10, 10, P - 5, 1, 0, 0, 0, 0],
+    [6, P - 15, 20, P - 15, 6, P - 1, 0, 0, 0],
+    [7, P - 21, 35, P - 35, 21, P - 7, 1, 0, 0],
+    [8, P - 28, 56, P - 70, 56, P - 28, 8, P - 1, 0],
+    [9, P - 36, 84, P - 126, 126, P - 84, 36, P - 9, 1],
+];
+
+// The value at a party's point of the polynomial with the secret first, then the coins.
+pub fn share_amount(secret: u64, coins: &[u64], point: u64) -> AmountShare
+    ensures { λ r. ⌜ r .0 ≡ value amounts (secret ∷ now (coins .entry)) point ⌝ }
+{
+    let at = AmountShare(point);
+    let mut sum = AmountShare(0);
+    let mut i = coins.len();
+    while 0 < i {
+        i -= 1;
+        let coin = coins[i];
+        sum = AmountShare(coin).add(at.mul(sum));
+    }
+    AmountShare(secret).add(at.mul(sum))
+}
+
+// What n words open to: their weighted sum, where the sums of x, x^2, .. times them are 0.
+pub fn open_amount(n: u64, words: &[u64]) -> Opening
+    ensures { λ r. ⌜ r ≡ opened amount-scheme n (now (words .entry)) ⌝ }
+{
+    if !readable(n, words, P) {
+        return Opening::Inconsistent;
+    }
+    let mut terms = weighted(n as usize, words);
+    let secret = total(n as usize, terms);
+    let mut left = n - 1 - threshold(n);
+    while 0 < left {
+        let next = raised(n as usize, terms);
+        terms = next;
+        if total(n as usize, terms) != 0 {
+            return Opening::Inconsistent;
+        }
+        left -= 1;
+    }
+    Opening::Secret(secret)
+}
+
+// The first n terms are the words with their weights.
+fn weighted(n: usize, words: &[u64]) -> [u64; 9]
+    requires { ⌜ (3 ≤ n) × (n ≤ 9) × (length (now words) ≡ n) ⌝ }
+    ensures { λ r. ⌜ take n r ≡ products amounts (weights amount-scheme n) (now (words .entry)) ⌝ }
+{
+    let row = WEIGHTS[n - 3];
+    let mut terms = [0u64; 9];
+    let mut i = 0;
+    while i < n {
+        let weight = row[i];
+        let word = words[i];
+        terms[i] = AmountShare(weight).mul(AmountShare(word)).0;
+        i += 1;
+    }
+    terms
+}
+
+// The first n terms, each times its point.
+fn raised(n: usize, terms: [u64; 9]) -> [u64; 9]
+    requires { ⌜ n ≤ 9 ⌝ }
+    ensures { λ r. ⌜ take n r ≡ products amounts (points n) (take n terms) ⌝ }
+{
+    let mut next = terms;
+    let mut point: u64 = 1;
+    let mut i = 0;
+    while i < n {
+        let term = next[i];
+        next[i] = AmountShare(point).mul(AmountShare(term)).0;
+        point += 1;
+        i += 1;
+    }
+    next
+}
+
+// The sum of the first n terms.
+fn total(n: usize, terms: [u64; 9]) -> u64
+    requires { ⌜ n ≤ 9 ⌝ }
+    ensures { λ r. ⌜ r ≡ total amounts (take n terms) ⌝ }
+{
+    let mut sum = AmountShare(0);
+    let mut i = n;
+    while 0 < i {
+        i -= 1;
+        let term = terms[i];
+        sum = AmountShare(term).add(sum);
+    }
+    sum.0
+}

@@ -1,0 +1,2 @@
+-- The starred lines of document 01.
+pub mod Lines
