@@ -1,4 +1,13 @@
--- Lemmas that the proofs of `sharing` share.
+-- Laws of sharing, and lemmas that the functions' proofs share. Other crates cite Points and Laws, and for weights of their own Rows
+-- and Weighing; Terms is about loops over lists.
+pub mod Points
+pub mod Weighing
+pub mod Rows
+pub mod Laws
+pub mod Terms
+mod Newton
+mod Linear
+mod Numbers
+mod Settled
 mod Horner
-mod Terms
 mod Sums
