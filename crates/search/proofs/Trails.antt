@@ -1,7 +1,7 @@
 -- The whole search as a list: it is heard to its end, no other is, and the clearing answer alone tells it. Assumes nothing.
 use mathlib.Core.Path.{_≡_, refl, _∙_, sym, ap}
 use mathlib.Core.Bool.{Bool, true, false, cond, true≢false}
-use mathlib.Core.List.{List, [], _∷_}
+use mathlib.Core.List.{map, List, [], _∷_}
 use Prim.Native.Nat.{ℕ, zero, suc, _+_, _≤_, _<_}
 use native.Mathlib.Omega.{arith}
 use lib.Dec.{eqb, leb}
@@ -21,14 +21,25 @@ module _ (given : ℕ → ℕ) where
   next b = step b (given (middle b))
 
   -- the first probe of a trail, if it has one
-  trail-over : (q : ℕ) (b : Bracket) → over b ≡ true → trail given q b ≡ []
+  pub trail-over : (q : ℕ) (b : Bracket) → over b ≡ true → trail given q b ≡ []
   unfolding trail
   trail-over zero b e = refl
   trail-over (suc q) b e = rw (e, trail)
 
-  trail-going : (q : ℕ) (b : Bracket) → over b ≡ false → trail given (suc q) b ≡ (middle b, given (middle b)) ∷ trail given q (next b)
+  pub trail-going : (q : ℕ) (b : Bracket) → over b ≡ false → trail given (suc q) b ≡ (middle b, given (middle b)) ∷ trail given q (step b (given (middle b)))
   unfolding trail
   trail-going q b e = rw (e, trail)
+
+  -- a verdict of a trail is the one given at its index
+  pub trail-given : (q : ℕ) (b : Bracket) → verdicts (trail given q b) ≡ map given (map (λ p. p .0) (trail given q b))
+  unfolding trail
+  trail-given zero b = refl
+  trail-given (suc q) b = split (over b) refl (trail-given q (next b))
+    where
+      split : (o : Bool) → over b ≡ o → verdicts (trail given q (next b)) ≡ map given (map (λ p. p .0) (trail given q (next b)))
+          → verdicts (trail given (suc q) b) ≡ map given (map (λ p. p .0) (trail given (suc q) b))
+      split true o e = rw (trail-over (suc q) b o) refl
+      split false o e = rw (trail-going q b o) (ap (λ (l : List ℕ). given (middle b) ∷ l) e)
 
   -- a trail is what a search hears, cut short or not
   pub trail-heard : (q : ℕ) (b : Bracket) → Heard given b (verdicts (trail given q b))

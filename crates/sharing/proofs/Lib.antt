@@ -1,10 +1,12 @@
 -- Laws of sharing, and lemmas that the functions' proofs share. Other crates cite Points and Laws, and for weights of their own Rows
--- and Weighing; Terms is about loops over lists.
+-- and Weighing; Terms is about loops over lists, Ranges
+-- about tests of ranges.
 pub mod Points
 pub mod Weighing
 pub mod Rows
 pub mod Laws
 pub mod Terms
+pub mod Ranges
 mod Newton
 mod Linear
 mod Numbers

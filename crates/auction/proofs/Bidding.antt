@@ -1,0 +1,213 @@
+-- Opening a session, splitting a bid and adding its shares, for parties that hold the polynomials of the totals between them. Assumes nothing.
+use mathlib.Core.Path.{_≡_, refl, sym, ap, ap₂, _∙_}
+use mathlib.Core.Bool.{true}
+use mathlib.Core.List.{List, [], _∷_, _++_}
+use Prim.Native.Nat.{ℕ, zero, suc, _+_, _*_, _%_, _≤_, _<_}
+use native.Mathlib.Nat.{suc-inj, mul-zero}
+use native.Mathlib.Omega.{arith}
+use lib.ListN.{length, replicate, length-append, length-map, length-replicate}
+use lib.Seq.{take-at, drop-at}
+use borrow.Author.Tests.{le-leb, lt-leb, lt-ltb, eq-eqb, ne-eqb}
+use Rattle.fields.specs.Amount.{p, amounts}
+use Rattle.fields.proofs.Below.{AllBelow}
+use Rattle.fields.proofs.Fields.{amount-field}
+use Rattle.refusal.specs.Judging.{judged}
+use Rattle.refusal.specs.declared.Judgement.the-variants.{Accepted}
+use Rattle.sharing.specs.Polynomial.{value}
+use Rattle.sharing.specs.Linear.{sums}
+use Rattle.sharing.specs.Scheme.{threshold}
+use Rattle.sharing.specs.Sizes.{party}
+use Rattle.sharing.proofs.Laws.{value-lt, value-sums}
+use Rattle.search.specs.Limit.{limit}
+use Rattle.search.proofs.Logarithm.{limit-half}
+use Rattle.comparison.specs.Probe.{Each, Group}
+use Rattle.comparison.proofs.Values.{Shared}
+use Rattle.bid.specs.Table.{monotone}
+use Rattle.bid.specs.Split.{split-judgement, bid-shares, split-left}
+use Rattle.party.specs.declared.record.Party.{Party}
+use Rattle.party.specs.Record.{sound}
+use Rattle.party.specs.Open.{open-judgement, fresh}
+use Rattle.party.specs.Add.{add-judgement, counted, add-reply, add-left}
+use Rattle.auction.specs.Auction.{Auction, IsAuction}
+use Rattle.auction.specs.Coins.{Coins, flat}
+use Rattle.auction.specs.Told.{Seat, returned, blank, seated, shares-for, added}
+use Rattle.auction.proofs.Closed.{entries, added-polynomials, at-party, no-totals}
+use Rattle.auction.proofs.Judging.{kept-new, returned-next, is-party, is-listed, is-below}
+use Rattle.auction.proofs.Totals.{GoodBid, Held, entries-held}
+
+-- ---- flattened groups
+
+module _ (q t : ℕ) where
+  pub below-append : (xs ys : List ℕ) → AllBelow q xs → AllBelow q ys → AllBelow q (xs ++ ys)
+  below-append [] ys h k = k
+  below-append (x ∷ xs) ys h k = (h .0, below-append xs ys (h .1) k)
+
+  pub flat-below : (gs : List (List ℕ)) → Each (Group q t) gs → AllBelow q (flat gs)
+  unfolding flat
+  flat-below [] h = tt
+  flat-below (g ∷ gs) h = below-append g (flat gs) (h .0 .1) (flat-below gs (h .1))
+
+  pub flat-length : (gs : List (List ℕ)) → Each (Group q t) gs → length (flat gs) ≡ length gs * t
+  unfolding flat
+  flat-length [] h = omega arith
+  flat-length (g ∷ gs) h = length-append g (flat gs) ∙ omega (arith, h .0 .0, flat-length gs (h .1))
+
+-- ---- splitting
+
+-- the groups are taken one after the other
+pub shares-written : (t j : ℕ) (table : List ℕ) (groups : List (List ℕ)) → length groups ≡ length table → Each (Group p t) groups
+    → bid-shares t j table (flat groups) ≡ at-party j (entries table groups)
+unfolding bid-shares entries flat
+shares-written t j [] gs l h = refl
+shares-written t j (x ∷ xs) [] l h = absurd (omega arith)
+shares-written t j (x ∷ xs) (g ∷ gs) l h =
+    ap₂ (λ (u v : List ℕ). value amounts (x ∷ u) j ∷ bid-shares t j xs v) (take-at g (flat gs) t (h .0 .0)) (drop-at g (flat gs) t (h .0 .0))
+    ∙ ap (λ (z : List ℕ). value amounts (x ∷ g) j ∷ z) (shares-written t j xs gs (suc-inj l) (h .1))
+
+module _ (n j k : ℕ) (h3 : 3 ≤ n) (h9 : n ≤ 9) (h1 : 1 ≤ j) (hn : j ≤ n) (k1 : 1 ≤ k) (k2 : k ≤ 1024) where
+  pub split-accepted : (b : List ℕ × List (List ℕ)) (shares : List ℕ) → GoodBid k (threshold n) b → length shares ≡ 2 * k
+      → split-judgement n j k (b .0) (flat (b .1)) shares ≡ Accepted
+  unfolding split-judgement judged
+  split-accepted b shares B l =
+      let many : length (flat (b .1)) ≡ 2 * k * threshold n = flat-length p (threshold n) (b .1) (B .groups) ∙ ap (λ (z : ℕ). z * threshold n) (B .many) in
+      simp (
+        is-party n j h3 h9 h1 hn,
+        is-listed k k1 k2,
+        eq-eqb _ _ (B .table .long),
+        eq-eqb _ _ many,
+        eq-eqb _ _ l,
+        is-below p (flat (b .1)) (flat-below p (threshold n) (b .1) (B .groups)),
+        B .table .small,
+        B .table .monotone,
+      )
+
+  pub split-writes : (b : List ℕ × List (List ℕ)) (shares : List ℕ) → GoodBid k (threshold n) b → length shares ≡ 2 * k
+      → split-left n j k (b .0) (flat (b .1)) shares ≡ at-party j (entries (b .0) (b .1))
+  split-writes b shares B l =
+      kept-new _ (split-accepted b shares B l) _ shares ∙ shares-written (threshold n) j (b .0) (b .1) (B .many ∙ sym (B .table .long)) (B .groups)
+
+  -- ---- opening
+
+  pub open-accepted : (totals : List ℕ) → length totals ≡ 2 * k → open-judgement n j k totals ≡ Accepted
+  unfolding open-judgement judged
+  open-accepted totals l = simp (is-party n j h3 h9 h1 hn, is-listed k k1 k2, eq-eqb _ _ l)
+
+-- the record of party j with m bids held
+unfoldable pub holding : (n k m j : ℕ) → Party
+holding n k m j = record { n = n; own = j; k = k; bids = m; lo = 0; hi = k + 1; probes = 0; round = 1; sum = 0; carry = 0 }
+
+limit-some : (k : ℕ) → 1 ≤ k → 0 < limit k
+limit-some k h = omega (arith, limit-half k h)
+
+module _ (n j k m : ℕ) (h3 : 3 ≤ n) (h9 : n ≤ 9) (h1 : 1 ≤ j) (hn : j ≤ n) (k1 : 1 ≤ k) (k2 : k ≤ 1024) (hm : m < 1000) where
+  holding-sound : sound (holding n k m j) ≡ true
+  unfolding sound holding
+  holding-sound =
+      simp (
+        is-party n j h3 h9 h1 hn,
+        is-listed k k1 k2,
+        le-leb m 1000 (omega arith),
+        lt-ltb 0 (k + 1) (omega arith),
+        le-leb (k + 1) (k + 1) (omega arith),
+        le-leb 0 (limit k) (omega arith),
+        ne-eqb 0 (limit k) (λ e. omega (arith, limit-some k k1)),
+      )
+
+  pub add-accepted : (totals shares : List ℕ) → length totals ≡ 2 * k → length shares ≡ 2 * k → AllBelow p totals → AllBelow p shares
+      → add-judgement (holding n k m j) totals shares ≡ Accepted
+  unfolding add-judgement judged holding
+  add-accepted totals shares lt ls ht hs =
+      simp (
+        holding-sound,
+        eq-eqb _ _ lt,
+        eq-eqb _ _ ls,
+        lt-leb 1000 m hm,
+        is-below p totals ht,
+        is-below p shares hs,
+      )
+
+fresh-holding : (n k j : ℕ) → fresh n j k ≡ holding n k 0 j
+unfolding fresh holding
+fresh-holding n k j = refl
+
+pub one-more : (n k m j : ℕ) → counted (holding n k m j) ≡ holding n k (m + 1) j
+unfolding counted holding
+one-more n k m j = refl
+
+-- ---- the words of a party
+
+pub point-below : (n j : ℕ) → n ≤ 9 → j ≤ n → j < p
+point-below n j h l = omega arith
+
+pub at-party-below : (t j : ℕ) (fs : List (List ℕ)) → j < p → Each (Shared p t) fs → AllBelow p (at-party j fs)
+at-party-below t j [] hj h = tt
+at-party-below t j (f ∷ fs) hj h = (value-lt amount-field f j (h .0 .1) hj, at-party-below t j fs hj (h .1))
+
+pub at-party-added : (t j : ℕ) (fs gs : List (List ℕ)) → j < p → Each (Shared p t) fs → Each (Shared p t) gs → length gs ≡ length fs
+    → sums amounts (at-party j fs) (at-party j gs) ≡ at-party j (added-polynomials fs gs)
+unfolding sums added-polynomials
+at-party-added t j [] [] hj hf hg l = refl
+at-party-added t j [] (g ∷ gs) hj hf hg l = absurd (omega arith)
+at-party-added t j (f ∷ fs) [] hj hf hg l = absurd (omega arith)
+at-party-added t j (f ∷ fs) (g ∷ gs) hj hf hg l =
+    ap₂ (λ (x : ℕ) (xs : List ℕ). x ∷ xs) (sym (value-sums amount-field f g j (hf .0 .1) (hg .0 .1) hj))
+    (at-party-added t j fs gs hj (hf .1) (hg .1) (suc-inj l))
+
+value-zeros : (m j : ℕ) → value amounts (replicate m 0) j ≡ 0
+unfolding value
+value-zeros zero j = refl
+value-zeros (suc m) j = ap (λ (z : ℕ). (0 + j * z % p) % p) (value-zeros m j) ∙ ap (λ (z : ℕ). (0 + z % p) % p) (mul-zero j)
+
+pub at-party-zeros : (t j m : ℕ) → at-party j (replicate m (replicate (suc t) 0)) ≡ replicate m 0
+at-party-zeros t j zero = refl
+at-party-zeros t j (suc m) = ap₂ (λ (x : ℕ) (xs : List ℕ). x ∷ xs) (value-zeros (suc t) j) (at-party-zeros t j m)
+
+-- ---- seats
+
+-- party j with m bids held and the polynomials fs behind the totals
+unfoldable pub holding-seat : (a : Auction) (m : ℕ) (fs : List (List ℕ)) (j : ℕ) → Seat
+holding-seat a m fs j = record { party = holding (a .n) (a .k) m j; totals = at-party j fs; sheets = [] }
+
+module _ {a : Auction} (c : Coins) (A : IsAuction a) (j : ℕ) (h1 : 1 ≤ j) (hn : j ≤ a .n) where
+  pub opening-accepted : open-judgement (a .n) j (a .k) (blank a c) ≡ Accepted
+  opening-accepted = open-accepted (a .n) j (a .k) (A .n-least) (A .n-most) h1 hn (A .k-least) (A .k-most) (blank a c) (length-replicate (2 * a .k) 0)
+
+  pub seated-holding : seated a c j ≡ holding-seat a 0 (no-totals a) j
+  unfolding seated holding-seat
+  seated-holding =
+      ap₂ (λ (q : Party) (totals : List ℕ). record { party = q; totals = totals; sheets = [] })
+      (returned-next _ opening-accepted (fresh (a .n) j (a .k)) (fresh (a .n) j (a .k)) ∙ fresh-holding (a .n) (a .k) j)
+      (kept-new _ opening-accepted (replicate (2 * a .k) 0) (blank a c) ∙ sym (at-party-zeros (threshold (a .n)) j (2 * a .k)))
+
+  module _ (b : List ℕ × List (List ℕ)) (B : GoodBid (a .k) (threshold (a .n)) b) where
+    pub splitting-accepted : split-judgement (a .n) j (a .k) (b .0) (flat (b .1)) (blank a c) ≡ Accepted
+    splitting-accepted =
+        split-accepted (a .n) j (a .k) (A .n-least) (A .n-most) h1 hn (A .k-least) (A .k-most) b (blank a c) B (length-replicate (2 * a .k) 0)
+
+    module _ (m : ℕ) (fs : List (List ℕ)) (F : Held (a .k) (threshold (a .n)) fs) where
+      pub shares-for-party : shares-for a c b (holding-seat a m fs j) ≡ at-party j (entries (b .0) (b .1))
+      unfolding shares-for holding-seat holding
+      shares-for-party =
+          split-writes (a .n) j (a .k) (A .n-least) (A .n-most) h1 hn (A .k-least) (A .k-most) b (blank a c) B (length-replicate (2 * a .k) 0)
+
+      module _ (hm : m < 1000) where
+        pub adding-accepted : add-judgement (holding (a .n) (a .k) m j) (at-party j fs) (at-party j (entries (b .0) (b .1))) ≡ Accepted
+        adding-accepted =
+            let E : Held (a .k) (threshold (a .n)) (entries (b .0) (b .1)) = entries-held (a .k) (threshold (a .n)) b B in
+            let hj : j < p = point-below (a .n) j (A .n-most) hn in
+            add-accepted (a .n) j (a .k) m (A .n-least) (A .n-most) h1 hn (A .k-least) (A .k-most) hm
+            (at-party j fs) (at-party j (entries (b .0) (b .1)))
+            (length-map fs (λ f. value amounts f j) ∙ F .many) (length-map (entries (b .0) (b .1)) (λ f. value amounts f j) ∙ E .many)
+            (at-party-below (threshold (a .n)) j fs hj (F .shared)) (at-party-below (threshold (a .n)) j (entries (b .0) (b .1)) hj (E .shared))
+
+        pub added-holding : added a c b (holding-seat a m fs j) ≡ holding-seat a (m + 1) (added-polynomials fs (entries (b .0) (b .1))) j
+        unfolding added holding-seat
+        added-holding =
+            let q : Party = holding (a .n) (a .k) m j in
+            let E : Held (a .k) (threshold (a .n)) (entries (b .0) (b .1)) = entries-held (a .k) (threshold (a .n)) b B in
+            ap (λ (shares : List ℕ). record { party = returned q (add-reply q (at-party j fs) shares); totals = add-left q (at-party j fs) shares; sheets = [] })
+            shares-for-party
+            ∙ ap₂ (λ (r : Party) (totals : List ℕ). record { party = r; totals = totals; sheets = [] })
+            (returned-next _ adding-accepted q (counted q) ∙ one-more (a .n) (a .k) m j)
+            (kept-new _ adding-accepted _ (at-party j fs)
+            ∙ at-party-added (threshold (a .n)) j fs (entries (b .0) (b .1)) (point-below (a .n) j (A .n-most) hn) (F .shared) (E .shared) (E .many ∙ sym (F .many)))

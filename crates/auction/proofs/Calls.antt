@@ -1,0 +1,157 @@
+-- Lists of calls: what is read off a list made of parts, and off one call of each party. Assumes nothing.
+use mathlib.Core.Path.{_≡_, refl, ap, ap₂, _∙_}
+use mathlib.Core.Bool.{Bool, true, false, cond, _&&_}
+use mathlib.Core.List.{List, [], _∷_, _++_, map, map-map}
+use mathlib.Core.Option.{Option, none, some}
+use Prim.Native.Nat.{ℕ, zero, suc, _+_, _≤_, _<_}
+use native.Mathlib.Decide.{decLt}
+use native.Mathlib.Omega.{arith}
+use lib.Dec.{eqb}
+use borrow.Author.Tests.{eq-eqb, ne-eqb}
+use Rattle.sharing.specs.Lists.{from}
+use Rattle.sharing.specs.Scheme.{points}
+use Rattle.sharing.proofs.Terms.{and-left, and-right}
+use Rattle.comparison.specs.Probe.{Each}
+use Rattle.auction.specs.Call.{Call, accepted, whose, of-party, of-service, given}
+use Rattle.auction.specs.Run.{select, own, services}
+use Rattle.auction.specs.Received.{collect}
+use Rattle.auction.specs.Demands.{all-accepted}
+
+-- ---- parts
+
+module _ (test : Call → Bool) where
+  pub select-append : (l m : List Call) → select test (l ++ m) ≡ select test l ++ select test m
+  unfolding select
+  select-append [] m = refl
+  select-append (c ∷ l) m = either (test c) (select-append l m)
+    where
+      either : (b : Bool) → select test (l ++ m) ≡ select test l ++ select test m
+          → cond b (given c ∷ select test (l ++ m)) (select test (l ++ m)) ≡ cond b (given c ∷ select test l) (select test l) ++ select test m
+      either true e = ap (λ (z : List Call). given c ∷ z) e
+      either false e = e
+
+  pub select-taken : (c : Call) (l : List Call) → test c ≡ true → select test (c ∷ l) ≡ given c ∷ select test l
+  unfolding select
+  select-taken c l e = rw e
+
+  pub select-left : (c : Call) (l : List Call) → test c ≡ false → select test (c ∷ l) ≡ select test l
+  unfolding select
+  select-left c l e = rw e
+
+pub own-append : (j : ℕ) (l m : List Call) → own j (l ++ m) ≡ own j l ++ own j m
+own-append j l m = select-append (λ c. accepted c && of-party j (whose c)) l m
+
+pub services-append : (l m : List Call) → services (l ++ m) ≡ services l ++ services m
+services-append l m = select-append (λ c. accepted c && of-service (whose c)) l m
+
+module _ {A B : Type 0} (f : A → Option B) where
+  pub collect-append : (l m : List A) → collect f (l ++ m) ≡ collect f l ++ collect f m
+  unfolding collect
+  collect-append [] m = refl
+  collect-append (x ∷ l) m = either (f x) (collect-append l m)
+    where
+      either : (o : Option B) → collect f (l ++ m) ≡ collect f l ++ collect f m
+          → elim o [ none ↦ collect f (l ++ m) | some y ↦ y ∷ collect f (l ++ m) ]
+          ≡ elim o [ none ↦ collect f l | some y ↦ y ∷ collect f l ] ++ collect f m
+      either none e = e
+      either (some y) e = ap (λ (z : List B). y ∷ z) e
+
+  pub collect-none : (x : A) (l : List A) → f x ≡ none → collect f (x ∷ l) ≡ collect f l
+  unfolding collect
+  collect-none x l e = rw (e, collect)
+
+  pub collect-some : (x : A) (l : List A) (y : B) → f x ≡ some y → collect f (x ∷ l) ≡ y ∷ collect f l
+  unfolding collect
+  collect-some x l y e = rw (e, collect)
+
+pub all-accepted-append : (l m : List Call) → all-accepted l ≡ true → all-accepted m ≡ true → all-accepted (l ++ m) ≡ true
+unfolding all-accepted
+all-accepted-append [] m h k = k
+all-accepted-append (c ∷ l) m h k = ap₂ _&&_ (and-left (accepted c) (all-accepted l) h) (all-accepted-append l m (and-right (accepted c) (all-accepted l) h) k)
+
+pub all-accepted-map : {A : Type 0} (f : A → Call) (xs : List A) → Each (λ x. accepted (f x) ≡ true) xs → all-accepted (map f xs) ≡ true
+unfolding all-accepted
+all-accepted-map f [] h = refl
+all-accepted-map f (x ∷ xs) h = ap₂ _&&_ (h .0) (all-accepted-map f xs (h .1))
+
+-- ---- the parties' points
+
+-- what holds of each party holds of all
+pub each-from : (P : ℕ → Type 0) (a m : ℕ) → ((i : ℕ) → a ≤ i → i < a + m → P i) → Each P (from a m)
+unfolding from
+each-from P a zero h = tt
+each-from P a (suc m) h = (h a (omega arith) (omega arith), each-from P (suc a) m (λ i l k. h i (omega arith) (omega arith)))
+
+pub each-point : (P : ℕ → Type 0) (n : ℕ) → ((i : ℕ) → 1 ≤ i → i ≤ n → P i) → Each P (points n)
+each-point P n h = each-from P 1 n (λ i l k. h i l (omega arith))
+
+pub map-each : {A B : Type 0} (f g : A → B) (xs : List A) → Each (λ x. f x ≡ g x) xs → map f xs ≡ map g xs
+map-each f g [] h = refl
+map-each {A} {B} f g (x ∷ xs) h = ap₂ (λ (z : B) (zs : List B). z ∷ zs) (h .0) (map-each f g xs (h .1))
+
+pub map-points : {B : Type 0} (f g : ℕ → B) (n : ℕ) → ((i : ℕ) → 1 ≤ i → i ≤ n → f i ≡ g i) → map f (points n) ≡ map g (points n)
+map-points f g n h = map-each f g (points n) (each-point (λ i. f i ≡ g i) n h)
+
+-- where each party has something, what is made of it
+pub map-through : {A B : Type 0} (g : A → B) (f : ℕ → A) (h : ℕ → B) (n : ℕ) → ((i : ℕ) → 1 ≤ i → i ≤ n → g (f i) ≡ h i)
+    → map g (map f (points n)) ≡ map h (points n)
+map-through g f h n e = map-map g f (points n) ∙ map-points (λ i. g (f i)) h n e
+
+pub all-accepted-points : (f : ℕ → Call) (n : ℕ) → ((i : ℕ) → 1 ≤ i → i ≤ n → accepted (f i) ≡ true) → all-accepted (map f (points n)) ≡ true
+all-accepted-points f n h = all-accepted-map f (points n) (each-point (λ i. accepted (f i) ≡ true) n h)
+
+-- ---- one call of each party
+
+-- a party's own call that is accepted
+pub record Own (i : ℕ) (c : Call) : Type 0 where
+  pub accepted : accepted c ≡ true
+  pub whose : (j : ℕ) → of-party j (whose c) ≡ eqb i j
+
+module _ (j : ℕ) where
+  pub own-taken : (c : Call) (l : List Call) → Own j c → own j (c ∷ l) ≡ given c ∷ own j l
+  own-taken c l h = select-taken (λ c. accepted c && of-party j (whose c)) c l (ap₂ _&&_ (h .accepted) (h .whose j ∙ eq-eqb j j refl))
+
+  pub own-left : (i : ℕ) (c : Call) (l : List Call) → (i ≡ j → ⊥) → Own i c → own j (c ∷ l) ≡ own j l
+  own-left i c l d h = select-left (λ c. accepted c && of-party j (whose c)) c l (ap₂ _&&_ (h .accepted) (h .whose j ∙ ne-eqb i j d))
+
+  module _ (f : ℕ → Call) where
+    own-later : (a m : ℕ) → j < a → ((i : ℕ) → a ≤ i → i < a + m → Own i (f i)) → own j (map f (from a m)) ≡ []
+    unfolding from select
+    own-later a zero l h = refl
+    own-later a (suc m) l h =
+        own-left a (f a) (map f (from (suc a) m)) (λ e. omega arith) (h a (omega arith) (omega arith))
+        ∙ own-later (suc a) m (omega arith) (λ i l k. h i (omega arith) (omega arith))
+
+    own-from : (a m : ℕ) → a ≤ j → j < a + m → ((i : ℕ) → a ≤ i → i < a + m → Own i (f i)) → own j (map f (from a m)) ≡ given (f j) ∷ []
+    unfolding from
+    own-from a zero l k h = absurd (omega arith)
+    own-from a (suc m) l k h =
+        elim (decLt a j) [
+          | yes lt ↦
+              own-left a (f a) (map f (from (suc a) m)) (λ e. omega arith) (h a (omega arith) (omega arith))
+              ∙ own-from (suc a) m (omega arith) (omega arith) (λ i l k. h i (omega arith) (omega arith))
+          | no ge ↦ here (omega arith)
+        ]
+      where
+        here : a ≡ j → own j (f a ∷ map f (from (suc a) m)) ≡ given (f j) ∷ []
+        here e =
+            ap (λ (i : ℕ). own j (f i ∷ map f (from (suc a) m))) e
+            ∙ own-taken (f j) (map f (from (suc a) m)) (h j l k)
+            ∙ ap (λ (z : List Call). given (f j) ∷ z) (own-later (suc a) m (omega arith) (λ i l k. h i (omega arith) (omega arith)))
+
+-- of one call of each party, party j's own is its call
+pub own-points : (j n : ℕ) (f : ℕ → Call) → 1 ≤ j → j ≤ n → ((i : ℕ) → 1 ≤ i → i ≤ n → Own i (f i)) → own j (map f (points n)) ≡ given (f j) ∷ []
+own-points j n f l k h = own-from j f 1 n l (omega arith) (λ i l k. h i l (omega arith))
+
+-- ---- calls of no party
+
+pub own-none : {A : Type 0} (j : ℕ) (f : A → Call) (xs : List A) → ((x : A) → of-party j (whose (f x)) ≡ false) → own j (map f xs) ≡ []
+unfolding select
+own-none j f [] h = refl
+own-none j f (x ∷ xs) h =
+    select-left (λ c. accepted c && of-party j (whose c)) (f x) (map f xs) (ap (λ (b : Bool). accepted (f x) && b) (h x) ∙ none (accepted (f x)))
+    ∙ own-none j f xs h
+  where
+    none : (b : Bool) → b && false ≡ false
+    none true = refl
+    none false = refl

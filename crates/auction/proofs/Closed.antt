@@ -1,0 +1,137 @@
+-- An auction seen whole: the polynomials behind every party's totals and sheets, the state of the search, and what each party then has
+-- and says. Everything that a run computes is read off these. Assumes nothing.
+use mathlib.Core.Bool.{true, false}
+use mathlib.Core.List.{List, [], _∷_, map, flatten, zip}
+use Prim.Native.Nat.{ℕ, zero, suc, _+_, _-_, _*_}
+use lib.ListN.{length, replicate, getD}
+use Rattle.fields.specs.Amount.{amounts}
+use Rattle.fields.specs.Byte.{bytes}
+use Rattle.sharing.specs.Polynomial.{value}
+use Rattle.sharing.specs.Linear.{sums}
+use Rattle.sharing.specs.Lists.{from}
+use Rattle.sharing.specs.Scheme.{threshold, points}
+use Rattle.search.specs.declared.Bracket.{Bracket}
+use Rattle.search.specs.Bracket.{start, middle, over, step}
+use Rattle.comparison.specs.Probe as probe
+use Rattle.comparison.specs.Probe.{Probe, secret, round, carry-after, opened-sum, carry-one, last-polynomial}
+use Rattle.party.specs.declared.record.Party.{Party}
+use Rattle.auction.specs.Auction.{Auction}
+use Rattle.auction.specs.Coins.{Coins, flat}
+use Rattle.auction.specs.Told.{Seat}
+
+-- ---- totals
+
+-- the polynomial of each amount of a bid
+unfoldable pub entries : (table : List ℕ) (groups : List (List ℕ)) → List (List ℕ)
+entries [] gs = []
+entries (x ∷ xs) [] = []
+entries (x ∷ xs) (g ∷ gs) = (x ∷ g) ∷ entries xs gs
+
+-- entry by entry
+unfoldable pub added-polynomials : List (List ℕ) → List (List ℕ) → List (List ℕ)
+added-polynomials [] gs = []
+added-polynomials (f ∷ fs) [] = []
+added-polynomials (f ∷ fs) (g ∷ gs) = sums amounts f g ∷ added-polynomials fs gs
+
+-- the polynomials of the totals after these bids
+unfoldable pub totals-after : List (List ℕ × List (List ℕ)) → List (List ℕ) → List (List ℕ)
+totals-after [] fs = fs
+totals-after (b ∷ bs) fs = totals-after bs (added-polynomials fs (entries (b .0) (b .1)))
+
+-- party j's words of them
+abbrev pub at-party : ℕ → List (List ℕ) → List ℕ
+at-party j fs = map (λ f. value amounts f j) fs
+
+module _ (a : Auction) where
+  abbrev pub no-totals : List (List ℕ)
+  no-totals = replicate (2 * a .k) (replicate (suc (threshold (a .n))) 0)
+
+  unfoldable pub polynomials : Coins → List (List ℕ)
+  polynomials c = totals-after (zip (a .bids) (c .bids)) no-totals
+
+  -- ---- one probe
+
+  -- the probe at index i with the totals fs and this sheet
+  unfoldable pub probe-at : List (List ℕ) → ℕ → probe.Coins → Probe
+  probe-at fs i s = record { demand = getD fs (i - 1) []; supply = getD fs (a .k + i - 1) []; sheet = probe.dealt s }
+
+-- C_(m + 1): the carry after round m + 1
+unfoldable pub carry-at : Probe → ℕ → List ℕ
+carry-at q zero = carry-one q
+carry-at q (suc m) =
+    let t = getD (q .sheet .triples) m (record { alpha = []; beta = []; gamma = [] }) in
+    carry-after (opened-sum q) (m + 2) (round (opened-sum q) (m + 2) (carry-at q m) (getD (q .sheet .bits) (m + 1) []) t) t
+
+-- ---- all probes
+
+-- a probe that is made: where the search stands, the probe, and its verdict
+pub record Made : Type 0 where
+  pub bracket : Bracket
+  pub probe : Probe
+
+abbrev pub decided : Made → ℕ
+decided d = secret (last-polynomial (d .probe))
+
+-- the probed index and the verdict
+abbrev pub decision : Made → ℕ × ℕ
+decision d = (middle (d .bracket), decided d)
+
+-- the probes that the search makes with these sheets, until it is over
+unfoldable pub made : (a : Auction) → List (List ℕ) → Bracket → List probe.Coins → List Made
+made a fs b [] = []
+made a fs b (s ∷ ss) =
+    let q = probe-at a fs (middle b) s in
+    elim (over b) [ true ↦ [] | false ↦ record { bracket = b; probe = q } ∷ made a fs (step b (secret (last-polynomial q))) ss ]
+
+-- the messages of the n parties, round by round
+unfoldable pub spoken : (n : ℕ) → Probe → List (List ℕ)
+spoken n q = map (λ i. map (λ j. getD (probe.messages q j) i 0) (points n)) (from 0 33)
+
+-- those of these probes
+abbrev pub all-spoken : (n : ℕ) → List Made → List (List ℕ)
+all-spoken n ds = flatten (map (λ d. spoken n (d .probe)) ds)
+
+-- ---- what a party has
+
+-- what all parties know in a round, and the polynomial of the carry
+pub record Stage : Type 0 where
+  pub lo : ℕ
+  pub hi : ℕ
+  pub probes : ℕ
+  pub round : ℕ
+  pub sum : ℕ
+  pub carry : List ℕ
+
+-- before round 1 of a probe
+abbrev pub fresh-stage : Bracket → ℕ → Stage
+fresh-stage b m = record { lo = b .lo; hi = b .hi; probes = m; round = 1; sum = 0; carry = [] }
+
+-- before round i + 2 of the probe q
+abbrev pub inner-stage : Bracket → ℕ → Probe → ℕ → Stage
+inner-stage b m q i = record { lo = b .lo; hi = b .hi; probes = m; round = i + 2; sum = opened-sum q; carry = carry-at q i }
+
+module _ (a : Auction) (c : Coins) where
+  unfoldable pub record-at : Stage → ℕ → Party
+  record-at σ j =
+      record {
+        n = a .n;
+        own = j;
+        k = a .k;
+        bids = length (a .bids);
+        lo = σ .lo;
+        hi = σ .hi;
+        probes = σ .probes;
+        round = σ .round;
+        sum = σ .sum;
+        carry = value bytes (σ .carry) j;
+      }
+
+  unfoldable pub sheets-at : ℕ → List ℕ
+  sheets-at j = flat (map (λ s. probe.sheet-words j (probe.dealt s)) (c .sheets))
+
+  unfoldable pub seat : Stage → ℕ → Seat
+  seat σ j = record { party = record-at σ j; totals = at-party j (polynomials a c); sheets = sheets-at j }
+
+  -- all the probes of an auction
+  abbrev pub probes : List Made
+  probes = made a (polynomials a c) (start (a .k)) (c .sheets)

@@ -1,0 +1,161 @@
+-- Every party's call of the told list is for one of the parties 1 to n. Assumes nothing.
+use mathlib.Core.Path.{_≡_, refl, ap, _∙_}
+use mathlib.Core.Bool.{Bool, true, false}
+use mathlib.Core.List.{List, [], _∷_, _++_, map, zip}
+use Prim.Native.Nat.{ℕ, zero, suc, _+_, _*_, _≤_}
+use native.Mathlib.Omega.{arith}
+use lib.Dec.{eqb}
+use borrow.Author.Tests.{ne-eqb}
+use Rattle.refusal.specs.declared.Judgement.{Judgement}
+use Rattle.refusal.specs.declared.Judgement.the-variants.{Accepted, Refused}
+use Rattle.sharing.specs.Lists.{from}
+use Rattle.sharing.specs.Scheme.{points}
+use Rattle.search.specs.Limit.{limit}
+use Rattle.comparison.specs.Probe.{Each}
+use Rattle.party.specs.declared.record.Party.{Party}
+use Rattle.party.specs.declared.record.Heard.{Heard}
+use Rattle.party.specs.declared.record.Heard.the-variants.{Sum, Factors, Verdict, Crooked}
+use Rattle.party.specs.Record.{next-or}
+use Rattle.party.specs.Open.{fresh, open-judgement}
+use Rattle.party.specs.Add.{add-judgement, counted}
+use Rattle.party.specs.Say.{current}
+use Rattle.party.specs.Hear.{hear-judgement, after}
+use Rattle.party.specs.Hear as hear
+use Rattle.auction.specs.Auction.{Auction}
+use Rattle.auction.specs.Coins.{Coins}
+use Rattle.auction.specs.Call.{Call, open-call, service, accepted, whose, of-party}
+use Rattle.auction.specs.Told.{returned, Seat, all-over, blank, seated, shares-for, split-for, add-by, added, deal-for, dealt, say-by, word-by, hear-by, heard, ask, from-rounds, deals, from-bids, told}
+use Rattle.auction.specs.Run.{select, own}
+use Rattle.auction.proofs.Selected.{and-false}
+use Rattle.auction.proofs.Calls.{select-append}
+
+-- ---- a call leaves a record its own number
+
+returned-own : (q r : Party) (verdict : Judgement) → r .own ≡ q .own → returned q (next-or verdict r) .own ≡ q .own
+unfolding returned next-or
+returned-own q r Accepted e = e
+returned-own q r (Refused why) e = refl
+
+after-own : (q : Party) (sheet : List ℕ) (h : Heard) → after q sheet h .own ≡ q .own
+unfolding after
+after-own q sheet (Sum v) = refl
+after-own q sheet (Factors d e) = refl
+after-own q sheet (Verdict v) = refl
+after-own q sheet Crooked = refl
+
+-- ---- party j is none of these
+
+each-all : {A : Type 0} (xs : List A) → Each (λ x. Unit {0}) xs
+each-all [] = tt
+each-all (x ∷ xs) = (tt, each-all xs)
+
+either : {B : Type 0} (f : List Call → B) (b : Bool) (l m : List Call) (y : B) → f l ≡ y → f m ≡ y → f (elim b [ true ↦ l | false ↦ m ]) ≡ y
+either f true l m y p q = p
+either f false l m y p q = q
+
+module _ (j : ℕ) where
+  -- not the seat of party j
+  abbrev Away : Seat → Type 0
+  Away s = eqb (s .party .own) j ≡ false
+
+  none-nil : own j [] ≡ []
+  unfolding select
+  none-nil = refl
+
+  none-append : (l m : List Call) → own j l ≡ [] → own j m ≡ [] → own j (l ++ m) ≡ []
+  none-append l m p q = select-append _ l m ∙ rw (p, q)
+
+  none-map : {A : Type 0} (P : A → Type 0) (f : A → Call) → ((x : A) → P x → of-party j (whose (f x)) ≡ false)
+      → (xs : List A) → Each P xs → own j (map f xs) ≡ []
+  unfolding select
+  none-map P f g [] h = refl
+  none-map P f g (x ∷ xs) h = rw (and-false (accepted (f x)) (of-party j (whose (f x))) (g x (h .0)), none-map P f g xs (h .1))
+
+  -- calls of the bidders and the dealer
+  none-served : {A : Type 0} (f : A → Call) → ((x : A) → whose (f x) ≡ service) → (xs : List A) → own j (map f xs) ≡ []
+  unfolding of-party
+  none-served {A} f g xs = none-map (λ x. Unit {0}) f (λ x u. ap (of-party j) (g x)) xs (each-all xs)
+
+  away-map : {A : Type 0} (P : A → Type 0) (f : A → Seat) → ((x : A) → P x → Away (f x)) → (xs : List A) → Each P xs → Each Away (map f xs)
+  away-map P f g [] h = tt
+  away-map P f g (x ∷ xs) h = (g x (h .0), away-map P f g xs (h .1))
+
+  module _ (a : Auction) (c : Coins) where
+    away-seated : (i : ℕ) → eqb i j ≡ false → Away (seated a c i)
+    unfolding seated fresh
+    away-seated i h = rw (returned-own (fresh (a .n) i (a .k)) (fresh (a .n) i (a .k)) (open-judgement (a .n) i (a .k) (blank a c)) refl) h
+
+    away-added : (b : List ℕ × List (List ℕ)) (s : Seat) → Away s → Away (added a c b s)
+    unfolding added counted
+    away-added b s h = rw (returned-own (s .party) (counted (s .party)) (add-judgement (s .party) (s .totals) (shares-for a c b s)) refl) h
+
+    away-heard : (words : List ℕ) (s : Seat) → Away s → Away (heard a c words s)
+    unfolding heard
+    away-heard words s h =
+        let kept = after-own (s .party) (current (s .party) (s .sheets)) (hear.heard (s .party .n) (s .party .round) words) in
+        rw (returned-own (s .party) (after (s .party) (current (s .party) (s .sheets)) (hear.heard (s .party .n) (s .party .round) words))
+        (hear-judgement (s .party) (s .totals) (s .sheets) words) kept)
+        h
+
+    none-asks : (ss : List Seat) → Each Away ss → own j (map (ask a c) ss) ≡ []
+    unfolding ask whose of-party
+    none-asks ss h = none-map Away (ask a c) (λ s e. e) ss h
+
+    none-says : (ss : List Seat) → Each Away ss → own j (map (say-by a c) ss) ≡ []
+    unfolding say-by whose of-party
+    none-says ss h = none-map Away (say-by a c) (λ s e. e) ss h
+
+    none-hears : (words : List ℕ) (ss : List Seat) → Each Away ss → own j (map (hear-by a c words) ss) ≡ []
+    unfolding hear-by whose of-party
+    none-hears words ss h = none-map Away (hear-by a c words) (λ s e. e) ss h
+
+    none-adds : (b : List ℕ × List (List ℕ)) (ss : List Seat) → Each Away ss → own j (map (add-by a c b) ss) ≡ []
+    unfolding add-by whose of-party
+    none-adds b ss h = none-map Away (add-by a c b) (λ s e. e) ss h
+
+    none-splits : (b : List ℕ × List (List ℕ)) (ss : List Seat) → own j (map (split-for a c b) ss) ≡ []
+    unfolding split-for whose
+    none-splits b ss = none-served (split-for a c b) (λ s. refl) ss
+
+    none-deals : (ss : List Seat) → own j (deals a c ss) ≡ []
+    unfolding deals deal-for whose
+    none-deals [] = none-nil
+    none-deals (s ∷ ss) = none-append _ _ (none-served (deal-for a c s) (λ k. refl) (c .sheets)) (none-deals ss)
+
+    none-rounds : (fuel : ℕ) (ss : List Seat) → Each Away ss → own j (from-rounds a c fuel ss) ≡ []
+    unfolding from-rounds
+    none-rounds zero ss h = none-asks ss h
+    none-rounds (suc fuel) ss h =
+        let words = map (word-by a c) ss in
+        let rest = none-rounds fuel (map (heard a c words) ss) (away-map Away (heard a c words) (away-heard words) ss h) in
+        either (own j) (all-over ss) _ _ [] (none-asks ss h) (none-append _ _ (none-says ss h) (none-append _ _ (none-hears words ss h) rest))
+
+    none-bids : (bs : List (List ℕ × List (List ℕ))) (ss : List Seat) → Each Away ss → own j (from-bids a c bs ss) ≡ []
+    unfolding from-bids dealt
+    none-bids [] ss h =
+        none-append _ _ (none-deals ss) (none-rounds (33 * limit (a .k)) (map (dealt a c) ss) (away-map Away (dealt a c) (λ s e. e) ss h))
+    none-bids (b ∷ bs) ss h =
+        let rest = none-bids bs (map (added a c b) ss) (away-map Away (added a c b) (away-added b) ss h) in
+        none-append _ _ (none-splits b ss) (none-append _ _ (none-adds b ss h) rest)
+
+    module _ (outside : 1 ≤ j → j ≤ a .n → ⊥) where
+      away-from : (i m : ℕ) → 1 ≤ i → i + m ≤ suc (a .n) → Each (λ x. eqb x j ≡ false) (from i m)
+      unfolding from
+      away-from i zero h k = tt
+      away-from i (suc m) h k =
+          (ne-eqb i j (λ e. outside (omega arith) (omega arith)), away-from (suc i) m (omega arith) (omega arith))
+
+      away-points : Each (λ x. eqb x j ≡ false) (points (a .n))
+      away-points = away-from 1 (a .n) (omega arith) (omega arith)
+
+      none-opens : own j (map (λ i. open-call (a .n) i (a .k) (blank a c)) (points (a .n))) ≡ []
+      unfolding whose of-party
+      none-opens = none-map (λ x. eqb x j ≡ false) _ (λ x e. e) (points (a .n)) away-points
+
+      -- no call of the told list is party j's own
+      pub none-told : own j (told a c) ≡ []
+      unfolding told
+      none-told =
+          none-append _ _ none-opens
+          (none-bids (zip (a .bids) (c .bids)) (map (seated a c) (points (a .n)))
+          (away-map (λ x. eqb x j ≡ false) (seated a c) away-seated (points (a .n)) away-points))

@@ -1,0 +1,30 @@
+-- Calls that are accepted: what a call returns and leaves, and the tests that it passes. Assumes nothing.
+use mathlib.Core.Path.{_≡_}
+use mathlib.Core.Bool.{true}
+use Prim.Native.Nat.{ℕ, _≤_}
+use Rattle.refusal.specs.Judging.{kept}
+use Rattle.refusal.specs.declared.Judgement.{Judgement}
+use Rattle.refusal.specs.declared.Judgement.the-variants.{Accepted}
+use Rattle.sharing.specs.Sizes.{party}
+use Rattle.sharing.proofs.Ranges as ranges
+pub use Rattle.sharing.proofs.Ranges.{is-listed, is-below}
+use Rattle.party.specs.declared.record.Party.{Party}
+use Rattle.party.specs.Record.{next-or}
+use Rattle.auction.specs.Call.{Call, judgement, is-accepted, accepted}
+use Rattle.auction.specs.Told.{returned}
+
+pub accepts : (c : Call) → judgement c ≡ Accepted → accepted c ≡ true
+unfolding is-accepted
+accepts c e = rw e
+
+module _ (J : Judgement) (e : J ≡ Accepted) where
+  pub kept-new : {A : Type 0} (new old : A) → kept J new old ≡ new
+  unfolding kept
+  kept-new new old = rw e
+
+  pub returned-next : (q r : Party) → returned q (next-or J r) ≡ r
+  unfolding next-or returned
+  returned-next q r = rw e
+
+pub is-party : (n own : ℕ) → 3 ≤ n → n ≤ 9 → 1 ≤ own → own ≤ n → party n own ≡ true
+is-party n own h3 h9 h1 hn = ranges.is-party n own (record { parties-least = h3; parties-most = h9; own-least = h1; own-most = hn })

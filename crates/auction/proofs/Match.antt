@@ -1,0 +1,209 @@
+-- The matching coins match: with them the second auction is the same as the first for t pooled parties and in every word that is said,
+-- and no other coins do this. Assumes nothing.
+use mathlib.Core.Path.{_≡_, refl, sym, ap, subst, _∙_}
+use mathlib.Core.Bool.{cond, true}
+use mathlib.Core.List.{List, [], _∷_, map, zip, flatten, List·Memᴰ, List·Memᴰ·not-nil, List·Memᴰ·cases-cons}
+use mathlib.Core.Logic.{_⊎_, inl, inr}
+use Prim.Native.Nat.{ℕ, _+_, _-_, _*_, _≤_, _<_}
+use native.Mathlib.Omega.{arith}
+use lib.Dec.{leb}
+use lib.ListN.{length, drop, getD, length-map}
+use Rattle.fields.specs.Amount.{p, amounts}
+use Rattle.sharing.specs.Polynomial.{shares}
+use Rattle.sharing.specs.Scheme.{threshold}
+use Rattle.sharing.proofs.Points.{Different, with-zero}
+use Rattle.verdict.specs.Verdict.{verdict}
+use Rattle.search.specs.Bracket.{start, middle}
+use Rattle.search.specs.Search.{promise, trail}
+use Rattle.search.proofs.Narrowing.{encloses-start}
+use Rattle.search.proofs.Clearing.{verdict-by-clearing}
+use Rattle.comparison.specs.Probe as probe
+use Rattle.comparison.specs.Probe.{Each}
+use Rattle.comparison.proofs.Agreement.{In}
+use Rattle.auction.specs.Auction.{Auction, IsAuction, demand, supply}
+use Rattle.auction.specs.Coins.{Coins, InRange, flat}
+use Rattle.auction.specs.Demands.{Alike, Pool, probed, stays, Stay}
+use Rattle.auction.specs.Matching.{matched-bids, matched-sheets, match-coins}
+use Rattle.auction.proofs.Closed.{totals-after, no-totals, at-party, polynomials, probe-at, decision, made, spoken, sheets-at, probes}
+use Rattle.auction.proofs.Totals.{all-good, no-totals-held, totals-monotone, polynomial-shared, demand-small, supply-small, demand-secret, supply-secret}
+use Rattle.auction.proofs.SameBids.{bid-words, bids-many, bids-ranged, bids-words, bids-only, totals-same, shares-same}
+use Rattle.auction.proofs.SameSheets.{spoken-same}
+use Rattle.auction.proofs.SameProbes.{auction, Compared, Setting, Course, course, sheets-ranged, sheets-many, words-same, made-same, unused-same, sheets-only}
+
+-- what the second auction, with these coins, has in common with the first
+pub record Match (a b : Auction) (xs : List ℕ) (c : Coins) : Type 0 where
+  pub ranged : InRange b (match-coins a b xs c)
+  -- a pooled party's shares of every bid and of every total, and its sheets
+  pub same-bids : (j : ℕ) → List·Memᴰ j xs → bid-words j (b .bids) (match-coins a b xs c .bids) ≡ bid-words j (a .bids) (c .bids)
+  pub same-totals : (j : ℕ) → List·Memᴰ j xs → at-party j (polynomials b (match-coins a b xs c)) ≡ at-party j (polynomials a c)
+  pub same-shares : (e : ℕ) → shares amounts (getD (polynomials b (match-coins a b xs c)) e []) xs ≡ shares amounts (getD (polynomials a c) e []) xs
+  pub same-sheets : (j : ℕ) → List·Memᴰ j xs → sheets-at b (match-coins a b xs c) j ≡ sheets-at a c j
+  -- the probes: where the search stands at each, the words that are said, the verdicts, and how many there are
+  pub same-brackets : map (λ d. d .bracket) (probes b (match-coins a b xs c)) ≡ map (λ d. d .bracket) (probes a c)
+  pub same-messages : (j : ℕ) → map (λ d. probe.messages (d .probe) j) (probes b (match-coins a b xs c)) ≡ map (λ d. probe.messages (d .probe) j) (probes a c)
+  pub same-spoken : map (λ d. spoken (b .n) (d .probe)) (probes b (match-coins a b xs c)) ≡ map (λ d. spoken (a .n) (d .probe)) (probes a c)
+  pub same-decisions : map decision (probes b (match-coins a b xs c)) ≡ map decision (probes a c)
+  pub same-many : length (probes b (match-coins a b xs c)) ≡ length (probes a c)
+  -- any party's unused sheets
+  pub same-unused : (j : ℕ) → drop (127 * length (probes a c)) (sheets-at b (match-coins a b xs c) j) ≡ drop (127 * length (probes a c)) (sheets-at a c j)
+  -- and no other coins
+  pub only : (o : Coins) → InRange b o
+      → ((j : ℕ) → List·Memᴰ j xs → bid-words j (b .bids) (o .bids) ≡ bid-words j (a .bids) (c .bids))
+      → ((j : ℕ) → List·Memᴰ j xs → sheets-at b o j ≡ sheets-at a c j)
+      → ((j : ℕ) → 1 ≤ j → j ≤ a .n → drop (127 * length (probes a c)) (sheets-at b o j) ≡ drop (127 * length (probes a c)) (sheets-at a c j))
+      → flatten (map (λ d. spoken (b .n) (d .probe)) (probes b o)) ≡ flatten (map (λ d. spoken (a .n) (d .probe)) (probes a c))
+      → o ≡ match-coins a b xs c
+
+-- every probe at a listed index compares the totals there
+pub compared : (a : Auction) (c : Coins) → IsAuction a → InRange a c → Compared a (polynomials a c)
+unfolding probe-at
+compared a c A C i lo hi s h =
+    record {
+      demand-shared = polynomial-shared A C (i - 1) (omega arith);
+      supply-shared = polynomial-shared A C (a .k + i - 1) (omega arith);
+      demand-is = demand-secret A C i lo hi;
+      supply-is = supply-secret A C i lo hi;
+      demand-lt = demand-small A i;
+      supply-lt = supply-small A i;
+      ranged = h;
+      sheet-is = refl;
+    }
+
+-- a party's number is one of the field
+in-field : (xs : List ℕ) → Different xs → (j : ℕ) → In j xs → j < p
+in-field [] D j i = absurd (List·Memᴰ·not-nil i)
+in-field (x ∷ xs) D j i = go (in-field xs (D .2) j) (List·Memᴰ·cases-cons i)
+  where
+    go : (In j xs → j < p) → (j ≡ x) ⊎ In j xs → j < p
+    go h (inl e) = omega (arith, D .0)
+    go h (inr m) = h m
+
+-- two auctions of n parties and k prices
+module _ (n k : ℕ) (bids bids′ : List (List ℕ)) (A : IsAuction (auction n k bids)) (B : IsAuction (auction n k bids′))
+    (alike : Alike (auction n k bids) (auction n k bids′)) (xs : List ℕ) (pool : Pool n xs)
+    (c : Coins) (C : InRange (auction n k bids) c) (stay : Stay (auction n k bids) (auction n k bids′) c) where
+  abbrev a : Auction
+  a = auction n k bids
+
+  abbrev b : Auction
+  b = auction n k bids′
+
+  abbrev t : ℕ
+  t = threshold n
+
+  abbrev c′ : Coins
+  c′ = match-coins a b xs c
+
+  D : Different (0 ∷ xs)
+  D = with-zero n xs (A .n-most) (pool .parties)
+
+  -- ---- bids and totals
+
+  -- the second's bids, with sheets of which only the range counts
+  abbrev c₀ : Coins
+  c₀ = record { bids = matched-bids xs bids bids′ (c .bids); sheets = c .sheets }
+
+  first-ranged : InRange b c₀
+  first-ranged =
+      record {
+        bids-many = bids-many t xs D (pool .many) k bids bids′ (c .bids) (alike .bids) (C .bids-many) ∙ sym (alike .bids);
+        bids = bids-ranged t xs D (pool .many) k bids bids′ (c .bids) (A .tables) (B .tables) (C .bids);
+        sheets-many = C .sheets-many;
+        sheets = C .sheets;
+      }
+
+  same-bids : (j : ℕ) → In j xs → bid-words j bids′ (c₀ .bids) ≡ bid-words j bids (c .bids)
+  same-bids j i = bids-words t xs D (pool .many) k j i bids bids′ (c .bids) (A .tables) (B .tables) (C .bids) (alike .bids) (C .bids-many)
+
+  same-totals : (j : ℕ) → In j xs → at-party j (polynomials b c₀) ≡ at-party j (polynomials a c)
+  unfolding polynomials
+  same-totals j i =
+      totals-same k t j (in-field xs (D .2) j i) (zip bids (c .bids)) (zip bids′ (c₀ .bids)) (no-totals a) (no-totals b)
+      (all-good A C) (all-good B first-ranged) (no-totals-held k t) (no-totals-held k t) (same-bids j i) refl
+
+  -- ---- probes
+
+  agree : (i : ℕ) → 1 ≤ i → i ≤ k → verdict (demand a i) (supply a i) ≡ verdict (demand b i) (supply b i)
+  agree i lo hi =
+      verdict-by-clearing (totals-monotone A) i lo hi ∙ ap (λ (z : ℕ). cond (leb i z) 1 0) (sym (alike .answer))
+      ∙ sym (verdict-by-clearing (totals-monotone B) i lo hi)
+
+  setting : Setting n k bids bids′ xs (polynomials a c) (polynomials b c₀)
+  setting =
+      record {
+        at-most = A .n-most;
+        more = omega (arith, A .n-least);
+        pool = pool .parties;
+        pooled = pool .many;
+        first = compared a c A C;
+        second = compared b c₀ B first-ranged;
+        seen = shares-same xs (polynomials a c) (polynomials b c₀) same-totals;
+        agree = agree;
+      }
+
+  on-course : Course n k bids bids′ xs (polynomials a c) (polynomials b c₀) (start k) (c .sheets) (matched-sheets a b xs (probed a) (c .sheets))
+  on-course =
+      subst
+      (λ (z : ℕ). Each (λ s. stays a b (s .0) (s .1 .mask) ≡ true) (zip (map (λ d. d .0) (trail (promise (demand a) (supply a)) z (start k))) (c .sheets))
+      → Course n k bids bids′ xs (polynomials a c) (polynomials b c₀) (start k) (c .sheets)
+      (matched-sheets a b xs (map (λ d. d .0) (trail (promise (demand a) (supply a)) z (start k))) (c .sheets)))
+      (C .sheets-many) (course setting (c .sheets) (start k) (encloses-start _ k) (C .sheets)) stay
+
+  -- ---- other coins
+
+  module _ (o : Coins) (O : InRange b o)
+      (ws : (j : ℕ) → In j xs → bid-words j bids′ (o .bids) ≡ bid-words j bids (c .bids))
+      (vs : (j : ℕ) → In j xs → sheets-at b o j ≡ sheets-at a c j)
+      (us : (j : ℕ) → 1 ≤ j → j ≤ n → drop (127 * length (probes a c)) (sheets-at b o j) ≡ drop (127 * length (probes a c)) (sheets-at a c j))
+      (said : flatten (map (λ d. spoken n (d .probe)) (probes b o)) ≡ flatten (map (λ d. spoken n (d .probe)) (probes a c))) where
+    other-bids : o .bids ≡ matched-bids xs bids bids′ (c .bids)
+    other-bids =
+        bids-only t xs D (pool .many) k bids bids′ (c .bids) (o .bids) (A .tables) (B .tables) (C .bids) (O .bids) (alike .bids) (C .bids-many)
+        (O .bids-many ∙ alike .bids) ws
+
+    other-polynomials : polynomials b o ≡ polynomials b c₀
+    unfolding polynomials
+    other-polynomials = ap (λ (z : List (List (List ℕ))). totals-after (zip bids′ z) (no-totals b)) other-bids
+
+    other-sheets : o .sheets ≡ matched-sheets a b xs (probed a) (c .sheets)
+    unfolding sheets-at
+    other-sheets =
+        sheets-only setting on-course (o .sheets) (O .sheets-many ∙ sym (C .sheets-many)) (O .sheets) vs us
+        (ap (λ (z : List (List ℕ)). flatten (map (λ d. spoken n (d .probe)) (made b z (start k) (o .sheets)))) (sym other-polynomials) ∙ said)
+
+    coins-only : o ≡ c′
+    unfolding match-coins
+    coins-only = λ i. record { bids = other-bids i; sheets = other-sheets i }
+
+  match : Match a b xs c
+  unfolding match-coins polynomials sheets-at
+  match =
+      record {
+        ranged =
+            record {
+              bids-many = first-ranged .bids-many;
+              bids = first-ranged .bids;
+              sheets-many = sheets-many on-course ∙ C .sheets-many;
+              sheets = sheets-ranged on-course;
+            };
+        same-bids = same-bids;
+        same-totals = same-totals;
+        same-shares = shares-same xs (polynomials a c) (polynomials b c₀) same-totals;
+        same-sheets = λ j i. ap flat (words-same j i on-course);
+        same-brackets = made-same (λ d. d .bracket) (λ br s s′ P. refl) on-course;
+        same-messages = λ j. made-same (λ d. probe.messages (d .probe) j) (λ br s s′ P. P .said j) on-course;
+        same-spoken = made-same (λ d. spoken n (d .probe)) (λ br s s′ P. spoken-same n _ _ (P .said)) on-course;
+        same-decisions = made-same decision (λ br s s′ P. ap (λ (z : ℕ). (middle br, z)) (P .same)) on-course;
+        same-many =
+            sym (length-map (made b (polynomials b c₀) (start k) (matched-sheets a b xs (probed a) (c .sheets))) (λ d. d .bracket))
+            ∙ ap length (made-same (λ d. d .bracket) (λ br s s′ P. refl) on-course) ∙ length-map (probes a c) (λ d. d .bracket);
+        same-unused = λ j. unused-same j on-course;
+        only = coins-only;
+      }
+
+pub matching : (a b : Auction) → IsAuction a → IsAuction b → Alike a b → (xs : List ℕ) → Pool (a .n) xs
+    → (c : Coins) → InRange a c → Stay a b c → Match a b xs c
+matching a b A B alike xs pool c C stay =
+    let e : b ≡ auction (a .n) (a .k) (b .bids) = λ i. record { n = alike .parties i; k = alike .prices i; bids = b .bids } in
+    subst (λ (z : Auction). IsAuction z → Alike a z → Stay a z c → Match a z xs c) (sym e)
+    (λ B alike stay. match (a .n) (a .k) (a .bids) (b .bids) A B alike xs pool c C stay) B alike stay

@@ -1,0 +1,54 @@
+-- A whole probe: 33 rounds, in the last of which its verdict is heard. Assumes nothing.
+use mathlib.Core.Path.{_≡_, refl, ap, subst}
+use mathlib.Core.List.{List, [], _∷_, _++_, map}
+use Prim.Native.Nat.{ℕ, zero, suc, _+_, _<_}
+use native.Mathlib.Omega.{arith}
+use Rattle.sharing.specs.Lists.{from}
+use Rattle.sharing.specs.Scheme.{points}
+use Rattle.search.specs.declared.Bracket.{Bracket}
+use Rattle.search.specs.Bracket.{middle, step}
+use Rattle.comparison.specs.Probe as probe
+use Rattle.comparison.specs.Probe.{Probe, secret, last-polynomial}
+use Rattle.auction.specs.Auction.{Auction, IsAuction}
+use Rattle.auction.specs.Coins.{Coins, InRange}
+use Rattle.auction.specs.Told.{from-rounds}
+use Rattle.auction.specs.Received.{verdict-in}
+use Rattle.auction.proofs.Closed.{polynomials, probe-at, fresh-stage, seat}
+use Rattle.auction.proofs.Round.{stage-of, words-at, Ready, first-step, first-opens, product-step, product-opens, last-step, last-opens}
+use Rattle.auction.proofs.Chain.{Turn, Chain, done, quiet, decides, calls, chain-rounds}
+
+-- round i + 1
+abbrev pub turn-of : Bracket → ℕ → Probe → ℕ → Turn
+turn-of b m q i = record { stage = stage-of b m q i; words = words-at q i }
+
+module _ (a : Auction) (c : Coins) (A : IsAuction a) (C : InRange a c) (b : Bracket) (m : ℕ) (s : probe.Coins)
+    (ss : List probe.Coins) (R : Ready a c b m s ss) where
+  abbrev q : Probe
+  q = probe-at a (polynomials a c) (middle b) s
+
+  abbrev v : ℕ
+  v = secret (last-polynomial q)
+
+  -- the rounds from i + 1 on
+  chain-from : (i k : ℕ) → i + k ≡ 32
+      → Chain a c (stage-of b m q i) (map (turn-of b m q) (from i (suc k))) ((middle b, v) ∷ []) (fresh-stage (step b v) (suc m))
+  unfolding from verdict-in
+  chain-from i zero e =
+      let at : 32 ≡ i = omega arith in
+      subst (λ (x : ℕ). Chain a c (stage-of b m q x) (turn-of b m q x ∷ []) ((middle b, v) ∷ []) (fresh-stage (step b v) (suc m))) at
+      (decides {σ = stage-of b m q 32} (last-step a c A C b m s ss R) (ap verdict-in (last-opens a c A C b m s ss R)) done)
+  chain-from zero (suc k) e =
+      quiet (first-step a c A C b m s ss R) (ap verdict-in (first-opens a c A C b m s ss R)) (chain-from 1 k (omega arith))
+  chain-from (suc i) (suc k) e =
+      let l : i < 31 = omega arith in
+      quiet (product-step a c A C b m s ss R i l) (ap verdict-in (product-opens a c A C b m s ss R i l)) (chain-from (suc (suc i)) k (omega arith))
+
+  pub probe-chain : Chain a c (fresh-stage b m) (map (turn-of b m q) (from 0 33)) ((middle b, v) ∷ []) (fresh-stage (step b v) (suc m))
+  probe-chain = chain-from 0 32 refl
+
+  -- the calls of a probe, and those after it
+  pub probe-rounds : (fuel : ℕ)
+      → from-rounds a c (33 + fuel) (map (seat a c (fresh-stage b m)) (points (a .n)))
+      ≡ calls a c (map (turn-of b m q) (from 0 33)) ++ from-rounds a c fuel (map (seat a c (fresh-stage (step b v) (suc m))) (points (a .n)))
+  unfolding from
+  probe-rounds fuel = chain-rounds a c (omega (arith, A .n-least)) probe-chain fuel

@@ -1,0 +1,175 @@
+-- DEMANDS 2 AND 3, of every run of every auction. Assumes nothing.
+use mathlib.Core.Path.{_≡_, refl, sym, ap, ap₂, subst, _∙_}
+use mathlib.Core.List.{List, [], _∷_, map, flatten, List·Memᴰ, List·Memᴰ·cases-cons, List·Memᴰ·not-nil}
+use mathlib.Core.Logic.{⊎-elim}
+use Prim.Native.Nat.{ℕ, zero, suc, _*_, _≤_, _<_}
+use native.Mathlib.Omega.{arith}
+use lib.ListN.{length, drop, getD, replicate, getD-replicate, length-map}
+use Rattle.verdict.specs.Verdict.{verdict}
+use Rattle.sharing.proofs.Points.{Parties}
+use Rattle.search.specs.Bracket.{start}
+use Rattle.search.specs.Limit.{limit}
+use Rattle.search.specs.Search.{promise, trail}
+use Rattle.search.proofs.Trails.{trail-given}
+use Rattle.party.specs.declared.record.Answer.the-variants.{Cleared}
+use Rattle.auction.specs.Auction.{Auction, IsAuction, demand, supply, clearing-answer}
+use Rattle.auction.specs.Coins.{Coins, InRange}
+use Rattle.auction.specs.Call.{Call}
+use Rattle.auction.specs.Told.{told}
+use Rattle.auction.specs.Run.{Run}
+use Rattle.auction.specs.Received.{bid-shares, sheets, messages, decisions, verdicts, indices, answers, unused}
+use Rattle.auction.specs.Demands.{Outcome, Demand2, Alike, Pool, Stay, Same, Matched, Demand3}
+use Rattle.auction.specs.Matching.{match-coins}
+use Rattle.auction.proofs.Closed.{decision, all-spoken, sheets-at, probes}
+use Rattle.auction.proofs.Orders.{told-run, run-bid-shares, run-messages, run-sheets, run-decisions, run-verdicts, run-unused, run-answers}
+use Rattle.auction.proofs.Told.{told-accepted, told-bid-shares, told-messages, told-sheets, told-decisions, told-many, told-answers}
+use Rattle.auction.proofs.Search.{probes-trail, probes-few, probes-some}
+use Rattle.auction.proofs.SameBids.{bid-words}
+use Rattle.auction.proofs.Falling.{few-fall}
+use Rattle.auction.proofs.Match.{Match, matching}
+
+-- ---- lists
+
+map-replicate : {A B : Type 0} (f : A → B) (m : ℕ) (x : A) → map f (replicate m x) ≡ replicate m (f x)
+map-replicate f zero x = refl
+map-replicate {B} f (suc m) x = ap (λ (l : List B). f x ∷ l) (map-replicate f m x)
+
+-- what is repeated at least once is known
+once : {A : Type 0} (m m′ : ℕ) (x y : A) → 0 < m → 0 < m′ → replicate m x ≡ replicate m′ y → x ≡ y
+once {A} m m′ x y h h′ e = sym (getD-replicate m 0 x x h) ∙ ap (λ (l : List A). getD l 0 x) e ∙ getD-replicate m′ 0 y x h′
+
+-- a pooled party is one of the n
+pooled : (n j : ℕ) (xs : List ℕ) → Parties n xs → List·Memᴰ j xs → (1 ≤ j) × (j ≤ n)
+pooled n j [] P m = absurd (List·Memᴰ·not-nil m)
+pooled n j (x ∷ xs) P m =
+    ⊎-elim (λ e. (subst (λ (z : ℕ). 1 ≤ z) (sym e) (P .0), subst (λ (z : ℕ). z ≤ n) (sym e) (P .1))) (λ m′. pooled n j xs (P .3) m′) (List·Memᴰ·cases-cons m)
+
+-- ---- what every run has, in closed form
+
+module _ (a : Auction) (c : Coins) (A : IsAuction a) (C : InRange a c) (l : List Call) (run : Run a c l) (j : ℕ) (j1 : 1 ≤ j) (jn : j ≤ a .n) where
+  bid-shares-are : bid-shares j l ≡ bid-words j (a .bids) (c .bids)
+  bid-shares-are = run-bid-shares a c l run j ∙ told-bid-shares a c A C j j1 jn
+
+  messages-are : messages j l ≡ all-spoken (a .n) (probes a c)
+  messages-are = run-messages a c l run j ∙ told-messages a c A C j j1 jn
+
+  sheets-are : sheets j l ≡ replicate (33 * length (probes a c)) (sheets-at a c j)
+  sheets-are = run-sheets a c l run j ∙ told-sheets a c A C j j1 jn
+
+  decisions-are : decisions j l ≡ map decision (probes a c)
+  decisions-are = run-decisions a c l run j ∙ told-decisions a c A C j j1 jn
+
+  verdicts-are : verdicts j l ≡ map (λ d. d .1) (map decision (probes a c))
+  verdicts-are = ap (map (λ d. d .1)) decisions-are
+
+  many : length (verdicts j l) ≡ length (probes a c)
+  many = ap length (run-verdicts a c l run j) ∙ told-many a c A C j j1 jn
+
+  unused-are : unused j l ≡ replicate (33 * length (probes a c)) (drop (127 * length (probes a c)) (sheets-at a c j))
+  unused-are =
+      ap₂ (λ (m : ℕ) (xs : List (List ℕ)). map (drop (127 * m)) xs) many sheets-are
+      ∙ map-replicate (drop (127 * length (probes a c))) (33 * length (probes a c)) (sheets-at a c j)
+
+  -- ---- demand 2
+
+  outcome : Outcome a l j
+  outcome =
+      let given : ℕ → ℕ = promise (demand a) (supply a) in
+      let e : decisions j l ≡ trail given (limit (a .k)) (start (a .k)) = decisions-are ∙ probes-trail a c A C in
+      let r = run-answers a c l run j (Cleared (clearing-answer a) (length (probes a c))) (told-answers a c A C j j1 jn) in
+      record {
+        promised = ap (map (λ d. d .1)) e ∙ trail-given given (limit (a .k)) (start (a .k)) ∙ ap (λ ds. map given (map (λ d. d .0) ds)) (sym e);
+        asked = r .0;
+        cleared = r .1 ∙ ap (λ (m : ℕ). replicate (suc (r .0)) (Cleared (clearing-answer a) m)) (sym many);
+        few = subst (λ (m : ℕ). m ≤ limit (a .k)) (sym many) (probes-few a c A C);
+      }
+
+-- DEMAND 2: no call of a run is refused but those that stand between; each verdict is the promise at the true totals; each answer is
+-- the clearing answer, with as many probes as verdicts, at most P.
+pub demand-2 : (a : Auction) → IsAuction a → (c : Coins) → InRange a c → Demand2 a c
+demand-2 a A c C = record { none-refused = told-accepted a c A C; outcome = λ l run j j1 jn. outcome a c A C l run j j1 jn }
+
+-- ---- demand 3
+
+module _ (a b : Auction) (A : IsAuction a) (B : IsAuction b) (alike : Alike a b) (pool : List ℕ) (P : Pool (a .n) pool)
+    (c : Coins) (C : InRange a c) (M : Match a b pool c) where
+  -- a party of the first is one of the second
+  jb : (j : ℕ) → j ≤ a .n → j ≤ b .n
+  jb j h = subst (λ (n : ℕ). j ≤ n) (sym (alike .parties)) h
+
+  -- every pair of runs, with any coins of the second
+  module _ (o : Coins) (R : InRange b o) (l m : List Call) (runL : Run a c l) (runM : Run b o m) where
+    abbrev L : ℕ
+    L = length (probes a c)
+
+    same-from : ((j : ℕ) → List·Memᴰ j pool → bid-words j (b .bids) (o .bids) ≡ bid-words j (a .bids) (c .bids))
+        → ((j : ℕ) → List·Memᴰ j pool → sheets-at b o j ≡ sheets-at a c j)
+        → ((j : ℕ) → drop (127 * L) (sheets-at b o j) ≡ drop (127 * L) (sheets-at a c j))
+        → all-spoken (b .n) (probes b o) ≡ all-spoken (a .n) (probes a c)
+        → map decision (probes b o) ≡ map decision (probes a c) → length (probes b o) ≡ L → Same (a .n) pool l m
+    same-from bids sheets-same left spoken decided count =
+        record {
+          pool-bids = λ j h.
+              let (j1, jn) = pooled (a .n) j pool (P .parties) h in
+              bid-shares-are b o B R m runM j j1 (jb j jn) ∙ bids j h ∙ sym (bid-shares-are a c A C l runL j j1 jn);
+          pool-sheets = λ j h.
+              let (j1, jn) = pooled (a .n) j pool (P .parties) h in
+              sheets-are b o B R m runM j j1 (jb j jn) ∙ ap₂ (λ (k : ℕ) (x : List ℕ). replicate (33 * k) x) count (sheets-same j h)
+              ∙ sym (sheets-are a c A C l runL j j1 jn);
+          left = λ j j1 jn.
+              unused-are b o B R m runM j j1 (jb j jn) ∙ ap (λ (k : ℕ). replicate (33 * k) (drop (127 * k) (sheets-at b o j))) count
+              ∙ ap (replicate (33 * L)) (left j) ∙ sym (unused-are a c A C l runL j j1 jn);
+          words = λ j j1 jn. messages-are b o B R m runM j j1 (jb j jn) ∙ spoken ∙ sym (messages-are a c A C l runL j j1 jn);
+          marks = λ j j1 jn. verdicts-are b o B R m runM j j1 (jb j jn) ∙ ap (map (λ d. d .1)) decided ∙ sym (verdicts-are a c A C l runL j j1 jn);
+          probes = λ j j1 jn. many b o B R m runM j j1 (jb j jn) ∙ count ∙ sym (many a c A C l runL j j1 jn);
+        }
+
+    -- and what two runs that are the same say of the coins
+    module _ (S : Same (a .n) pool l m) where
+      one-n : 1 ≤ a .n
+      one-n = omega (arith, A .n-least)
+
+      count-is : length (probes b o) ≡ L
+      count-is = sym (many b o B R m runM 1 (omega arith) (jb 1 one-n)) ∙ S .probes 1 (omega arith) one-n ∙ many a c A C l runL 1 (omega arith) one-n
+
+      some : 0 < 33 * L
+      some = omega (arith, probes-some a c A C)
+
+      some-b : 0 < 33 * length (probes b o)
+      some-b = omega (arith, probes-some b o B R)
+
+      same-coins : o ≡ match-coins a b pool c
+      same-coins =
+          M .only o R
+          (λ j h.
+          let (j1, jn) = pooled (a .n) j pool (P .parties) h in
+          sym (bid-shares-are b o B R m runM j j1 (jb j jn)) ∙ S .pool-bids j h ∙ bid-shares-are a c A C l runL j j1 jn)
+          (λ j h.
+          let (j1, jn) = pooled (a .n) j pool (P .parties) h in
+          once (33 * length (probes b o)) (33 * L) (sheets-at b o j) (sheets-at a c j) some-b some
+          (sym (sheets-are b o B R m runM j j1 (jb j jn)) ∙ S .pool-sheets j h ∙ sheets-are a c A C l runL j j1 jn))
+          (λ j j1 jn.
+          ap (λ (k : ℕ). drop (127 * k) (sheets-at b o j)) (sym count-is)
+          ∙ once (33 * length (probes b o)) (33 * L) (drop (127 * length (probes b o)) (sheets-at b o j)) (drop (127 * L) (sheets-at a c j)) some-b some
+          (sym (unused-are b o B R m runM j j1 (jb j jn)) ∙ S .left j j1 jn ∙ unused-are a c A C l runL j j1 jn))
+          (sym (messages-are b o B R m runM 1 (omega arith) (jb 1 one-n)) ∙ S .words 1 (omega arith) one-n ∙ messages-are a c A C l runL 1 (omega arith) one-n)
+
+  matched : Matched a b pool c
+  matched =
+      record {
+        coins = match-coins a b pool c;
+        ranged = M .ranged;
+        same = λ l m runL runM.
+            same-from (match-coins a b pool c) (M .ranged) l m runL runM (M .same-bids) (M .same-sheets) (M .same-unused)
+            (ap flatten (M .same-spoken)) (M .same-decisions) (M .same-many);
+        only = λ o R l m runL runM S. same-coins o R l m runL runM S;
+      }
+
+-- DEMAND 3: any t parties together learn nothing but the clearing answer.
+pub demand-3 : Demand3
+demand-3 =
+    record {
+      matched = λ a b A B alike pool P c C stay. matched a b A B alike pool P c C (matching a b A B alike pool P c C stay);
+      few-fall = λ a b A B alike i. few-fall a b A B i;
+      runs = λ a A c C. told-run a c;
+    }

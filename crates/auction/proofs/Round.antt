@@ -1,0 +1,332 @@
+-- The rounds of a probe: round 1, rounds 2 to 32 and round 33, each for all parties at once. Assumes nothing.
+use mathlib.Core.Path.{_≡_, refl, sym, ap, ap₂, _∙_}
+use mathlib.Core.Bool.{Bool, true, false, cond}
+use mathlib.Core.List.{List, [], _∷_, map, map-map}
+use Prim.Native.Nat.{ℕ, zero, suc, _+_, _-_, _*_, _/_, _%_, _^_, _≤_, _<_}
+use native.Mathlib.Numerals.{add-one}
+use native.Mathlib.Omega.{arith}
+use lib.Dec.{leb}
+use lib.ListN.{drop, getD}
+use borrow.Author.Tests.{le-leb, le-ltb}
+use Rattle.fields.specs.Amount.{p, amounts}
+use Rattle.fields.specs.Byte.{bytes}
+use Rattle.sharing.specs.Polynomial.{value}
+use Rattle.sharing.specs.Scheme.{threshold, points, amount-scheme, byte-scheme}
+use Rattle.sharing.specs.Opening.{opened}
+use Rattle.sharing.specs.declared.opening.Opening.the-variants.{Secret}
+use Rattle.sharing.proofs.Laws.{opens, amount-fits, byte-fits}
+use Rattle.verdict.specs.Verdict.{verdict}
+use Rattle.search.specs.declared.Bracket.{Bracket}
+use Rattle.search.specs.Bracket.{middle, over, step}
+use Rattle.search.specs.Limit.{limit}
+use Rattle.comparison.specs.Local.{on-shares, on-polynomials}
+use Rattle.comparison.specs.Rounds.{both, masked, first-carry, left, right, next-carry, last}
+use Rattle.comparison.specs.Probe as probe
+use Rattle.comparison.specs.Probe.{Probe, Round, secret, round, carry-after, sum-polynomial, opened-sum, carry-one, last-polynomial, messages}
+use Rattle.comparison.proofs.Values.{Shared, secret-value, masked-value, first-carry-value, left-value, right-value, next-carry-value, last-value}
+use Rattle.comparison.proofs.Dealt.{ProbeShared, SheetShared, bit-at, sum-shared, last-polynomial-shared}
+use Rattle.comparison.proofs.Promise.{Compares, probe-shared, sum-least, sum-most, promised}
+use Rattle.party.specs.declared.record.Heard.the-variants.{Sum, Factors, Verdict}
+use Rattle.party.specs.Say.{message}
+use Rattle.party.specs.Hear as hear
+use Rattle.party.specs.Hear.{sum-of, factors-of, verdict-of, crooked, wild-sum, split-verdict, after}
+use Rattle.party.proofs.Messages.{first-message, product-message, last-message}
+use Rattle.party.proofs.Heard.{heard-sum, heard-factors, heard-verdict}
+use Rattle.auction.specs.Auction.{Auction, IsAuction, demand, supply}
+use Rattle.auction.specs.Coins.{Coins, InRange}
+use Rattle.auction.proofs.Closed.{at-party, polynomials, probe-at, carry-at, Stage, fresh-stage, inner-stage, record-at}
+use Rattle.auction.proofs.Calls.{map-points}
+use Rattle.auction.proofs.Sheets.{no-triple, mask-word, bit-word, alpha-word, beta-word, gamma-word, byte-below}
+use Rattle.auction.proofs.Carry.{round-at, carry-next, carry-first, last-carry, triple-at, carry-shared, round-at-shared, product-said, last-said}
+use Rattle.auction.proofs.Comparing.{compares, demand-shared, supply-shared, index-least, index-most}
+use Rattle.auction.proofs.Step.{Step, Placed, fresh-sane, sheet-left, coins-ranged, demand-word, supply-word, step-of}
+
+-- ---- what is shared opens
+
+pub amount-opens : (n : ℕ) (cs : List ℕ) → 3 ≤ n → n ≤ 9 → Shared p (threshold n) cs
+    → opened amount-scheme n (map (value amounts cs) (points n)) ≡ Secret (secret cs)
+amount-opens n [] h3 h9 h = absurd (omega arith)
+amount-opens n (s ∷ cs) h3 h9 h = opens amount-fits n s cs h3 h9 (h .1 .0) (h .1 .1) (omega arith)
+
+pub byte-opens : (n : ℕ) (cs : List ℕ) → 3 ≤ n → n ≤ 9 → Shared 256 (threshold n) cs
+    → opened byte-scheme n (map (value bytes cs) (points n)) ≡ Secret (secret cs)
+byte-opens n [] h3 h9 h = absurd (omega arith)
+byte-opens n (s ∷ cs) h3 h9 h = opens byte-fits n s cs h3 h9 (h .1 .0) (h .1 .1) (omega arith)
+
+-- ---- the same words, the same message
+
+masked-same : {m m′ d d′ s s′ : ℕ} → m ≡ m′ → d ≡ d′ → s ≡ s′ → masked (on-shares amounts) m d s ≡ masked (on-shares amounts) m′ d′ s′
+masked-same e f g = cc
+
+next-same : (T i D E : ℕ) {a a′ b b′ g g′ : ℕ} → a ≡ a′ → b ≡ b′ → g ≡ g′
+    → next-carry (on-shares bytes) T i D E a b g ≡ next-carry (on-shares bytes) T i D E a′ b′ g′
+next-same T i D E e f h = cc
+
+low-part : (d e : ℕ) → d < 256 → both d e % 256 ≡ d
+low-part d e h = omega arith
+
+high-part : (d e : ℕ) → d < 256 → both d e / 256 ≡ e
+high-part d e h = omega arith
+
+verdict-most : (d s : ℕ) → verdict d s ≤ 1
+unfolding verdict
+verdict-most d s = split (leb s d)
+  where
+    split : (t : Bool) → cond t 1 0 ≤ 1
+    split true = omega arith
+    split false = omega arith
+
+-- ---- the stages of a probe
+
+-- before round i + 1
+abbrev pub stage-of : Bracket → ℕ → Probe → ℕ → Stage
+stage-of b m q zero = fresh-stage b m
+stage-of b m q (suc i) = inner-stage b m q i
+
+-- party j's word in round i + 1
+abbrev pub words-at : Probe → ℕ → ℕ → ℕ
+words-at q i j = getD (messages q j) i 0
+
+-- a probe is to be made with the sheet s
+pub record Ready (a : Auction) (c : Coins) (b : Bracket) (m : ℕ) (s : probe.Coins) (ss : List probe.Coins) : Type 0 where
+  pub apart : b .lo < b .hi
+  pub inside : b .hi ≤ a .k + 1
+  pub going : over b ≡ false
+  pub left : drop m (c .sheets) ≡ s ∷ ss
+
+module _ (a : Auction) (c : Coins) (A : IsAuction a) (C : InRange a c) (b : Bracket) (m : ℕ) (s : probe.Coins)
+    (ss : List probe.Coins) (R : Ready a c b m s ss) where
+  abbrev t : ℕ
+  t = threshold (a .n)
+
+  abbrev q : Probe
+  q = probe-at a (polynomials a c) (middle b) s
+
+  abbrev T : ℕ
+  T = opened-sum q
+
+  few : m < limit (a .k)
+  few = sheet-left a c A C m s ss (R .left)
+
+  fresh-placed : Placed a c (fresh-stage b m) s ss
+  fresh-placed =
+      record {
+        sane = fresh-sane a b m (R .apart) (R .inside) (omega (arith, few)) (λ e. absurd (omega (arith, few)));
+        going = R .going;
+        left = R .left;
+      }
+
+  ranged : probe.InRange t s
+  ranged = coins-ranged a c A C (fresh-stage b m) s ss fresh-placed
+
+  one : 1 ≤ middle b
+  one = index-least (a .k) b (R .apart) (R .inside) (R .going)
+
+  most : middle b ≤ a .k
+  most = index-most (a .k) b (R .apart) (R .inside) (R .going)
+
+  pub comparing : Compares t (demand a (middle b)) (supply a (middle b)) s q
+  comparing = compares a c A C (middle b) one most s ranged
+
+  shared : ProbeShared t q
+  shared = probe-shared t (demand a (middle b)) (supply a (middle b)) s q comparing
+
+  sheet-shared : SheetShared t (probe.dealt s)
+  unfolding probe-at
+  sheet-shared = shared .sheet
+
+  least-sum : 2 ^ 58 + 2 ≤ T
+  least-sum = sum-least t (demand a (middle b)) (supply a (middle b)) s q comparing
+
+  most-sum : T ≤ 2 ^ 59 + 2 ^ 33 - 1
+  most-sum = sum-most t (demand a (middle b)) (supply a (middle b)) s q comparing
+
+  inner-placed : (i : ℕ) → i ≤ 31 → Placed a c (inner-stage b m q i) s ss
+  inner-placed i l =
+      record {
+        sane =
+            record {
+              apart = R .apart;
+              inside = R .inside;
+              round-least = omega arith;
+              round-most = omega arith;
+              sum = omega (arith, most-sum);
+              carry = carry-shared t q shared i l .1;
+              probes = omega (arith, few);
+              ended = λ e. absurd (omega (arith, few));
+            };
+        going = R .going;
+        left = R .left;
+      }
+
+  -- ---- round 1
+
+  first-says : (j : ℕ) → 1 ≤ j → j ≤ a .n
+      → message (record-at a c (fresh-stage b m) j) (at-party j (polynomials a c)) (probe.sheet-words j (probe.dealt s)) ≡ words-at q 0 j
+  unfolding record-at probe-at sum-polynomial messages
+  first-says j j1 jn =
+      first-message (record-at a c (fresh-stage b m) j) (at-party j (polynomials a c)) (probe.sheet-words j (probe.dealt s)) refl
+      ∙ masked-same (mask-word t j (probe.dealt s) sheet-shared) (demand-word a c A C (fresh-stage b m) s ss fresh-placed j j1 jn)
+      (supply-word a c A C (fresh-stage b m) s ss fresh-placed j j1 jn)
+      ∙ sym
+      (masked-value t j (probe.dealt s .mask) (getD (polynomials a c) (middle b - 1) []) (getD (polynomials a c) (a .k + middle b - 1) [])
+      (sheet-shared .mask) (demand-shared a c A C (middle b) one most) (supply-shared a c A C (middle b) one most) (omega (arith, A .n-most)))
+
+  pub first-opens : hear.heard (a .n) 1 (map (words-at q 0) (points (a .n))) ≡ Sum T
+  unfolding messages
+  first-opens =
+      heard-sum (a .n) 1 (map (words-at q 0) (points (a .n))) refl
+      ∙ ap sum-of (amount-opens (a .n) (sum-polynomial q) (A .n-least) (A .n-most) (sum-shared t q shared))
+
+  first-carry-is : (j : ℕ) → 1 ≤ j → j ≤ a .n
+      → value bytes (carry-at q 0) j ≡ first-carry (on-shares bytes) T (getD (probe.sheet-words j (probe.dealt s)) 1 0)
+  unfolding carry-one probe-at
+  first-carry-is j j1 jn =
+      ap (λ (x : List ℕ). value bytes x j) (carry-first q)
+      ∙ first-carry-value T 1 t j (omega (arith, A .n-most)) (getD (probe.dealt s .bits) 0 []) (bit-at t q shared 0 (omega arith))
+      ∙ ap (first-carry (on-shares bytes) T) (sym (bit-word t j (probe.dealt s) sheet-shared 0 (omega arith)))
+
+  first-turns : (j : ℕ) → 1 ≤ j → j ≤ a .n
+      → after (record-at a c (fresh-stage b m) j) (probe.sheet-words j (probe.dealt s)) (Sum T) ≡ record-at a c (inner-stage b m q 0) j
+  unfolding record-at after
+  first-turns j j1 jn = rw (first-carry-is j j1 jn)
+
+  tame : wild-sum (Sum T) ≡ false
+  tame = rw (le-leb (2 ^ 58 + 2) T least-sum, le-leb T (2 ^ 59 + 2 ^ 33 - 1) most-sum)
+
+  pub first-step : Step a c (fresh-stage b m) (inner-stage b m q 0) (words-at q 0)
+  first-step =
+      step-of a c A C (fresh-stage b m) s ss fresh-placed (inner-stage b m q 0) (words-at q 0) (Sum T) first-says first-opens refl tame refl first-turns
+
+  -- ---- rounds 2 to 32
+
+  module _ (i : ℕ) (l : i < 31) where
+    abbrev r : Round
+    r = round-at q i
+
+    abbrev now : Stage
+    now = inner-stage b m q i
+
+    module _ (j : ℕ) (j1 : 1 ≤ j) (jn : j ≤ a .n) where
+      abbrev W : List ℕ
+      W = probe.sheet-words j (probe.dealt s)
+
+      bit-here : getD W (i + 2) 0 ≡ value bytes (getD (probe.dealt s .bits) (i + 1) []) j
+      bit-here =
+          let e : i + 2 ≡ suc (i + 1) = omega arith in
+          rw e (bit-word t j (probe.dealt s) sheet-shared (i + 1) (omega arith))
+
+      abbrev small : j < 10
+      small = omega (arith, A .n-most)
+
+      left-is : left (on-shares bytes) T (i + 2) (getD W (i + 2) 0) (getD W (34 + 3 * (i + 2 - 2) + 0) 0) ≡ value bytes (r .left) j
+      unfolding round probe-at
+      left-is =
+          ap₂ (left (on-shares bytes) T (i + 2)) bit-here (alpha-word t j (probe.dealt s) sheet-shared i l)
+          ∙ sym
+          (left-value T (i + 2) t j small (getD (probe.dealt s .bits) (i + 1) []) (getD (probe.dealt s .triples) i no-triple .alpha)
+          (bit-at t q shared (i + 1) (omega arith)) (triple-at t q shared i l .alpha))
+
+      right-is : right (on-shares bytes) T (i + 2) (value bytes (carry-at q i) j) (getD W (34 + 3 * (i + 2 - 2) + 1) 0) ≡ value bytes (r .right) j
+      unfolding round probe-at
+      right-is =
+          ap (right (on-shares bytes) T (i + 2) (value bytes (carry-at q i) j)) (beta-word t j (probe.dealt s) sheet-shared i l)
+          ∙ sym
+          (right-value T (i + 2) t j small (carry-at q i) (getD (probe.dealt s .triples) i no-triple .beta)
+          (carry-shared t q shared i (omega arith)) (triple-at t q shared i l .beta))
+
+      product-says : message (record-at a c now j) (at-party j (polynomials a c)) W ≡ words-at q (suc i) j
+      unfolding record-at
+      product-says =
+          product-message (record-at a c now j) (at-party j (polynomials a c)) W (omega arith) (omega arith)
+          ∙ ap₂ both left-is right-is
+          ∙ sym (product-said t q shared j i l)
+
+      product-carry-is : value bytes (carry-at q (suc i)) j
+          ≡ next-carry (on-shares bytes) T (i + 2) (secret (r .left)) (secret (r .right)) (getD W (34 + 3 * (i + 2 - 2) + 0) 0)
+          (getD W (34 + 3 * (i + 2 - 2) + 1) 0) (getD W (34 + 3 * (i + 2 - 2) + 2) 0)
+      unfolding carry-after probe-at
+      product-carry-is =
+          ap (λ (x : List ℕ). value bytes x j) (carry-next q i)
+          ∙ next-carry-value T (i + 2) t j small (secret (r .left)) (secret (r .right)) (getD (probe.dealt s .triples) i no-triple .alpha)
+          (getD (probe.dealt s .triples) i no-triple .beta) (getD (probe.dealt s .triples) i no-triple .gamma)
+          (secret-value 256 t (r .left) (round-at-shared t q shared i l .left)) (secret-value 256 t (r .right) (round-at-shared t q shared i l .right))
+          (triple-at t q shared i l .alpha) (triple-at t q shared i l .beta) (triple-at t q shared i l .gamma)
+          ∙ next-same T (i + 2) (secret (r .left)) (secret (r .right)) (sym (alpha-word t j (probe.dealt s) sheet-shared i l))
+          (sym (beta-word t j (probe.dealt s) sheet-shared i l)) (sym (gamma-word t j (probe.dealt s) sheet-shared i l))
+
+      product-turns : after (record-at a c now j) W (Factors (secret (r .left)) (secret (r .right))) ≡ record-at a c (inner-stage b m q (suc i)) j
+      unfolding record-at after
+      product-turns =
+          let e : suc i + 2 ≡ i + 2 + 1 = omega arith in
+          rw (product-carry-is, e)
+
+    low-is : (j : ℕ) → 1 ≤ j → j ≤ a .n → words-at q (suc i) j % 256 ≡ value bytes (r .left) j
+    low-is j j1 jn =
+        ap (λ (x : ℕ). x % 256) (product-said t q shared j i l)
+        ∙ low-part (value bytes (r .left) j) (value bytes (r .right) j)
+        (byte-below j (omega (arith, A .n-most)) (r .left) (round-at-shared t q shared i l .left .1))
+
+    high-is : (j : ℕ) → 1 ≤ j → j ≤ a .n → words-at q (suc i) j / 256 ≡ value bytes (r .right) j
+    high-is j j1 jn =
+        ap (λ (x : ℕ). x / 256) (product-said t q shared j i l)
+        ∙ high-part (value bytes (r .left) j) (value bytes (r .right) j)
+        (byte-below j (omega (arith, A .n-most)) (r .left) (round-at-shared t q shared i l .left .1))
+
+    low-opens : opened byte-scheme (a .n) (map (λ w. w % 256) (map (words-at q (suc i)) (points (a .n)))) ≡ Secret (secret (r .left))
+    low-opens =
+        ap (opened byte-scheme (a .n))
+        (map-map (λ w. w % 256) (words-at q (suc i)) (points (a .n)) ∙ map-points (λ j. words-at q (suc i) j % 256) (value bytes (r .left)) (a .n) low-is)
+        ∙ byte-opens (a .n) (r .left) (A .n-least) (A .n-most) (round-at-shared t q shared i l .left)
+
+    high-opens : opened byte-scheme (a .n) (map (λ w. w / 256) (map (words-at q (suc i)) (points (a .n)))) ≡ Secret (secret (r .right))
+    high-opens =
+        ap (opened byte-scheme (a .n))
+        (map-map (λ w. w / 256) (words-at q (suc i)) (points (a .n)) ∙ map-points (λ j. words-at q (suc i) j / 256) (value bytes (r .right)) (a .n) high-is)
+        ∙ byte-opens (a .n) (r .right) (A .n-least) (A .n-most) (round-at-shared t q shared i l .right)
+
+    pub product-opens : hear.heard (a .n) (i + 2) (map (words-at q (suc i)) (points (a .n))) ≡ Factors (secret (r .left)) (secret (r .right))
+    product-opens =
+        heard-factors (a .n) (i + 2) (map (words-at q (suc i)) (points (a .n))) (λ e. omega arith) (omega arith) ∙ ap₂ factors-of low-opens high-opens
+
+    pub product-step : Step a c now (inner-stage b m q (suc i)) (words-at q (suc i))
+    product-step =
+        step-of a c A C now s ss (inner-placed i (omega arith)) (inner-stage b m q (suc i)) (words-at q (suc i))
+        (Factors (secret (r .left)) (secret (r .right))) product-says product-opens refl refl refl product-turns
+
+  -- ---- round 33
+
+  module _ (j : ℕ) (j1 : 1 ≤ j) (jn : j ≤ a .n) where
+    last-says : message (record-at a c (inner-stage b m q 31) j) (at-party j (polynomials a c)) (probe.sheet-words j (probe.dealt s)) ≡ words-at q 32 j
+    unfolding record-at last-polynomial probe-at
+    last-says =
+        last-message (record-at a c (inner-stage b m q 31) j) (at-party j (polynomials a c)) (probe.sheet-words j (probe.dealt s)) refl
+        ∙ ap (λ (x : ℕ). last (on-shares bytes) T x (value bytes (carry-at q 31) j)) (bit-word t j (probe.dealt s) sheet-shared 32 (omega arith))
+        ∙ sym
+        (last-value T 33 t j (omega (arith, A .n-most)) (getD (probe.dealt s .bits) 32 []) (carry-at q 31)
+        (bit-at t q shared 32 (omega arith)) (carry-shared t q shared 31 (omega arith)))
+        ∙ ap (λ (x : List ℕ). value bytes (last (on-polynomials bytes) T (getD (probe.dealt s .bits) 32 []) x) j) (sym (last-carry t q shared))
+        ∙ sym (last-said t q shared j)
+
+    last-turns : after (record-at a c (inner-stage b m q 31) j) (probe.sheet-words j (probe.dealt s)) (Verdict (secret (last-polynomial q)))
+        ≡ record-at a c (fresh-stage (step b (secret (last-polynomial q))) (suc m)) j
+    unfolding record-at after value
+    last-turns = rw add-one
+
+  pub last-opens : hear.heard (a .n) 33 (map (words-at q 32) (points (a .n))) ≡ Verdict (secret (last-polynomial q))
+  last-opens =
+      heard-verdict (a .n) 33 (map (words-at q 32) (points (a .n))) (omega arith)
+      ∙ ap verdict-of
+      (ap (opened byte-scheme (a .n)) (map-points (words-at q 32) (value bytes (last-polynomial q)) (a .n) (λ j j1 jn. last-said t q shared j))
+      ∙ byte-opens (a .n) (last-polynomial q) (A .n-least) (A .n-most) (last-polynomial-shared t q shared))
+
+  pub verdict-is : secret (last-polynomial q) ≡ verdict (demand a (middle b)) (supply a (middle b))
+  verdict-is = promised t (demand a (middle b)) (supply a (middle b)) s q comparing
+
+  a-bit : split-verdict (Verdict (secret (last-polynomial q))) ≡ false
+  a-bit = le-ltb 1 (secret (last-polynomial q)) (rw verdict-is (verdict-most (demand a (middle b)) (supply a (middle b))))
+
+  pub last-step : Step a c (inner-stage b m q 31) (fresh-stage (step b (secret (last-polynomial q))) (suc m)) (words-at q 32)
+  last-step =
+      step-of a c A C (inner-stage b m q 31) s ss (inner-placed 31 (omega arith)) (fresh-stage (step b (secret (last-polynomial q))) (suc m))
+      (words-at q 32) (Verdict (secret (last-polynomial q))) last-says last-opens refl refl a-bit last-turns

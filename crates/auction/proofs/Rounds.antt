@@ -1,0 +1,163 @@
+-- All rounds of an auction, from the first word to the answer: every call is accepted, and what is read off them. Assumes nothing.
+use mathlib.Core.Path.{_≡_, refl, ap, ap₂, _∙_}
+use mathlib.Core.Bool.{true}
+use mathlib.Core.List.{List, [], _∷_, _++_, map, map-map, append-nil, flatten}
+use mathlib.Core.Option.{Option}
+use Prim.Native.Nat.{ℕ, suc, _+_, _-_, _*_, _≤_}
+use native.Mathlib.Nat.{zero-add}
+use native.Mathlib.Omega.{arith}
+use lib.ListN.{length, replicate}
+use Rattle.refusal.specs.Judging.{judged}
+use Rattle.refusal.specs.declared.Judgement.the-variants.{Accepted}
+use Rattle.sharing.specs.Lists.{from}
+use Rattle.sharing.specs.Scheme.{points}
+use Rattle.search.specs.Bracket.{start, over}
+use Rattle.search.specs.Limit.{limit}
+use Rattle.search.proofs.Narrowing.{over-true}
+use Rattle.party.specs.declared.record.Party.{Party}
+use Rattle.party.specs.declared.record.Answer.the-variants.{Cleared}
+use Rattle.party.specs.Record.{bracket, sound}
+use Rattle.party.specs.Answer.{answer-judgement, answered, answer-reply}
+use Rattle.auction.specs.Auction.{Auction, IsAuction, clearing-answer}
+use Rattle.auction.specs.Coins.{Coins, InRange}
+use Rattle.auction.specs.Call.{Call, accepted, is-accepted, judgement, whose, of-party, given}
+use Rattle.auction.specs.Told.{ask, from-rounds}
+use Rattle.auction.specs.Run.{own}
+use Rattle.auction.specs.Received.{collect, bid-shares-in, hearing-in, answer-in, decision-in}
+use Rattle.auction.specs.Demands.{all-accepted}
+use Rattle.auction.proofs.Closed.{Made, spoken, Stage, fresh-stage, record-at, sheets-at, seat, probes, all-spoken, decision}
+use Rattle.auction.proofs.Calls.{own-append, collect-append, all-accepted-append, all-accepted-points, Own, own-points}
+use Rattle.auction.proofs.Step.{fresh-sane, sound-at}
+use Rattle.auction.proofs.Chain.{Turn, from-ending, all-done, seats, all-words, calls, hearing-of, chain-rounds, chain-accepted, chain-hearings, chain-bids, chain-answers, chain-decisions}
+use Rattle.auction.proofs.Probed.{turn-of}
+use Rattle.auction.proofs.Search.{turns-of, turns-length, after-probes, Leads, whole, probes-few, search-ends}
+
+-- all calls from the first saying on
+abbrev pub round-calls : Auction → Coins → List Call
+round-calls a c = from-rounds a c (33 * limit (a .k)) (map (seat a c (fresh-stage (start (a .k)) 0)) (points (a .n)))
+
+-- ---- lists
+
+map-append : {A B : Type 0} (f : A → B) (xs ys : List A) → map f (xs ++ ys) ≡ map f xs ++ map f ys
+map-append f [] ys = refl
+map-append {B} f (x ∷ xs) ys = ap (λ (l : List B). f x ∷ l) (map-append f xs ys)
+
+map-same : {A B : Type 0} (y : B) (xs : List A) → map (λ x. y) xs ≡ replicate (length xs) y
+map-same y [] = refl
+map-same {B} y (x ∷ xs) = ap (λ (l : List B). y ∷ l) (map-same y xs)
+
+turns-spoken : (a : Auction) (c : Coins) (m : ℕ) (ds : List Made) → map (all-words a c) (turns-of m ds) ≡ all-spoken (a .n) ds
+unfolding turns-of flatten spoken
+turns-spoken a c m [] = refl
+turns-spoken a c m (d ∷ ds) =
+    map-append (all-words a c) (map (turn-of (d .bracket) m (d .probe)) (from 0 33)) (turns-of (suc m) ds)
+    ∙ ap₂ _++_ (map-map (all-words a c) (turn-of (d .bracket) m (d .probe)) (from 0 33)) (turns-spoken a c (suc m) ds)
+
+-- ---- asking for the answer
+
+ask-accepted : (q : Party) → sound q ≡ true → over (bracket q) ≡ true → answer-judgement q ≡ Accepted
+unfolding answer-judgement judged
+ask-accepted q s o = rw (s, o)
+
+ask-cleared : (q : Party) → answer-judgement q ≡ Accepted → answer-reply q ≡ Cleared (q .lo) (q .probes)
+unfolding answered
+ask-cleared q e = rw e
+
+module _ (a : Auction) (c : Coins) (A : IsAuction a) (C : InRange a c) where
+  abbrev rs : List Turn
+  rs = turns-of 0 (probes a c)
+
+  -- the stage at the end
+  abbrev end : Stage
+  end = fresh-stage (after-probes (start (a .k)) (probes a c)) (0 + length (probes a c))
+
+  L : Leads a c (start (a .k)) 0 (c .sheets) (probes a c)
+  L = whole a c A C
+
+  many : 1 ≤ a .n
+  many = omega (arith, A .n-least)
+
+  module _ (j : ℕ) (j1 : 1 ≤ j) (jn : j ≤ a .n) where
+    end-sound : sound (record-at a c end j) ≡ true
+    end-sound =
+        sound-at a c A end
+        (fresh-sane a (after-probes (start (a .k)) (probes a c)) (0 + length (probes a c)) (L .encloses .apart) (L .encloses .inside) (L .encloses .few)
+        (λ e. omega (arith, over-true _ (L .ended))))
+        j j1 jn
+
+    end-judged : answer-judgement (record-at a c end j) ≡ Accepted
+    unfolding record-at
+    end-judged = ask-accepted (record-at a c end j) end-sound (L .ended)
+
+    asked : accepted (ask a c (seat a c end j)) ≡ true
+    unfolding ask seat judgement is-accepted
+    asked = rw end-judged
+
+    replied : answer-reply (record-at a c end j) ≡ Cleared (clearing-answer a) (length (probes a c))
+    unfolding record-at
+    replied = ask-cleared (record-at a c end j) end-judged ∙ ap₂ Cleared (search-ends a c A C) (zero-add (length (probes a c)))
+
+    ask-own : Own j (ask a c (seat a c end j))
+    unfolding ask seat record-at whose of-party
+    ask-own = record { accepted = asked; whose = λ i. refl }
+
+  -- ---- the calls
+
+  -- the rounds of the probes, then n askings
+  pub calls-are : round-calls a c ≡ calls a c rs ++ map (λ j. ask a c (seat a c end j)) (points (a .n))
+  calls-are =
+      let left : 33 * limit (a .k) ≡ length rs + (33 * limit (a .k) - length rs) = omega (arith, turns-length 0 (probes a c), probes-few a c A C) in
+      ap (λ (x : ℕ). from-rounds a c x (seats a c (fresh-stage (start (a .k)) 0))) left
+      ∙ chain-rounds a c many (L .chain) (33 * limit (a .k) - length rs)
+      ∙ ap (λ (l : List Call). calls a c rs ++ l)
+      (from-ending a c (33 * limit (a .k) - length rs) (seats a c end) (all-done a c end (L .ended) (points (a .n)))
+      ∙ map-map (ask a c) (seat a c end) (points (a .n)))
+
+  pub rounds-accepted : all-accepted (round-calls a c) ≡ true
+  rounds-accepted =
+      ap all-accepted calls-are
+      ∙ all-accepted-append (calls a c rs) (map (λ j. ask a c (seat a c end j)) (points (a .n))) (chain-accepted a c many (L .chain))
+      (all-accepted-points (λ j. ask a c (seat a c end j)) (a .n) asked)
+
+  module _ (j : ℕ) (j1 : 1 ≤ j) (jn : j ≤ a .n) where
+    own-asks : own j (map (λ j. ask a c (seat a c end j)) (points (a .n))) ≡ ask a c (seat a c end j) ∷ []
+    unfolding ask given
+    own-asks = own-points j (a .n) (λ j. ask a c (seat a c end j)) j1 jn ask-own
+
+    reads : {B : Type 0} (f : Call → Option B) (xs ys : List B) → collect f (own j (calls a c rs)) ≡ xs
+        → collect f (ask a c (seat a c end j) ∷ []) ≡ ys → collect f (own j (round-calls a c)) ≡ xs ++ ys
+    reads f xs ys e g =
+        ap (λ (l : List Call). collect f (own j l)) calls-are
+        ∙ ap (collect f) (own-append j (calls a c rs) (map (λ j. ask a c (seat a c end j)) (points (a .n))))
+        ∙ collect-append f (own j (calls a c rs)) (own j (map (λ j. ask a c (seat a c end j)) (points (a .n))))
+        ∙ ap₂ _++_ e (ap (collect f) own-asks ∙ g)
+
+    -- ---- what party j hears
+
+    pub rounds-hearings : collect hearing-in (own j (round-calls a c)) ≡ map (hearing-of a c j) rs
+    unfolding collect hearing-in ask
+    rounds-hearings = reads hearing-in (map (hearing-of a c j) rs) [] (chain-hearings a c many j j1 jn (L .chain)) refl ∙ append-nil _
+
+    pub rounds-messages : map (λ h. h .messages) (collect hearing-in (own j (round-calls a c))) ≡ all-spoken (a .n) (probes a c)
+    rounds-messages =
+        ap (map (λ h. h .messages)) rounds-hearings ∙ map-map (λ h. h .messages) (hearing-of a c j) rs ∙ turns-spoken a c 0 (probes a c)
+
+    pub rounds-sheets : map (λ h. h .sheets) (collect hearing-in (own j (round-calls a c))) ≡ replicate (33 * length (probes a c)) (sheets-at a c j)
+    rounds-sheets =
+        ap (map (λ h. h .sheets)) rounds-hearings
+        ∙ map-map (λ h. h .sheets) (hearing-of a c j) rs
+        ∙ map-same (sheets-at a c j) rs
+        ∙ ap (λ (x : ℕ). replicate x (sheets-at a c j)) (turns-length 0 (probes a c))
+
+    pub rounds-decisions : collect decision-in (collect hearing-in (own j (round-calls a c))) ≡ map decision (probes a c)
+    rounds-decisions = ap (collect decision-in) rounds-hearings ∙ chain-decisions a c many j j1 jn (L .chain)
+
+    pub rounds-bids : collect bid-shares-in (own j (round-calls a c)) ≡ []
+    unfolding collect bid-shares-in ask
+    rounds-bids = reads bid-shares-in [] [] (chain-bids a c many j j1 jn (L .chain)) refl
+
+    pub rounds-answers : collect answer-in (own j (round-calls a c)) ≡ Cleared (clearing-answer a) (length (probes a c)) ∷ []
+    unfolding collect answer-in ask seat
+    rounds-answers =
+        reads answer-in [] (Cleared (clearing-answer a) (length (probes a c)) ∷ []) (chain-answers a c many j j1 jn (L .chain))
+        (ap (λ x. x ∷ []) (replied j j1 jn))

@@ -1,0 +1,184 @@
+-- A sheet is 127 words a party, and the words of all n parties fix its coins; a probe is 33 messages a party, read round by round.
+-- Assumes nothing.
+use mathlib.Core.Path.{_≡_, refl, sym, ap, ap₂, fun-ext, _∙_}
+use mathlib.Core.List.{List, [], _∷_, _++_, map, head-eq-of-cons-eq, tail-eq-of-cons-eq, List·Memᴰ·head, List·Memᴰ·tail}
+use Prim.Native.Nat.{ℕ, zero, suc, _+_, _*_, _≤_, _<_}
+use native.Mathlib.Nat.{suc-inj}
+use native.Mathlib.Decide.{decLe}
+use native.Mathlib.Omega.{arith}
+use lib.ListN.{length, take, drop, getD, length-map, length-append}
+use lib.Seq.{take-at, drop-at, ext-getD}
+use Rattle.fields.specs.Byte.{product, bytes}
+use Rattle.fields.proofs.Fields.{amount-field, byte-field}
+use Rattle.sharing.specs.Polynomial.{value}
+use Rattle.sharing.specs.Lists.{from}
+use Rattle.sharing.specs.Scheme.{points}
+use Rattle.sharing.proofs.Rows.{length-from}
+use Rattle.comparison.specs.Rounds.{bit, both}
+use Rattle.comparison.specs.Probe.{Triple, Sheet, TripleCoins, Coins, Group, Each, TripleInRange, InRange, Probe, bit-polynomials, triple-polynomials, dealt, triple-words, sheet-words, messages, product-rounds, last-polynomial}
+use Rattle.comparison.proofs.Values.{bit-byte}
+use Rattle.comparison.proofs.Dealt.{SheetShared, ProbeShared, TripleShared, shared-cons, triple-polynomials-shared, bit-polynomials-length, dealt-shared, product-rounds-long}
+use Rattle.comparison.proofs.Agreement.{In, same-map, heard}
+use Rattle.auction.proofs.Closed.{spoken}
+
+-- ---- lists
+
+pub append-parts : {A : Type 0} (ks ks′ ls ls′ : List A) → length ks ≡ length ks′ → ks ++ ls ≡ ks′ ++ ls′ → (ks ≡ ks′) × (ls ≡ ls′)
+append-parts ks ks′ ls ls′ h e = (
+  sym (take-at ks ls (length ks′) h) ∙ ap (take (length ks′)) e ∙ take-at ks′ ls′ (length ks′) refl,
+  sym (drop-at ks ls (length ks′) h) ∙ ap (drop (length ks′)) e ∙ drop-at ks′ ls′ (length ks′) refl,
+)
+
+from-in : (a m x : ℕ) → a ≤ x → x < a + m → In x (from a m)
+unfolding from
+from-in a zero x h k = absurd (omega arith)
+from-in a (suc m) x h k =
+    elim (decLe x a) [
+      | yes le ↦ let e : x ≡ a = omega arith in List·Memᴰ·head e
+      | no gt ↦ List·Memᴰ·tail (from-in (suc a) m x (omega arith) (omega arith))
+    ]
+
+-- ---- 127 words
+
+triple-words-long : (j : ℕ) (ts : List (Triple (List ℕ))) → length (triple-words j ts) ≡ 3 * length ts
+unfolding triple-words
+triple-words-long j [] = refl
+triple-words-long j (t ∷ ts) = omega (arith, triple-words-long j ts)
+
+sheet-words-long : (t j : ℕ) (s : Sheet (List ℕ)) → SheetShared t s → length (sheet-words j s) ≡ 127
+unfolding sheet-words
+sheet-words-long t j s h =
+    omega (
+      arith,
+      length-append (map (λ b. value bytes b j) (s .bits)) (triple-words j (s .triples)),
+      length-map (s .bits) (λ b. value bytes b j),
+      triple-words-long j (s .triples),
+      h .bits-long,
+      h .triples-long,
+    )
+
+pub words-long : (t j : ℕ) (c : Coins) → InRange t c → length (sheet-words j (dealt c)) ≡ 127
+words-long t j c h = sheet-words-long t j (dealt c) (dealt-shared t c h)
+
+-- ---- the words of all n parties fix the coins
+
+module _ (n t : ℕ) (more : t < n) (most : n ≤ 9) where
+  -- a secret with its coefficients
+  byte-fixed : (s s′ : ℕ) (cs cs′ : List ℕ) → s < 256 → s′ < 256 → Group 256 t cs → Group 256 t cs′
+      → ((j : ℕ) → 1 ≤ j → j ≤ n → value bytes (s′ ∷ cs′) j ≡ value bytes (s ∷ cs) j) → s′ ∷ cs′ ≡ s ∷ cs
+  byte-fixed s s′ cs cs′ hs hs′ hc hc′ w = heard byte-field t n (s′ ∷ cs′) (s ∷ cs) more most (shared-cons s′ cs′ hs′ hc′) (shared-cons s cs hs hc) w
+
+  bits-fixed : (i m m′ : ℕ) (css css′ : List (List ℕ)) → Each (Group 256 t) css → Each (Group 256 t) css′ → length css′ ≡ length css
+      → ((j : ℕ) → 1 ≤ j → j ≤ n → map (λ b. value bytes b j) (bit-polynomials i m′ css′) ≡ map (λ b. value bytes b j) (bit-polynomials i m css))
+      → css′ ≡ css
+  unfolding bit-polynomials
+  bits-fixed i m m′ [] [] h h′ l w = refl
+  bits-fixed i m m′ [] (cs′ ∷ css′) h h′ l w = absurd (omega arith)
+  bits-fixed i m m′ (cs ∷ css) [] h h′ l w = absurd (omega arith)
+  bits-fixed i m m′ (cs ∷ css) (cs′ ∷ css′) h h′ l w =
+      ap₂ (λ (z : List ℕ) (zs : List (List ℕ)). z ∷ zs)
+      (tail-eq-of-cons-eq
+      (byte-fixed (bit i m) (bit i m′) cs cs′ (bit-byte i m) (bit-byte i m′) (h .0) (h′ .0) (λ j h1 hn. head-eq-of-cons-eq (w j h1 hn))))
+      (bits-fixed (suc i) m m′ css css′ (h .1) (h′ .1) (suc-inj l) (λ j h1 hn. tail-eq-of-cons-eq (w j h1 hn)))
+
+  triple-fixed : (c c′ : TripleCoins) → TripleInRange t c → TripleInRange t c′
+      → ((j : ℕ) → 1 ≤ j → j ≤ n → value bytes (triple-polynomials c′ .alpha) j ≡ value bytes (triple-polynomials c .alpha) j)
+      → ((j : ℕ) → 1 ≤ j → j ≤ n → value bytes (triple-polynomials c′ .beta) j ≡ value bytes (triple-polynomials c .beta) j)
+      → ((j : ℕ) → 1 ≤ j → j ≤ n → value bytes (triple-polynomials c′ .gamma) j ≡ value bytes (triple-polynomials c .gamma) j)
+      → c′ ≡ c
+  unfolding triple-polynomials
+  triple-fixed c c′ h h′ wa wb wg =
+      let S : TripleShared t (triple-polynomials c) = triple-polynomials-shared t c h in
+      let S′ : TripleShared t (triple-polynomials c′) = triple-polynomials-shared t c′ h′ in
+      let ea : c′ .alpha ∷ c′ .of-alpha ≡ c .alpha ∷ c .of-alpha = heard byte-field t n _ _ more most (S′ .alpha) (S .alpha) wa in
+      let eb : c′ .beta ∷ c′ .of-beta ≡ c .beta ∷ c .of-beta = heard byte-field t n _ _ more most (S′ .beta) (S .beta) wb in
+      let eg : product (c′ .alpha) (c′ .beta) ∷ c′ .of-gamma ≡ product (c .alpha) (c .beta) ∷ c .of-gamma =
+      heard byte-field t n _ _ more most (S′ .gamma) (S .gamma) wg in
+      λ k.
+      record {
+        alpha = head-eq-of-cons-eq ea k;
+        beta = head-eq-of-cons-eq eb k;
+        of-alpha = tail-eq-of-cons-eq ea k;
+        of-beta = tail-eq-of-cons-eq eb k;
+        of-gamma = tail-eq-of-cons-eq eg k;
+      }
+
+  triples-fixed : (cs cs′ : List TripleCoins) → Each (TripleInRange t) cs → Each (TripleInRange t) cs′ → length cs′ ≡ length cs
+      → ((j : ℕ) → 1 ≤ j → j ≤ n → triple-words j (map triple-polynomials cs′) ≡ triple-words j (map triple-polynomials cs)) → cs′ ≡ cs
+  unfolding triple-words
+  triples-fixed [] [] h h′ l w = refl
+  triples-fixed [] (c′ ∷ cs′) h h′ l w = absurd (omega arith)
+  triples-fixed (c ∷ cs) [] h h′ l w = absurd (omega arith)
+  triples-fixed (c ∷ cs) (c′ ∷ cs′) h h′ l w =
+      ap₂ (λ (z : TripleCoins) (zs : List TripleCoins). z ∷ zs)
+      (triple-fixed c c′ (h .0) (h′ .0) (λ j h1 hn. head-eq-of-cons-eq (w j h1 hn)) (λ j h1 hn. head-eq-of-cons-eq (tail-eq-of-cons-eq (w j h1 hn)))
+      (λ j h1 hn. head-eq-of-cons-eq (tail-eq-of-cons-eq (tail-eq-of-cons-eq (w j h1 hn)))))
+      (triples-fixed cs cs′ (h .1) (h′ .1) (suc-inj l) (λ j h1 hn. tail-eq-of-cons-eq (tail-eq-of-cons-eq (tail-eq-of-cons-eq (w j h1 hn)))))
+
+  module _ (c c′ : Coins) (h : InRange t c) (h′ : InRange t c′)
+      (w : (j : ℕ) → 1 ≤ j → j ≤ n → sheet-words j (dealt c′) ≡ sheet-words j (dealt c)) where
+    mask-fixed : c′ .mask ∷ c′ .of-mask ≡ c .mask ∷ c .of-mask
+    unfolding sheet-words dealt
+    mask-fixed =
+        heard amount-field t n (c′ .mask ∷ c′ .of-mask) (c .mask ∷ c .of-mask) more most
+        (shared-cons (c′ .mask) (c′ .of-mask) (omega (arith, h′ .mask)) (h′ .of-mask)) (shared-cons (c .mask) (c .of-mask) (omega (arith, h .mask)) (h .of-mask))
+        (λ j h1 hn. head-eq-of-cons-eq (w j h1 hn))
+
+    later : (j : ℕ) → 1 ≤ j → j ≤ n
+        → (map (λ b. value bytes b j) (bit-polynomials 1 (c′ .mask) (c′ .of-bits)) ≡ map (λ b. value bytes b j) (bit-polynomials 1 (c .mask) (c .of-bits)))
+        × (triple-words j (map triple-polynomials (c′ .triples)) ≡ triple-words j (map triple-polynomials (c .triples)))
+    unfolding sheet-words dealt
+    later j h1 hn =
+        let bs : List (List ℕ) = bit-polynomials 1 (c .mask) (c .of-bits) in
+        let bs′ : List (List ℕ) = bit-polynomials 1 (c′ .mask) (c′ .of-bits) in
+        append-parts (map (λ b. value bytes b j) bs′) (map (λ b. value bytes b j) bs) _ _
+        (length-map bs′ (λ b. value bytes b j) ∙ bit-polynomials-length 1 (c′ .mask) (c′ .of-bits) ∙ h′ .bits-long
+        ∙ sym (length-map bs (λ b. value bytes b j) ∙ bit-polynomials-length 1 (c .mask) (c .of-bits) ∙ h .bits-long))
+        (tail-eq-of-cons-eq (w j h1 hn))
+
+    pub sheet-fixed : c′ ≡ c
+    sheet-fixed =
+        let of-bits : c′ .of-bits ≡ c .of-bits =
+        bits-fixed 1 (c .mask) (c′ .mask) (c .of-bits) (c′ .of-bits) (h .of-bits) (h′ .of-bits) (h′ .bits-long ∙ sym (h .bits-long))
+        (λ j h1 hn. later j h1 hn .0) in
+        let triples : c′ .triples ≡ c .triples =
+        triples-fixed (c .triples) (c′ .triples) (h .triples) (h′ .triples) (h′ .triples-long ∙ sym (h .triples-long)) (λ j h1 hn. later j h1 hn .1) in
+        λ k.
+        record {
+          mask = head-eq-of-cons-eq mask-fixed k;
+          of-mask = tail-eq-of-cons-eq mask-fixed k;
+          of-bits = of-bits k;
+          triples = triples k;
+        }
+
+-- ---- 33 messages
+
+messages-long : (t : ℕ) (q : Probe) → ProbeShared t q → (j : ℕ) → length (messages q j) ≡ 33
+unfolding messages
+messages-long t q h j =
+    let words : List ℕ = map (λ r. both (value bytes (r .left) j) (value bytes (r .right) j)) (product-rounds q) in
+    omega (
+      arith,
+      length-append words (value bytes (last-polynomial q) j ∷ []),
+      length-map (product-rounds q) (λ r. both (value bytes (r .left) j) (value bytes (r .right) j)),
+      product-rounds-long t q h,
+    )
+
+pub spoken-long : (n : ℕ) (q : Probe) → length (spoken n q) ≡ 33
+unfolding spoken
+spoken-long n q = length-map (from 0 33) (λ i. map (λ j. getD (messages q j) i 0) (points n)) ∙ length-from 0 33
+
+pub spoken-same : (n : ℕ) (q q′ : Probe) → ((j : ℕ) → messages q′ j ≡ messages q j) → spoken n q′ ≡ spoken n q
+unfolding spoken
+spoken-same n q q′ h = ap (λ (f : ℕ → List ℕ). map (λ i. map (λ j. getD (f j) i 0) (points n)) (from 0 33)) (fun-ext h)
+
+pub spoken-heard : (n t : ℕ) (q q′ : Probe) → ProbeShared t q → ProbeShared t q′ → spoken n q′ ≡ spoken n q
+    → (j : ℕ) → 1 ≤ j → j ≤ n → messages q′ j ≡ messages q j
+unfolding spoken
+spoken-heard n t q q′ h h′ e j h1 hn =
+    ext-getD 0 (messages q′ j) (messages q j) (messages-long t q′ h′ j ∙ sym (messages-long t q h j))
+    (λ i l.
+    same-map (λ m. getD (messages q′ m) i 0) (λ m. getD (messages q m) i 0) (points n)
+    (same-map (λ m. map (λ x. getD (messages q′ x) m 0) (points n)) (λ m. map (λ x. getD (messages q x) m 0) (points n)) (from 0 33) e i
+    (from-in 0 33 i (omega arith) (omega (arith, messages-long t q′ h′ j))))
+    j (from-in 1 n j h1 (omega arith)))

@@ -1,0 +1,279 @@
+-- One round of all parties: when every call of it is accepted, and what every party then has. Assumes nothing.
+use mathlib.Core.Path.{_≡_, sym, ap, _∙_}
+use mathlib.Core.Bool.{true, false}
+use mathlib.Core.List.{List, [], _∷_, map}
+use Prim.Native.Nat.{ℕ, zero, suc, _+_, _-_, _*_, _^_, _≤_, _<_}
+use native.Mathlib.Omega.{arith}
+use lib.ListN.{length, drop, getD, length-map, length-drop}
+use borrow.Author.Tests.{eq-eqb}
+use Rattle.refusal.specs.Judging.{judged}
+use Rattle.refusal.specs.declared.Judgement.the-variants.{Accepted}
+use Rattle.fields.specs.Amount.{amounts}
+use Rattle.fields.specs.Byte.{bytes}
+use Rattle.fields.proofs.Below.{AllBelow}
+use Rattle.sharing.specs.Polynomial.{value}
+use Rattle.sharing.specs.Lists.{from}
+use Rattle.sharing.specs.Scheme.{threshold, points}
+use Rattle.sharing.proofs.Terms.{length-from}
+use Rattle.search.specs.declared.Bracket.{Bracket}
+use Rattle.search.specs.Bracket.{middle, over}
+use Rattle.search.specs.Limit.{limit}
+use Rattle.comparison.specs.Probe as probe
+use Rattle.comparison.specs.Probe.{Each}
+use Rattle.comparison.proofs.Dealt.{SheetShared, dealt-shared, each-drop}
+use Rattle.party.specs.declared.record.Party.{Party}
+use Rattle.party.specs.declared.record.Heard.{Heard}
+use Rattle.party.specs.Record.{bracket, sound, next-or}
+use Rattle.party.specs.Say.{demand-share, supply-share, current, in-field, message, say-judgement, said}
+use Rattle.party.specs.Hear as hear
+use Rattle.party.specs.Hear.{crooked, wild-sum, split-verdict, hear-judgement, after}
+use Rattle.party.proofs.Soundness.{Sound, sound-of}
+use Rattle.party.proofs.Words.{InField, in-field-of}
+use Rattle.auction.specs.Auction.{Auction, IsAuction}
+use Rattle.auction.specs.Coins.{Coins, InRange}
+use Rattle.auction.specs.Call.{accepted, is-accepted, judgement}
+use Rattle.auction.specs.Told as told
+use Rattle.auction.specs.Told.{returned, word, say-by, word-by, hear-by}
+use Rattle.auction.proofs.Closed.{at-party, polynomials, Stage, fresh-stage, record-at, sheets-at, seat}
+use Rattle.auction.proofs.Totals.{each-imp, polynomials-length}
+use Rattle.auction.proofs.Sheets.{flat-length, flat-at, sheet-length, mask-word, getD-amounts, amount-below, byte-below, sheet-bytes-below}
+use Rattle.auction.proofs.Comparing.{demand-shared, supply-shared, index-least, index-most}
+
+-- ---- when a saying and a hearing are accepted
+
+module _ (q : Party) (totals sheets : List ℕ) (S : sound q ≡ true) (lt : length totals ≡ 2 * q .k) (ls : length sheets ≡ 127 * limit (q .k))
+    (going : over (bracket q) ≡ false) (F : in-field q totals (current q sheets) ≡ true) where
+  say-accepted : say-judgement q totals sheets ≡ Accepted
+  unfolding say-judgement judged
+  say-accepted = rw (S, eq-eqb (length totals) (2 * q .k) lt, eq-eqb (length sheets) (127 * limit (q .k)) ls, going, F)
+
+  hear-accepted : (messages : List ℕ) → length messages ≡ q .n → getD messages (q .own - 1) 0 ≡ message q totals (current q sheets)
+      → crooked (hear.heard (q .n) (q .round) messages) ≡ false → wild-sum (hear.heard (q .n) (q .round) messages) ≡ false
+      → split-verdict (hear.heard (q .n) (q .round) messages) ≡ false → hear-judgement q totals sheets messages ≡ Accepted
+  unfolding hear-judgement judged
+  hear-accepted messages lm own straight tame whole =
+      rw (
+        S,
+        eq-eqb (length totals) (2 * q .k) lt,
+        eq-eqb (length sheets) (127 * limit (q .k)) ls,
+        eq-eqb (length messages) (q .n) lm,
+        going,
+        F,
+        eq-eqb (getD messages (q .own - 1) 0) (message q totals (current q sheets)) own,
+        straight,
+        tame,
+        whole,
+      )
+
+-- ---- one round
+
+abbrev pub bracket-of : Stage → Bracket
+bracket-of σ = record { lo = σ .lo; hi = σ .hi }
+
+-- from the stage σ all say the words w, and are then at the stage τ
+pub record Step (a : Auction) (c : Coins) (σ τ : Stage) (w : ℕ → ℕ) : Type 0 where
+  pub going : over (bracket-of σ) ≡ false
+  pub saying : (j : ℕ) → 1 ≤ j → j ≤ a .n → accepted (say-by a c (seat a c σ j)) ≡ true
+  pub word : (j : ℕ) → 1 ≤ j → j ≤ a .n → word-by a c (seat a c σ j) ≡ w j
+  pub hearing : (j : ℕ) → 1 ≤ j → j ≤ a .n → accepted (hear-by a c (map w (points (a .n))) (seat a c σ j)) ≡ true
+  pub next : (j : ℕ) → 1 ≤ j → j ≤ a .n → told.heard a c (map w (points (a .n))) (seat a c σ j) ≡ seat a c τ j
+
+-- a stage whose records are sound
+pub record Sane (a : Auction) (σ : Stage) : Type 0 where
+  pub apart : σ .lo < σ .hi
+  pub inside : σ .hi ≤ a .k + 1
+  pub round-least : 1 ≤ σ .round
+  pub round-most : σ .round ≤ 33
+  pub sum : σ .sum < 2 ^ 59 + 2 ^ 33
+  pub carry : AllBelow 256 (σ .carry)
+  pub probes : σ .probes ≤ limit (a .k)
+  pub ended : σ .probes ≡ limit (a .k) → σ .hi ≤ σ .lo + 1
+
+-- one at which the search goes on, with the sheet s
+pub record Placed (a : Auction) (c : Coins) (σ : Stage) (s : probe.Coins) (ss : List probe.Coins) : Type 0 where
+  pub sane : Sane a σ
+  pub going : over (bracket-of σ) ≡ false
+  pub left : drop (σ .probes) (c .sheets) ≡ s ∷ ss
+
+pub fresh-sane : (a : Auction) (b : Bracket) (m : ℕ) → b .lo < b .hi → b .hi ≤ a .k + 1 → m ≤ limit (a .k) → (m ≡ limit (a .k) → b .hi ≤ b .lo + 1)
+    → Sane a (fresh-stage b m)
+fresh-sane a b m apart inside few ended =
+    record {
+      apart = apart;
+      inside = inside;
+      round-least = omega arith;
+      round-most = omega arith;
+      sum = omega arith;
+      carry = tt;
+      probes = few;
+      ended = ended;
+    }
+
+-- ---- soundness
+
+module _ (a : Auction) (c : Coins) (A : IsAuction a) (σ : Stage) (N : Sane a σ) (j : ℕ) (j1 : 1 ≤ j) (jn : j ≤ a .n) where
+  facts-at : Sound (record-at a c σ j)
+  unfolding record-at
+  facts-at =
+      record {
+        listed =
+            record {
+              parties-least = A .n-least;
+              parties-most = A .n-most;
+              own-least = j1;
+              own-most = jn;
+              prices-least = A .k-least;
+              prices-most = A .k-most;
+            };
+        bids = A .few;
+        apart = N .apart;
+        inside = N .inside;
+        round-least = N .round-least;
+        round-most = N .round-most;
+        sum = N .sum;
+        carry = omega (arith, byte-below j (omega (arith, A .n-most)) (σ .carry) (N .carry));
+        probes = N .probes;
+        ended = N .ended;
+      }
+
+  pub sound-at : sound (record-at a c σ j) ≡ true
+  sound-at = sound-of (record-at a c σ j) facts-at
+
+-- ---- what is lent
+
+-- one of a list of words
+getD-words : (w : ℕ → ℕ) (a m i : ℕ) → i < m → getD (map w (from a m)) i 0 ≡ w (a + i)
+unfolding from
+getD-words w a zero i h = absurd (omega arith)
+getD-words w a (suc m) zero h = ap w (omega arith)
+getD-words w a (suc m) (suc i) h = getD-words w (suc a) m i (omega arith) ∙ ap w (omega arith)
+
+words-length : (w : ℕ → ℕ) (n : ℕ) → length (map w (points n)) ≡ n
+words-length w n = length-map (points n) w ∙ length-from 1 n
+
+each-first : {A : Type 0} (P : A → Type 0) (s : A) (ss xs : List A) → xs ≡ s ∷ ss → Each P xs → P s
+each-first P s ss xs e h = (rw e at h) .0
+
+module _ (a : Auction) (c : Coins) (A : IsAuction a) (C : InRange a c) where
+  abbrev t : ℕ
+  t = threshold (a .n)
+
+  sheet-long : (j : ℕ) (s : probe.Coins) → probe.InRange t s → length (probe.sheet-words j (probe.dealt s)) ≡ 127
+  sheet-long j s h = sheet-length t j (probe.dealt s) (dealt-shared t s h)
+
+  sheets-long : (j : ℕ) → Each (λ s. length (probe.sheet-words j (probe.dealt s)) ≡ 127) (c .sheets)
+  sheets-long j = each-imp (probe.InRange t) (λ s. length (probe.sheet-words j (probe.dealt s)) ≡ 127) (c .sheets) (sheet-long j) (C .sheets)
+
+  pub sheets-length : (j : ℕ) → length (sheets-at a c j) ≡ 127 * limit (a .k)
+  unfolding sheets-at
+  sheets-length j =
+      flat-length (λ s. probe.sheet-words j (probe.dealt s)) 127 (c .sheets) (sheets-long j) ∙ ap (λ (m : ℕ). 127 * m) (C .sheets-many)
+
+  pub totals-length : (j : ℕ) → length (at-party j (polynomials a c)) ≡ 2 * a .k
+  totals-length j = length-map (polynomials a c) (λ f. value amounts f j) ∙ polynomials-length A C
+
+  -- a sheet is left for each probe
+  pub sheet-left : (m : ℕ) (s : probe.Coins) (ss : List probe.Coins) → drop m (c .sheets) ≡ s ∷ ss → m < limit (a .k)
+  sheet-left m s ss e = omega (arith, C .sheets-many, length-drop m (c .sheets), ap length e)
+
+  -- ---- at a stage
+
+  module _ (σ : Stage) (s : probe.Coins) (ss : List probe.Coins) (P : Placed a c σ s ss) where
+    pub coins-ranged : probe.InRange t s
+    coins-ranged =
+        each-first (probe.InRange t) s ss (drop (σ .probes) (c .sheets)) (P .left) (each-drop (probe.InRange t) (σ .probes) (c .sheets) (C .sheets))
+
+    sheet-shared : SheetShared t (probe.dealt s)
+    sheet-shared = dealt-shared t s coins-ranged
+
+    module _ (j : ℕ) (j1 : 1 ≤ j) (jn : j ≤ a .n) where
+      pub current-at : current (record-at a c σ j) (sheets-at a c j) ≡ probe.sheet-words j (probe.dealt s)
+      unfolding current record-at sheets-at
+      current-at = flat-at (λ s. probe.sheet-words j (probe.dealt s)) 127 (c .sheets) (σ .probes) s ss (sheets-long j) (P .left)
+
+      abbrev totals : List ℕ
+      totals = at-party j (polynomials a c)
+
+      abbrev index : ℕ
+      index = middle (bracket-of σ)
+
+      pub demand-word : demand-share (record-at a c σ j) totals ≡ value amounts (getD (polynomials a c) (index - 1) []) j
+      unfolding record-at
+      demand-word = getD-amounts j (polynomials a c) (index - 1)
+
+      pub supply-word : supply-share (record-at a c σ j) totals ≡ value amounts (getD (polynomials a c) (a .k + index - 1) []) j
+      unfolding record-at
+      supply-word = getD-amounts j (polynomials a c) (a .k + index - 1)
+
+      pub on-list : (1 ≤ index) × (index ≤ a .k)
+      on-list =
+          let N : Sane a σ = P .sane in
+          (index-least (a .k) (bracket-of σ) (N .apart) (N .inside) (P .going), index-most (a .k) (bracket-of σ) (N .apart) (N .inside) (P .going))
+
+      in-field-facts : InField (record-at a c σ j) totals (probe.sheet-words j (probe.dealt s))
+      in-field-facts =
+          let small : j < 10 = omega (arith, A .n-most) in
+          record {
+            demand = λ e. rw demand-word (amount-below j small _ (demand-shared a c A C index (on-list .0) (on-list .1) .1));
+            supply = λ e. rw supply-word (amount-below j small _ (supply-shared a c A C index (on-list .0) (on-list .1) .1));
+            mask = rw (mask-word t j (probe.dealt s) sheet-shared) (amount-below j small _ (sheet-shared .mask .1));
+            bytes = sheet-bytes-below t j small (probe.dealt s) sheet-shared;
+          }
+
+      in-field-at : in-field (record-at a c σ j) totals (current (record-at a c σ j) (sheets-at a c j)) ≡ true
+      in-field-at = rw current-at (in-field-of _ _ _ in-field-facts)
+
+      say-ok : say-judgement (record-at a c σ j) totals (sheets-at a c j) ≡ Accepted
+      unfolding record-at
+      say-ok =
+          say-accepted (record-at a c σ j) totals (sheets-at a c j) (sound-at a c A σ (P .sane) j j1 jn) (totals-length j) (sheets-length j) (P .going) in-field-at
+
+      pub saying-at : accepted (say-by a c (seat a c σ j)) ≡ true
+      unfolding say-by seat judgement is-accepted
+      saying-at = rw say-ok
+
+      pub word-at : word-by a c (seat a c σ j) ≡ message (record-at a c σ j) totals (probe.sheet-words j (probe.dealt s))
+      unfolding word-by seat word said
+      word-at = rw (say-ok, current-at)
+
+      -- hearing words among which its own stands, that open to o
+      module _ (w : ℕ → ℕ) (o : Heard) (own : w j ≡ message (record-at a c σ j) totals (probe.sheet-words j (probe.dealt s)))
+          (opens : hear.heard (a .n) (σ .round) (map w (points (a .n))) ≡ o)
+          (straight : crooked o ≡ false) (tame : wild-sum o ≡ false) (whole : split-verdict o ≡ false) where
+        own-word : getD (map w (points (a .n))) (j - 1) 0 ≡ w j
+        own-word = getD-words w 1 (a .n) (j - 1) (omega arith) ∙ ap w (omega arith)
+
+        hear-ok : hear-judgement (record-at a c σ j) totals (sheets-at a c j) (map w (points (a .n))) ≡ Accepted
+        unfolding record-at
+        hear-ok =
+            hear-accepted (record-at a c σ j) totals (sheets-at a c j) (sound-at a c A σ (P .sane) j j1 jn) (totals-length j) (sheets-length j)
+            (P .going) in-field-at (map w (points (a .n))) (words-length w (a .n)) (own-word ∙ own ∙ sym (ap (message (record-at a c σ j) totals) current-at))
+            (ap crooked opens ∙ straight) (ap wild-sum opens ∙ tame) (ap split-verdict opens ∙ whole)
+
+        pub hearing-at : accepted (hear-by a c (map w (points (a .n))) (seat a c σ j)) ≡ true
+        unfolding hear-by seat judgement is-accepted
+        hearing-at = rw hear-ok
+
+        seen : hear.heard (record-at a c σ j .n) (record-at a c σ j .round) (map w (points (a .n))) ≡ o
+        unfolding record-at
+        seen = opens
+
+        pub next-at : (τ : Stage) → after (record-at a c σ j) (probe.sheet-words j (probe.dealt s)) o ≡ record-at a c τ j
+            → told.heard a c (map w (points (a .n))) (seat a c σ j) ≡ seat a c τ j
+        unfolding told.heard seat returned next-or
+        next-at τ e = rw (hear-ok, current-at, seen, e)
+
+    -- the whole round
+    pub step-of : (τ : Stage) (w : ℕ → ℕ) (o : Heard)
+        → ((j : ℕ) → 1 ≤ j → j ≤ a .n → message (record-at a c σ j) (at-party j (polynomials a c)) (probe.sheet-words j (probe.dealt s)) ≡ w j)
+        → hear.heard (a .n) (σ .round) (map w (points (a .n))) ≡ o → crooked o ≡ false → wild-sum o ≡ false → split-verdict o ≡ false
+        → ((j : ℕ) → 1 ≤ j → j ≤ a .n → after (record-at a c σ j) (probe.sheet-words j (probe.dealt s)) o ≡ record-at a c τ j)
+        → Step a c σ τ w
+    step-of τ w o says opens straight tame whole turns =
+        record {
+          going = P .going;
+          saying = saying-at;
+          word = λ j j1 jn. word-at j j1 jn ∙ says j j1 jn;
+          hearing = λ j j1 jn. hearing-at j j1 jn w o (sym (says j j1 jn)) opens straight tame whole;
+          next = λ j j1 jn. next-at j j1 jn w o (sym (says j j1 jn)) opens straight tame whole τ (turns j j1 jn);
+        }

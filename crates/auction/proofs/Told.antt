@@ -1,0 +1,57 @@
+-- What is read off the told list of an auction, in closed form. Assumes nothing.
+use mathlib.Core.Path.{_≡_, refl, sym, ap, _∙_}
+use mathlib.Core.Bool.{true}
+use mathlib.Core.List.{List, [], _∷_, _++_, map, append-nil}
+use mathlib.Core.Option.{Option}
+use Prim.Native.Nat.{ℕ, _*_, _≤_}
+use lib.ListN.{length, drop, replicate, length-map}
+use Rattle.party.specs.declared.record.Answer.the-variants.{Cleared}
+use Rattle.auction.specs.Auction.{Auction, IsAuction, clearing-answer}
+use Rattle.auction.specs.Coins.{Coins, InRange}
+use Rattle.auction.specs.Call.{Call}
+use Rattle.auction.specs.Told.{told}
+use Rattle.auction.specs.Run.{own}
+use Rattle.auction.specs.Received.{collect, bid-shares-in, hearing-in, answer-in, bid-shares, hearings, answers, messages, sheets, decisions, verdicts, indices, unused}
+use Rattle.auction.specs.Demands.{all-accepted}
+use Rattle.auction.proofs.Closed.{decision, all-spoken, sheets-at, probes}
+use Rattle.auction.proofs.Calls.{own-append, collect-append, all-accepted-append}
+use Rattle.auction.proofs.Setup.{setup-calls, told-setup, setup-accepted, setup-shares, setup-hearings, setup-answers}
+use Rattle.auction.proofs.SameBids.{bid-words}
+use Rattle.auction.proofs.Rounds.{round-calls, rounds-accepted, rounds-messages, rounds-sheets, rounds-decisions, rounds-bids, rounds-answers}
+
+module _ (a : Auction) (c : Coins) (A : IsAuction a) (C : InRange a c) where
+  pub told-accepted : all-accepted (told a c) ≡ true
+  told-accepted =
+      ap all-accepted (told-setup A C) ∙ all-accepted-append (setup-calls a c) (round-calls a c) (setup-accepted A C) (rounds-accepted a c A C)
+
+  module _ (j : ℕ) (j1 : 1 ≤ j) (jn : j ≤ a .n) where
+    -- the setup, then the rounds
+    reads : {B : Type 0} (f : Call → Option B) (xs ys : List B) → collect f (own j (setup-calls a c)) ≡ xs
+        → collect f (own j (round-calls a c)) ≡ ys → collect f (own j (told a c)) ≡ xs ++ ys
+    reads f xs ys e g =
+        ap (λ (l : List Call). collect f (own j l)) (told-setup A C)
+        ∙ ap (collect f) (own-append j (setup-calls a c) (round-calls a c))
+        ∙ collect-append f (own j (setup-calls a c)) (own j (round-calls a c))
+        ∙ ap (λ l. l ++ collect f (own j (round-calls a c))) e
+        ∙ ap (λ l. xs ++ l) g
+
+    pub told-bid-shares : bid-shares j (told a c) ≡ bid-words j (a .bids) (c .bids)
+    told-bid-shares = reads bid-shares-in _ [] (setup-shares A C j j1 jn) (rounds-bids a c A C j j1 jn) ∙ append-nil _
+
+    told-hearings : hearings j (told a c) ≡ collect hearing-in (own j (round-calls a c))
+    told-hearings = reads hearing-in [] _ (setup-hearings A C j j1 jn) refl
+
+    pub told-messages : messages j (told a c) ≡ all-spoken (a .n) (probes a c)
+    told-messages = ap (map (λ h. h .messages)) told-hearings ∙ rounds-messages a c A C j j1 jn
+
+    pub told-sheets : sheets j (told a c) ≡ replicate (33 * length (probes a c)) (sheets-at a c j)
+    told-sheets = ap (map (λ h. h .sheets)) told-hearings ∙ rounds-sheets a c A C j j1 jn
+
+    pub told-decisions : decisions j (told a c) ≡ map decision (probes a c)
+    told-decisions = ap (collect _) told-hearings ∙ rounds-decisions a c A C j j1 jn
+
+    pub told-many : length (verdicts j (told a c)) ≡ length (probes a c)
+    told-many = length-map (decisions j (told a c)) (λ d. d .1) ∙ ap length told-decisions ∙ length-map (probes a c) decision
+
+    pub told-answers : answers j (told a c) ≡ Cleared (clearing-answer a) (length (probes a c)) ∷ []
+    told-answers = reads answer-in [] _ (setup-answers A C j j1 jn) (rounds-answers a c A C j j1 jn)

@@ -1,0 +1,72 @@
+-- The calls of document 01, each with what it was given, and whether it is accepted. Assumes nothing.
+use mathlib.Core.Bool.{Bool, true, false}
+use mathlib.Core.List.{List, []}
+use Prim.Native.Nat.{ℕ}
+use lib.Dec.{eqb}
+use Rattle.refusal.specs.declared.Judgement.{Judgement}
+use Rattle.refusal.specs.declared.Judgement.the-variants.{Accepted, Refused}
+use Rattle.bid.specs.Split.{split-judgement}
+use Rattle.dealer.specs.Deal.{deal-judgement}
+use Rattle.party.specs.declared.record.Party.{Party}
+use Rattle.party.specs.Open.{open-judgement}
+use Rattle.party.specs.Add.{add-judgement}
+use Rattle.party.specs.Say.{say-judgement}
+use Rattle.party.specs.Hear.{hear-judgement}
+use Rattle.party.specs.Answer.{answer-judgement}
+
+pub data Call : Type 0 where
+  open-call : (n own k : ℕ) (totals : List ℕ) → Call
+  split-call : (n own k : ℕ) (table coins shares : List ℕ) → Call
+  deal-call : (n own : ℕ) (words drawn sheet : List ℕ) → Call
+  add-call : (q : Party) (totals shares : List ℕ) → Call
+  say-call : (q : Party) (totals sheets : List ℕ) → Call
+  hear-call : (q : Party) (totals sheets messages : List ℕ) → Call
+  answer-call : (q : Party) → Call
+
+unfoldable pub judgement : Call → Judgement
+judgement (open-call n own k totals) = open-judgement n own k totals
+judgement (split-call n own k table coins shares) = split-judgement n own k table coins shares
+judgement (deal-call n own words drawn sheet) = deal-judgement n own words drawn sheet
+judgement (add-call q totals shares) = add-judgement q totals shares
+judgement (say-call q totals sheets) = say-judgement q totals sheets
+judgement (hear-call q totals sheets messages) = hear-judgement q totals sheets messages
+judgement (answer-call q) = answer-judgement q
+
+unfoldable pub is-accepted : Judgement → Bool
+is-accepted Accepted = true
+is-accepted (Refused why) = false
+
+abbrev pub accepted : Call → Bool
+accepted c = is-accepted (judgement c)
+
+-- a party's own call, or one of the bidders' and the dealer's
+pub data Whose : Type 0 where
+  party : ℕ → Whose
+  service : Whose
+
+unfoldable pub whose : Call → Whose
+whose (open-call n own k totals) = party own
+whose (split-call n own k table coins shares) = service
+whose (deal-call n own words drawn sheet) = service
+whose (add-call q totals shares) = party (q .own)
+whose (say-call q totals sheets) = party (q .own)
+whose (hear-call q totals sheets messages) = party (q .own)
+whose (answer-call q) = party (q .own)
+
+unfoldable pub of-party : ℕ → Whose → Bool
+of-party j (party i) = eqb i j
+of-party j service = false
+
+unfoldable pub of-service : Whose → Bool
+of-service (party i) = false
+of-service service = true
+
+-- a call but for what it overwrites whole, which may hold anything of the right length
+unfoldable pub given : Call → Call
+given (open-call n own k totals) = open-call n own k []
+given (split-call n own k table coins shares) = split-call n own k table coins []
+given (deal-call n own words drawn sheet) = deal-call n own words drawn []
+given (add-call q totals shares) = add-call q totals shares
+given (say-call q totals sheets) = say-call q totals sheets
+given (hear-call q totals sheets messages) = hear-call q totals sheets messages
+given (answer-call q) = answer-call q

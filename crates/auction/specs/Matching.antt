@@ -1,0 +1,44 @@
+-- The coins of a second auction that go with the first's: with them t pooled parties receive the same, and all parties say the same.
+-- Assumes nothing.
+use mathlib.Core.List.{List, [], _∷_}
+use Prim.Native.Nat.{ℕ, _+_, _-_, _^_}
+use Rattle.fields.proofs.Fields.{amount-field}
+use Rattle.sharing.proofs.Laws.{recolour}
+use Rattle.comparison.specs.Probe as probe
+use Rattle.comparison.specs.Matching.{moved, matched}
+use Rattle.auction.specs.Auction.{Auction, demand, supply}
+use Rattle.auction.specs.Coins.{Coins}
+use Rattle.auction.specs.Demands.{probed}
+
+-- what a probe opens: T = 2^59 + 2^32 - mask + demand - supply
+abbrev pub opening : (demand supply mask : ℕ) → ℕ
+opening demand supply mask = 2 ^ 59 + 2 ^ 32 + demand - (mask + supply)
+
+module _ (xs : List ℕ) where
+  -- each amount's coefficients, recoloured from the first's amount to the second's: the pool at the points xs has the same shares
+  unfoldable pub matched-groups : (table table′ : List ℕ) → List (List ℕ) → List (List ℕ)
+  matched-groups [] table′ gs = []
+  matched-groups (x ∷ table) [] gs = []
+  matched-groups (x ∷ table) (x′ ∷ table′) [] = []
+  matched-groups (x ∷ table) (x′ ∷ table′) (g ∷ gs) = recolour amount-field xs x x′ g ∷ matched-groups table table′ gs
+
+  unfoldable pub matched-bids : (bids bids′ : List (List ℕ)) → List (List (List ℕ)) → List (List (List ℕ))
+  matched-bids [] bids′ gss = []
+  matched-bids (table ∷ bids) [] gss = []
+  matched-bids (table ∷ bids) (table′ ∷ bids′) [] = []
+  matched-bids (table ∷ bids) (table′ ∷ bids′) (gs ∷ gss) = matched-groups table table′ gs ∷ matched-bids bids bids′ gss
+
+module _ (a b : Auction) (xs : List ℕ) where
+  -- the sheet of the probe at index i: its mask moved by the second's surplus minus the first's, so that the same T opens
+  unfoldable pub matched-sheet : (i : ℕ) → probe.Coins → probe.Coins
+  matched-sheet i s =
+      matched xs (opening (demand a i) (supply a i) (s .mask)) (moved (s .mask) (demand a i) (supply a i) (demand b i) (supply b i)) s
+
+  -- one sheet for each probed index, and unused sheets kept
+  unfoldable pub matched-sheets : (indices : List ℕ) → List probe.Coins → List probe.Coins
+  matched-sheets [] ss = ss
+  matched-sheets (i ∷ is) [] = []
+  matched-sheets (i ∷ is) (s ∷ ss) = matched-sheet i s ∷ matched-sheets is ss
+
+  unfoldable pub match-coins : Coins → Coins
+  match-coins c = record { bids = matched-bids xs (a .bids) (b .bids) (c .bids); sheets = matched-sheets (probed a) (c .sheets) }

@@ -1,0 +1,99 @@
+-- What is read off a list of calls: what a party receives, hears and answers. Assumes nothing.
+use mathlib.Core.Bool.{cond}
+use mathlib.Core.List.{List, [], _∷_, _++_, map}
+use mathlib.Core.Option.{Option, none, some}
+use Prim.Native.Nat.{ℕ, _*_}
+use lib.Dec.{eqb}
+use lib.ListN.{length, drop}
+use Rattle.search.specs.Bracket.{middle}
+use Rattle.party.specs.declared.record.Party.{Party}
+use Rattle.party.specs.declared.record.Heard as heard-as
+use Rattle.party.specs.declared.record.Heard.{Heard}
+use Rattle.party.specs.declared.record.Answer as answer-as
+use Rattle.party.specs.declared.record.Answer.{Answer}
+use Rattle.party.specs.Record.{bracket}
+use Rattle.party.specs.Hear.{heard}
+use Rattle.party.specs.Answer.{answer-reply}
+use Rattle.auction.specs.Call.{Call, open-call, split-call, deal-call, add-call, say-call, hear-call, answer-call}
+use Rattle.auction.specs.Run.{own}
+
+-- a party's own calls, refused ones left out, as a reader takes them
+unfoldable pub collect : {A B : Type 0} → (A → Option B) → List A → List B
+collect f [] = []
+collect f (x ∷ xs) = elim (f x) [ none ↦ collect f xs | some y ↦ y ∷ collect f xs ]
+
+unfoldable pub bid-shares-in : Call → Option (List ℕ)
+bid-shares-in (open-call n own k totals) = none
+bid-shares-in (split-call n own k table coins shares) = none
+bid-shares-in (deal-call n own words drawn sheet) = none
+bid-shares-in (add-call q totals shares) = some shares
+bid-shares-in (say-call q totals sheets) = none
+bid-shares-in (hear-call q totals sheets messages) = none
+bid-shares-in (answer-call q) = none
+
+-- a hearing: the record it was given, the sheets it was lent, the n messages
+pub record Hearing : Type 0 where
+  pub party : Party
+  pub sheets : List ℕ
+  pub messages : List ℕ
+
+unfoldable pub hearing-in : Call → Option Hearing
+hearing-in (open-call n own k totals) = none
+hearing-in (split-call n own k table coins shares) = none
+hearing-in (deal-call n own words drawn sheet) = none
+hearing-in (add-call q totals shares) = none
+hearing-in (say-call q totals sheets) = none
+hearing-in (hear-call q totals sheets messages) = some (record { party = q; sheets = sheets; messages = messages })
+hearing-in (answer-call q) = none
+
+unfoldable pub answer-in : Call → Option Answer
+answer-in (open-call n own k totals) = none
+answer-in (split-call n own k table coins shares) = none
+answer-in (deal-call n own words drawn sheet) = none
+answer-in (add-call q totals shares) = none
+answer-in (say-call q totals sheets) = none
+answer-in (hear-call q totals sheets messages) = none
+answer-in (answer-call q) = some (answer-reply q)
+
+-- the bid shares that party j received, in order
+abbrev pub bid-shares : ℕ → List Call → List (List ℕ)
+bid-shares j l = collect bid-shares-in (own j l)
+
+abbrev pub hearings : ℕ → List Call → List Hearing
+hearings j l = collect hearing-in (own j l)
+
+abbrev pub answers : ℕ → List Call → List Answer
+answers j l = collect answer-in (own j l)
+
+-- the messages of all n parties, round by round, as party j heard them
+abbrev pub messages : ℕ → List Call → List (List ℕ)
+messages j l = map (λ h. h .messages) (hearings j l)
+
+-- the sheets that party j was lent, at each hearing
+abbrev pub sheets : ℕ → List Call → List (List ℕ)
+sheets j l = map (λ h. h .sheets) (hearings j l)
+
+unfoldable pub verdict-in : Heard → Option ℕ
+verdict-in (heard-as.the-variants.Sum v) = none
+verdict-in (heard-as.the-variants.Factors d e) = none
+verdict-in (heard-as.the-variants.Verdict v) = some v
+verdict-in heard-as.the-variants.Crooked = none
+
+-- a verdict that was heard, with the index where
+unfoldable pub decision-in : Hearing → Option (ℕ × ℕ)
+decision-in h =
+    elim (verdict-in (heard (h .party .n) (h .party .round) (h .messages))) [ none ↦ none | some v ↦ some (middle (bracket (h .party)), v) ]
+
+abbrev pub decisions : ℕ → List Call → List (ℕ × ℕ)
+decisions j l = collect decision-in (hearings j l)
+
+-- "Verdicts are compared in order, and the number of probes is the number of verdicts heard."
+abbrev pub verdicts : ℕ → List Call → List ℕ
+verdicts j l = map (λ d. d .1) (decisions j l)
+
+abbrev pub indices : ℕ → List Call → List ℕ
+indices j l = map (λ d. d .0) (decisions j l)
+
+-- "Unused sheets are the lent ones after those of the probes made"
+abbrev pub unused : ℕ → List Call → List (List ℕ)
+unused j l = map (drop (127 * length (verdicts j l))) (sheets j l)

@@ -1,0 +1,41 @@
+-- Runs: "Any other order in which every call is given the same is a run too, and saying or asking may be repeated. .. Refused calls,
+-- on any record and buffers, may stand anywhere between". Assumes nothing.
+use mathlib.Core.Bool.{Bool, true, false, cond, _&&_}
+use mathlib.Core.List.{List, [], _∷_, _++_}
+use Prim.Native.Nat.{ℕ}
+use Rattle.party.specs.declared.record.Party.{Party}
+use Rattle.auction.specs.Auction.{Auction}
+use Rattle.auction.specs.Coins.{Coins}
+use Rattle.auction.specs.Call.{Call, say-call, answer-call, accepted, whose, of-party, of-service, given}
+use Rattle.auction.specs.Told.{told}
+
+-- the calls that pass a test, with what they were given
+unfoldable pub select : (Call → Bool) → List Call → List Call
+select test [] = []
+select test (c ∷ cs) = cond (test c) (given c ∷ select test cs) (select test cs)
+
+-- party j's own calls of a list, in order, refused ones left out; and those of the bidders and the dealer
+abbrev pub own : ℕ → List Call → List Call
+own j l = select (λ c. accepted c && of-party j (whose c)) l
+
+abbrev pub services : List Call → List Call
+services l = select (λ c. accepted c && of-service (whose c)) l
+
+-- the second list is the first, in which a saying or an asking may be repeated
+pub data Repeats : List Call → List Call → Type 0 where
+  end : Repeats [] []
+  next : {c : Call} {cs ds : List Call} → Repeats cs ds → Repeats (c ∷ cs) (c ∷ ds)
+  say-again : {q : Party} {totals sheets : List ℕ} {cs ds : List Call}
+      → Repeats (say-call q totals sheets ∷ cs) ds → Repeats (say-call q totals sheets ∷ cs) (say-call q totals sheets ∷ ds)
+  ask-again : {q : Party} {cs ds : List Call} → Repeats (answer-call q ∷ cs) ds → Repeats (answer-call q ∷ cs) (answer-call q ∷ ds)
+
+-- the second list is the first in some order
+pub data Shuffle : List Call → List Call → Type 0 where
+  end : Shuffle [] []
+  next : {c : Call} {cs : List Call} (ds es : List Call) → Shuffle cs (ds ++ es) → Shuffle (c ∷ cs) (ds ++ (c ∷ es))
+
+-- Each party's calls are those of the told list, in its order, so that each is given the record and totals that the last returned or
+-- left; the bidders' and the dealer's are those of the told list, in any order. Whose turn it is between parties is free.
+pub record Run (a : Auction) (c : Coins) (l : List Call) : Type 0 where
+  pub parties : (j : ℕ) → Repeats (own j (told a c)) (own j l)
+  pub others : Shuffle (services (told a c)) (services l)

@@ -1,0 +1,128 @@
+-- The list of calls as document 01 tells it: each call is given what the calls before it returned, wrote, said or left, by the very
+-- definitions that the contracts cite. Assumes nothing.
+use mathlib.Core.Bool.{Bool, true, false, _&&_}
+use mathlib.Core.List.{List, [], _∷_, _++_, map, zip}
+use Prim.Native.Nat.{ℕ, zero, suc, _*_}
+use lib.ListN.{replicate}
+use Rattle.sharing.specs.Scheme.{points}
+use Rattle.search.specs.Bracket.{over}
+use Rattle.search.specs.Limit.{limit}
+use Rattle.comparison.specs.Probe as probe
+use Rattle.bid.specs.Split.{split-left}
+use Rattle.dealer.specs.Deal.{deal-left}
+use Rattle.party.specs.declared.record.Party.{Party}
+use Rattle.party.specs.declared.record.Reply as reply
+use Rattle.party.specs.declared.record.Reply.{Reply}
+use Rattle.party.specs.declared.record.Said as said
+use Rattle.party.specs.declared.record.Said.{Said}
+use Rattle.party.specs.Record.{bracket}
+use Rattle.party.specs.Open.{fresh, open-reply, open-left}
+use Rattle.party.specs.Add.{add-reply, add-left}
+use Rattle.party.specs.Say.{say-reply}
+use Rattle.party.specs.Hear.{hear-reply}
+use Rattle.auction.specs.Auction.{Auction}
+use Rattle.auction.specs.Coins.{Coins, flat, sheet-words, sheet-bytes}
+use Rattle.auction.specs.Call.{Call, open-call, split-call, deal-call, add-call, say-call, hear-call, answer-call}
+
+-- the record that a call returned or, refused, left
+unfoldable pub returned : Party → Reply → Party
+returned q (reply.the-variants.Next r) = r
+returned q (reply.the-variants.Refused why) = q
+
+unfoldable pub word : Said → ℕ
+word (said.the-variants.Message w) = w
+word (said.the-variants.Refused why) = 0
+
+-- "Each of these calls for a keeper gets the book and record that the last of them for it returned or left"
+pub record Seat : Type 0 where
+  pub party : Party
+  pub totals : List ℕ
+  pub sheets : List ℕ
+
+unfoldable pub all-over : List Seat → Bool
+all-over [] = true
+all-over (s ∷ ss) = over (bracket (s .party)) && all-over ss
+
+module _ (a : Auction) (c : Coins) where
+  -- a slice of 2k words, to be written
+  abbrev pub blank : List ℕ
+  blank = replicate (2 * a .k) 0
+
+  -- "First, n sessions are opened, each with its own book and record."
+  unfoldable pub seated : ℕ → Seat
+  seated j =
+      record {
+        party = returned (fresh (a .n) j (a .k)) (open-reply (a .n) j (a .k) blank);
+        totals = open-left (a .n) j (a .k) blank;
+        sheets = [];
+      }
+
+  -- "For each bid in turn the desk writes every keeper's bundle from the same draws, and each keeper adds its own."
+  unfoldable pub shares-for : List ℕ × List (List ℕ) → Seat → List ℕ
+  shares-for b s = split-left (a .n) (s .party .own) (a .k) (b .0) (flat (b .1)) blank
+
+  unfoldable pub split-for : List ℕ × List (List ℕ) → Seat → Call
+  split-for b s = split-call (a .n) (s .party .own) (a .k) (b .0) (flat (b .1)) blank
+
+  unfoldable pub add-by : List ℕ × List (List ℕ) → Seat → Call
+  add-by b s = add-call (s .party) (s .totals) (shares-for b s)
+
+  unfoldable pub added : List ℕ × List (List ℕ) → Seat → Seat
+  added b s =
+      record {
+        party = returned (s .party) (add-reply (s .party) (s .totals) (shares-for b s));
+        totals = add-left (s .party) (s .totals) (shares-for b s);
+        sheets = s .sheets;
+      }
+
+  -- "The dealer writes every keeper's sheets, from one set of draws per probe."
+  unfoldable pub deal-for : Seat → probe.Coins → Call
+  deal-for s k = deal-call (a .n) (s .party .own) (sheet-words k) (sheet-bytes k) (replicate 127 0)
+
+  unfoldable pub sheet-for : Seat → probe.Coins → List ℕ
+  sheet-for s k = deal-left (a .n) (s .party .own) (sheet-words k) (sheet-bytes k) (replicate 127 0)
+
+  unfoldable pub dealt : Seat → Seat
+  dealt s = record { party = s .party; totals = s .totals; sheets = flat (map (sheet-for s) (c .sheets)) }
+
+  -- "Then, round after round, each keeper says its word and all n words go to each keeper's hearing"
+  unfoldable pub say-by : Seat → Call
+  say-by s = say-call (s .party) (s .totals) (s .sheets)
+
+  unfoldable pub word-by : Seat → ℕ
+  word-by s = word (say-reply (s .party) (s .totals) (s .sheets))
+
+  unfoldable pub hear-by : List ℕ → Seat → Call
+  hear-by words s = hear-call (s .party) (s .totals) (s .sheets) words
+
+  unfoldable pub heard : List ℕ → Seat → Seat
+  heard words s =
+      record {
+        party = returned (s .party) (hear-reply (s .party) (s .totals) (s .sheets) words);
+        totals = s .totals;
+        sheets = s .sheets;
+      }
+
+  unfoldable pub ask : Seat → Call
+  ask s = answer-call (s .party)
+
+  -- ".. until over; then each is asked for the answer"
+  unfoldable pub from-rounds : ℕ → List Seat → List Call
+  from-rounds zero ss = map ask ss
+  from-rounds (suc fuel) ss =
+      let words = map word-by ss in
+      elim (all-over ss) [
+        | true ↦ map ask ss
+        | false ↦ map say-by ss ++ (map (hear-by words) ss ++ from-rounds fuel (map (heard words) ss))
+      ]
+
+  unfoldable pub deals : List Seat → List Call
+  deals [] = []
+  deals (s ∷ ss) = map (deal-for s) (c .sheets) ++ deals ss
+
+  unfoldable pub from-bids : List (List ℕ × List (List ℕ)) → List Seat → List Call
+  from-bids [] ss = deals ss ++ from-rounds (33 * limit (a .k)) (map dealt ss)
+  from-bids (b ∷ bs) ss = map (split-for b) ss ++ (map (add-by b) ss ++ from-bids bs (map (added b) ss))
+
+  unfoldable pub told : List Call
+  told = map (λ j. open-call (a .n) j (a .k) blank) (points (a .n)) ++ from-bids (zip (a .bids) (c .bids)) (map seated (points (a .n)))

@@ -1,0 +1,3 @@
+-- Splitting a bid: what the contracts cite.
+pub mod Table
+pub mod Split

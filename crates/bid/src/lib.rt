@@ -1,0 +1,103 @@
+// Splitting a bid among the parties (the paper's desk): one party's share of every amount.
+ghost use mathlib.Core.Path.{_≡_};
+ghost use Prim.Native.Nat.{_*_};
+ghost use lib.ListN.{length};
+ghost use Rattle.bid.specs.Table.{never-rising, never-falling};
+ghost use Rattle.bid.specs.Split.{split-judgement, bid-shares, split-left};
+use refusal::Judgement;
+use refusal::Refusal;
+use sharing::all_below;
+use sharing::share_amount;
+use sharing::threshold;
+
+const P: u64 = (1 << 61) - 1;
+
+// Amounts are tenths of an hour, and no amount is larger.
+const MOST: u64 = 4_194_303;
+
+// Writes a party's shares of the 2k amounts, each made with t coins of its own. Nothing is written
+// unless all of the call is accepted.
+pub fn split(
+    n: u64,
+    own: u64,
+    k: u64,
+    table: &[u64],
+    coins: &[u64],
+    shares: &mut [u64],
+) -> Judgement
+    ensures { λ r. ⌜ (r ≡ split-judgement n own k (now (table .entry)) (now (coins .entry)) (now (shares .entry)))
+        × (now (shares .exit) ≡ split-left n own k (now (table .entry)) (now (coins .entry)) (now (shares .entry))) ⌝ }
+{
+    let judgement = judge(n, own, k, table, coins, &shares[..]);
+    if let Judgement::Accepted = judgement {
+        write(threshold(n) as usize, own, table, coins, shares);
+    }
+    judgement
+}
+
+// The first refusal that applies. The lengths are computed only of an n and a k in their ranges.
+fn judge(n: u64, own: u64, k: u64, table: &[u64], coins: &[u64], shares: &[u64]) -> Judgement
+    ensures { λ r. ⌜ r ≡ split-judgement n own k (now (table .entry)) (now (coins .entry)) (now (shares .entry)) ⌝ }
+{
+    if !((3 <= n) & (n <= 9) & (1 <= own) & (own <= n) & ((1 <= k) & (k <= 1024))) {
+        return Judgement::Refused(Refusal::OutOfRange);
+    }
+    let entries = 2 * k as usize;
+    let t = threshold(n) as usize;
+    if !((table.len() == entries) & (coins.len() == entries * t) & (shares.len() == entries)) {
+        return Judgement::Refused(Refusal::WrongLength);
+    }
+    if !all_below(coins, P) {
+        return Judgement::Refused(Refusal::CoinOutOfRange);
+    }
+    if !all_below(table, MOST + 1) {
+        return Judgement::Refused(Refusal::AmountTooLarge);
+    }
+    let half = k as usize;
+    if !(never_rising(&table[..half]) & never_falling(&table[half..])) {
+        return Judgement::Refused(Refusal::NotMonotone);
+    }
+    Judgement::Accepted
+}
+
+fn never_rising(demand: &[u64]) -> bool
+    ensures { λ r. ⌜ r ≡ never-rising (now (demand .entry)) ⌝ }
+{
+    let mut i = 0;
+    while i + 1 < demand.len() {
+        if demand[i] < demand[i + 1] {
+            return false;
+        }
+        i += 1;
+    }
+    true
+}
+
+fn never_falling(supply: &[u64]) -> bool
+    ensures { λ r. ⌜ r ≡ never-falling (now (supply .entry)) ⌝ }
+{
+    let mut i = 0;
+    while i + 1 < supply.len() {
+        if supply[i + 1] < supply[i] {
+            return false;
+        }
+        i += 1;
+    }
+    true
+}
+
+// Each amount takes the next t coins.
+fn write(t: usize, own: u64, table: &[u64], coins: &[u64], shares: &mut [u64])
+    requires { ⌜ (length (now coins) ≡ length (now table) * t) × (length (now shares) ≡ length (now table)) ⌝ }
+    ensures { λ _. ⌜ now (shares .exit) ≡ bid-shares t own (now (table .entry)) (now (coins .entry)) ⌝ }
+{
+    let mut at = 0;
+    let mut i = 0;
+    while i < table.len() {
+        let amount = table[i];
+        let next = at + t;
+        shares[i] = share_amount(amount, &coins[at..next], own).0;
+        at = next;
+        i += 1;
+    }
+}

@@ -1,0 +1,9 @@
+-- Laws of one comparison.
+pub mod Values
+pub mod Carries
+pub mod Dealt
+pub mod Promise
+pub mod Agreement
+pub mod Matching
+pub mod Only
+pub mod Hiding

@@ -1,0 +1,5 @@
+-- One comparison: what the contracts and the laws cite.
+pub mod Local
+pub mod Rounds
+pub mod Probe
+pub mod Matching

@@ -1,0 +1,2 @@
+-- Laws of dealing, which other crates cite, and lemmas that its proofs share.
+pub mod Laws

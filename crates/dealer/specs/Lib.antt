@@ -1,0 +1,2 @@
+-- Dealing one probe's preprocessing: what the contracts cite.
+pub mod Deal

@@ -1,0 +1,116 @@
+// Dealing the preprocessing of one probe (the paper's dealer): one party's shares of the mask, of
+// the mask's bits, and of the triples that products are made with.
+ghost use mathlib.Core.Path.{_≡_};
+ghost use Prim.Native.Nat.{_+_, _*_, _≤_, _<_};
+ghost use lib.ListN.{length};
+ghost use Rattle.dealer.specs.Deal.{deal-judgement, byte-shares, mask-bits, triple, triples, preprocessing, deal-left};
+use fields::BitShare;
+use refusal::Judgement;
+use refusal::Refusal;
+use sharing::all_below;
+use sharing::share_amount;
+use sharing::share_byte;
+use sharing::threshold;
+
+const P: u64 = (1 << 61) - 1;
+
+// A mask is below this.
+const MASKS: u64 = 1 << 58;
+
+// How many words a party gets.
+const SHEET: usize = 127;
+
+// Writes a party's 127 words of preprocessing. Nothing is written unless all of the call is
+// accepted.
+pub fn deal(n: u64, own: u64, words: &[u64], bytes: &[u8], sheet: &mut [u64]) -> Judgement
+    ensures { λ r. ⌜ (r ≡ deal-judgement n own (now (words .entry)) (now (bytes .entry)) (now (sheet .entry)))
+        × (now (sheet .exit) ≡ deal-left n own (now (words .entry)) (now (bytes .entry)) (now (sheet .entry))) ⌝ }
+{
+    let judgement = judge(n, own, words, bytes, &sheet[..]);
+    if let Judgement::Accepted = judgement {
+        write(threshold(n) as usize, own, words, bytes, sheet);
+    }
+    judgement
+}
+
+// The first refusal that applies. The lengths are computed only of an n in its range.
+fn judge(n: u64, own: u64, words: &[u64], bytes: &[u8], sheet: &[u64]) -> Judgement
+    ensures { λ r. ⌜ r ≡ deal-judgement n own (now (words .entry)) (now (bytes .entry)) (now (sheet .entry)) ⌝ }
+{
+    if !((3 <= n) & (n <= 9) & (1 <= own) & (own <= n)) {
+        return Judgement::Refused(Refusal::OutOfRange);
+    }
+    let t = threshold(n) as usize;
+    if !((words.len() == 1 + t) & (bytes.len() == 126 * t + 62) & (sheet.len() == SHEET)) {
+        return Judgement::Refused(Refusal::WrongLength);
+    }
+    let mask = words[0];
+    if !((mask < MASKS) & all_below(&words[1..], P)) {
+        return Judgement::Refused(Refusal::CoinOutOfRange);
+    }
+    Judgement::Accepted
+}
+
+// The mask's share, the shares of its bits, then those of the triples.
+fn write(t: usize, own: u64, words: &[u64], bytes: &[u8], sheet: &mut [u64])
+    requires { ⌜ (own < 256) × (length (now words) ≡ 1 + t) × (length (now bytes) ≡ 126 * t + 62) × (length (now sheet) ≡ 127) ⌝ }
+    ensures { λ _. ⌜ now (sheet .exit) ≡ preprocessing t own (now (words .entry)) (now (bytes .entry)) ⌝ }
+{
+    let mask = words[0];
+    sheet[0] = share_amount(mask, &words[1..], own).0;
+    let point = own as u8;
+    let start = 33 * t;
+    write_bits(t, point, mask, bytes, &mut sheet[1..34]);
+    write_triples(t, point, &bytes[start..], &mut sheet[34..]);
+}
+
+// The shares of the mask's lowest 33 bits, lowest first.
+fn write_bits(t: usize, point: u8, mask: u64, drawn: &[u8], shares: &mut [u64])
+    requires { ⌜ (33 * t ≤ length (now drawn)) × (length (now shares) ≡ 33) ⌝ }
+    ensures { λ _. ⌜ now (shares .exit) ≡ byte-shares t point (mask-bits mask) (now (drawn .entry)) ⌝ }
+{
+    let mut rest = mask;
+    let mut at = 0;
+    let mut i = 0;
+    while i < 33 {
+        let next = at + t;
+        let bit = (rest & 1) as u8;
+        shares[i] = share_byte(bit, &drawn[at..next], point).0 as u64;
+        rest = rest >> 1;
+        at = next;
+        i += 1;
+    }
+}
+
+// The shares of 31 triples.
+fn write_triples(t: usize, point: u8, drawn: &[u8], shares: &mut [u64])
+    requires { ⌜ (31 * (2 + 3 * t) ≤ length (now drawn)) × (length (now shares) ≡ 93) ⌝ }
+    ensures { λ _. ⌜ now (shares .exit) ≡ triples t point 31 (now (drawn .entry)) ⌝ }
+{
+    let step = 2 + 3 * t;
+    let mut at = 0;
+    let mut i = 0;
+    while i < 31 {
+        let from = 3 * i;
+        let to = from + 3;
+        write_triple(t, point, &drawn[at..], &mut shares[from..to]);
+        at = at + step;
+        i += 1;
+    }
+}
+
+// The shares of alpha, beta and their product gamma.
+fn write_triple(t: usize, point: u8, drawn: &[u8], shares: &mut [u64])
+    requires { ⌜ (2 + 3 * t ≤ length (now drawn)) × (length (now shares) ≡ 3) ⌝ }
+    ensures { λ _. ⌜ now (shares .exit) ≡ triple t point (now (drawn .entry)) ⌝ }
+{
+    let alpha = drawn[0];
+    let beta = drawn[1];
+    let gamma = BitShare(alpha).mul(BitShare(beta)).0;
+    let first = 2 + t;
+    let second = first + t;
+    let third = second + t;
+    shares[0] = share_byte(alpha, &drawn[2..first], point).0 as u64;
+    shares[1] = share_byte(beta, &drawn[first..second], point).0 as u64;
+    shares[2] = share_byte(gamma, &drawn[second..third], point).0 as u64;
+}

@@ -1,0 +1,211 @@
+-- The record after a heard round: by the kind of round, its count of probes, and that it is sound. Assumes nothing.
+use mathlib.Core.Path.{_≡_, refl, sym}
+use mathlib.Core.Bool.{Bool, true, false, cond}
+use mathlib.Core.List.{List}
+use Prim.Native.Nat.{ℕ, _+_, _-_, _*_, _^_, _≤_, _<_}
+use native.Mathlib.Nat.{add-zero, pow-suc, mul-le-mul-right}
+use native.Mathlib.Numerals.{add-one}
+use native.Mathlib.Decide.{decLe}
+use native.Mathlib.Omega.{arith}
+use lib.Dec.{eqb}
+use lib.ListN.{length, getD}
+use Rattle.fields.specs.Byte.{bytes}
+use Rattle.fields.proofs.Fields.{byte-field}
+use Rattle.comparison.specs.Local.{on-shares}
+use Rattle.comparison.specs.Rounds.{bit, differing, first-carry, next-carry}
+use Rattle.search.specs.declared.Bracket.{Bracket}
+use Rattle.search.specs.Bracket.{over, middle, raise, lower, step}
+use Rattle.search.specs.Limit.{limit}
+use Rattle.search.proofs.Logarithm.{limit-law}
+use Rattle.search.proofs.Narrowing.{over-false, middle-above, middle-below}
+use Rattle.party.specs.declared.record.Party.{Party}
+use Rattle.party.specs.declared.record.Heard.{Heard}
+use Rattle.party.specs.declared.record.Heard.the-variants.{Sum, Factors, Verdict, Crooked}
+use Rattle.party.specs.Record.{bracket}
+use Rattle.party.specs.Open.{fresh}
+use Rattle.party.specs.Add.{counted}
+use Rattle.party.specs.Say.{current, bit-share, triple-share}
+use Rattle.party.specs.Hear.{heard, in-round, decided, after, Possible}
+use Rattle.party.proofs.Soundness.{Sound, probing}
+use Rattle.party.proofs.Words.{all-below-of, byte-at, current-long}
+use Rattle.party.proofs.Heard.{heard-possible}
+use Rattle.party.proofs.Hears.{Admitted, Hears}
+
+-- ---- by the kind of round
+
+module _ (q : Party) (sheet : List ℕ) where
+  pub after-sum : (v : ℕ) → after q sheet (Sum v) ≡ in-round q 2 v (first-carry (on-shares bytes) v (bit-share sheet 1))
+  unfolding after
+  after-sum v = refl
+
+  pub after-factors : (d e : ℕ) → after q sheet (Factors d e)
+      ≡ in-round q (q .round + 1) (q .sum)
+      (next-carry (on-shares bytes) (q .sum) (q .round) d e (triple-share sheet (q .round) 0) (triple-share sheet (q .round) 1) (triple-share sheet (q .round) 2))
+  unfolding after
+  after-factors d e = refl
+
+  pub after-verdict : (v : ℕ) → after q sheet (Verdict v) ≡ decided q (step (bracket q) v)
+  unfolding after
+  after-verdict v = refl
+
+-- ---- "Probes done grows by one" with each verdict, and with nothing else
+
+abbrev pub verdicts : Heard → ℕ
+verdicts (Sum v) = 0
+verdicts (Factors d e) = 0
+verdicts (Verdict v) = 1
+verdicts Crooked = 0
+
+pub probes-after : (q : Party) (sheet : List ℕ) (h : Heard) → after q sheet h .probes ≡ q .probes + verdicts h
+unfolding after
+probes-after q sheet (Sum v) = sym (add-zero _)
+probes-after q sheet (Factors d e) = sym (add-zero _)
+probes-after q sheet (Verdict v) = refl
+probes-after q sheet Crooked = sym (add-zero _)
+
+-- ---- the carry's share is a byte
+
+bit-lt : (i T : ℕ) → bit i T < 256
+unfolding bit
+bit-lt i T = omega arith
+
+pub first-carry-lt : (T b : ℕ) → b < 256 → first-carry (on-shares bytes) T b < 256
+unfolding first-carry differing
+first-carry-lt T b h =
+    let t = bit-lt 1 T in
+    byte-field .ring .add-lt _ _ t (byte-field .ring .mul-lt _ _ t (byte-field .ring .add-lt _ _ t h))
+
+pub next-carry-lt : (T i d e alpha beta gamma : ℕ) → d < 256 → e < 256 → alpha < 256 → beta < 256 → gamma < 256
+    → next-carry (on-shares bytes) T i d e alpha beta gamma < 256
+unfolding next-carry
+next-carry-lt T i d e alpha beta gamma hd he ha hb hg =
+    let R = byte-field .ring in
+    R .add-lt _ _ (bit-lt i T) (R .add-lt _ _ (R .mul-lt d e hd he) (R .add-lt _ _ (R .add-lt _ _ hg (R .mul-lt d beta hd hb)) (R .mul-lt e alpha he ha)))
+
+-- ---- a verdict keeps the bracket inside the list, and halves it
+
+module _ (b : Bracket) (gap : b .lo + 1 < b .hi) (v : ℕ) where
+  step-apart : step b v .lo < step b v .hi
+  unfolding step raise lower
+  step-apart = split (eqb v 1)
+    where
+      split : (t : Bool) → cond t (raise b) (lower b) .lo < cond t (raise b) (lower b) .hi
+      split true = middle-below b gap
+      split false = middle-above b gap
+
+  step-inside : step b v .hi ≤ b .hi
+  unfolding step raise lower
+  step-inside = split (eqb v 1)
+    where
+      split : (t : Bool) → cond t (raise b) (lower b) .hi ≤ b .hi
+      split true = omega arith
+      split false = omega (arith, middle-below b gap)
+
+  step-half : (step b v .hi - step b v .lo - 1) * 2 ≤ b .hi - b .lo - 1
+  unfolding step raise lower middle
+  step-half = split (eqb v 1)
+    where
+      split : (t : Bool) → (cond t (raise b) (lower b) .hi - cond t (raise b) (lower b) .lo - 1) * 2 ≤ b .hi - b .lo - 1
+      split true = omega arith
+      split false = omega arith
+
+-- The distance of lo and hi is at most (k + 1) / 2^probes, rounded up. Every run keeps this; an arbitrary sound record need not.
+abbrev pub Narrow : Party → Type 0
+Narrow q = (q .hi - q .lo - 1) * 2 ^ q .probes ≤ q .k
+
+pub narrow-fresh : (n own k : ℕ) → Narrow (fresh n own k)
+unfolding fresh
+narrow-fresh n own k = omega arith
+
+pub narrow-counted : (q : Party) → Narrow q → Narrow (counted q)
+unfolding counted
+narrow-counted q h = h
+
+-- so it is over after as many probes as the limit
+narrow-ended : (m d k : ℕ) → d * 2 ^ m ≤ k → m ≡ limit k → d ≡ 0
+narrow-ended m d k h e =
+    elim (decLe 1 d) [
+      | yes le ↦
+          let g : d * 2 ^ limit k ≤ k = rw e at h in
+          absurd (omega (arith, mul-le-mul-right (2 ^ limit k) le, limit-law k))
+      | no gt ↦ omega arith
+    ]
+
+-- ---- the next record is sound
+
+module _ (q : Party) (sheet : List ℕ) (s : Sound q) (going : over (bracket q) ≡ false) where
+  gap : q .lo + 1 < q .hi
+  gap = over-false (bracket q) (s .apart) going
+
+  narrow-after : (h : Heard) → Narrow q → Narrow (after q sheet h)
+  unfolding after
+  narrow-after (Sum v) n = n
+  narrow-after (Factors d e) n = n
+  narrow-after (Verdict v) n =
+      rw (add-one, pow-suc) (omega (arith, n, mul-le-mul-right (2 ^ q .probes) (step-half (bracket q) gap v)))
+  narrow-after Crooked n = n
+
+  module _ (bytes-at : (i : ℕ) → 1 ≤ i → i < 127 → getD sheet i 0 < 256) where
+    sound-after : (h : Heard) → Possible (q .round) h → Admitted h → Narrow (after q sheet h) → Sound (after q sheet h)
+    unfolding after
+    sound-after (Sum v) p a n =
+        record {
+          listed = s .listed;
+          bids = s .bids;
+          apart = s .apart;
+          inside = s .inside;
+          round-least = omega arith;
+          round-most = omega arith;
+          sum = omega (arith, a .1);
+          carry = omega (arith, first-carry-lt v (bit-share sheet 1) (bytes-at 1 (omega arith) (omega arith)));
+          probes = s .probes;
+          ended = s .ended;
+        }
+    sound-after (Factors d e) p a n =
+        record {
+          listed = s .listed;
+          bids = s .bids;
+          apart = s .apart;
+          inside = s .inside;
+          round-least = omega arith;
+          round-most = omega (arith, p .1);
+          sum = s .sum;
+          carry =
+              omega (
+                arith,
+                next-carry-lt (q .sum) (q .round) d e _ _ _ (p .2) (p .3) (bytes-at (34 + 3 * (q .round - 2) + 0) (omega arith) (omega (arith, p .1)))
+                    (bytes-at (34 + 3 * (q .round - 2) + 1) (omega arith) (omega (arith, p .1)))
+                    (bytes-at (34 + 3 * (q .round - 2) + 2) (omega arith) (omega (arith, p .1))),
+              );
+          probes = s .probes;
+          ended = s .ended;
+        }
+    sound-after (Verdict v) p a n =
+        let apart = step-apart (bracket q) gap v in
+        record {
+          listed = s .listed;
+          bids = s .bids;
+          apart = apart;
+          inside = omega (arith, s .inside, step-inside (bracket q) gap v);
+          round-least = omega arith;
+          round-most = omega arith;
+          sum = omega arith;
+          carry = omega arith;
+          probes = omega (arith, probing q s going .sheet-left);
+          ended = λ e. omega (arith, narrow-ended (q .probes + 1) _ (q .k) n e);
+        }
+    sound-after Crooked p a n = absurd a
+
+-- "The board steps a keeper's record by each heard round": it stays sound.
+pub hears-sound : (q : Party) (totals sheets messages : List ℕ) → Hears q totals sheets messages → Narrow q
+    → Sound (after q (current q sheets) (heard (q .n) (q .round) messages)) × Narrow (after q (current q sheets) (heard (q .n) (q .round) messages))
+hears-sound q totals sheets messages h n =
+    let f = h .says in
+    let sheet : List ℕ = current q sheets in
+    let opening = heard (q .n) (q .round) messages in
+    let long : length sheet ≡ 127 = current-long q sheets (probing q (f .sound) (f .going)) (f .sheets-long) in
+    let next = narrow-after q sheet (f .sound) (f .going) opening n in (
+      sound-after q sheet (f .sound) (f .going) (λ i l m. byte-at sheet i (all-below-of 256 _ (f .in-field .bytes)) l (omega arith)) opening
+          (heard-possible (q .n) (q .round) messages (f .sound .round-least)) (h .opening) next,
+      next,
+    )

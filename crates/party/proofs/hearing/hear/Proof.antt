@@ -1,0 +1,207 @@
+-- `hear` meets its contract: what `say` refuses comes first, and each later return answers one test of the messages. Assumes nothing.
+use mathlib.Core.Path.{_≡_, sym, ap, ap₂, _∙_}
+use mathlib.Core.Bool.{Bool, true, false, not, _&&_}
+use mathlib.Core.List.{List}
+use Prim.Native.Nat.{ℕ, _-_}
+use native.Mathlib.Omega.{arith}
+use lib.Dec.{eqb}
+use lib.ListN.{length, drop, getD}
+use borrow.Author.Tests.{eqb-true, eq-eqb, ne-eqb}
+use Rattle.refusal.specs.Judging.{judged}
+use Rattle.refusal.specs.declared.Judgement.the-variants.{Accepted}
+use Rattle.sharing.specs.Sizes.{long}
+use Rattle.party.specs.declared.record.Party.{Party}
+use Rattle.party.specs.declared.record.Heard.{Heard}
+use Rattle.party.specs.declared.record.Reply.the-variants.{Next}
+use Rattle.party.specs.Record.{sound}
+use Rattle.party.specs.Say.{say-judgement, message, current}
+use Rattle.party.specs.Hear.{heard, crooked, wild-sum, split-verdict, hear-judgement, after}
+use Rattle.party.proofs.Judging.{refuses, passes, all-passed, next-accepted, next-refused}
+use Rattle.party.proofs.Soundness.{sound-of, probing}
+use Rattle.party.proofs.Words.{all-below-of, current-there, current-long}
+use Rattle.party.proofs.Laws.{Says, says}
+use Rattle.party.proofs.Heard.{heard-possible}
+use Rattle.party.proofs.Hears.{of-messages, short-of-messages, not-said, by-messages, was-said, was-refused, enough-messages}
+use borrow.Author.Needs.{needs}
+use Rattle.party.proofs.hearing.hear.Statement.{statement}
+use Rattle.party.proofs.hearing.hear.Tie as tie
+
+-- the record is unsound, or there are as many messages as parties
+enough : (c : tie.Else1) → sound (c .before .before .before .before .before .before .args .q) && not (long (c .before .before .before .before .before .before .args .q .n) (c .before .before .before .before .before .before .args .messages .now)) ≡ false
+enough c = rw (sym (c .before .before .sound .ensures)) (c .if1 .left)
+
+-- where the party has said its own message
+module _ (c : tie.After-known-told) where
+  abbrev start : tie.Start
+  start = c .before .before .before .before .before .before .before .before .before .before
+
+  abbrev q : Party
+  q = start .args .q
+
+  abbrev totals : List ℕ
+  totals = start .args .totals .now
+
+  abbrev sheets : List ℕ
+  sheets = start .args .sheets .now
+
+  abbrev messages : List ℕ
+  messages = start .args .messages .now
+
+  own-said : (say-judgement q totals sheets ≡ Accepted) × (c .before .word .given .0 .0 ≡ message q totals (current q sheets))
+  own-said = was-said (say-judgement q totals sheets) _ _ (sym (c .before .before .before .say .ensures) ∙ c .before .word .given .1)
+
+  facts : Says q totals sheets
+  facts = says q totals sheets (own-said .0)
+
+  many : length messages ≡ q .n
+  many = eqb-true (length messages) (q .n) (enough-messages (sound q) _ (sound-of q (facts .sound)) (enough (c .before .before .before .before)))
+
+  listening : hear-judgement q totals sheets messages ≡ judged (of-messages q totals sheets messages)
+  listening = by-messages q totals sheets messages (enough (c .before .before .before .before)) (own-said .0)
+
+-- where the messages have been opened
+module _ (c : tie.After-heard) where
+  abbrev told : tie.After-known-told
+  told = c .before .before .before
+
+  agreed : not (eqb (getD (messages told) (q told .own - 1) 0) (message (q told) (totals told) (current (q told) (sheets told)))) ≡ false
+  agreed = ap not (eq-eqb _ _ (c .before .if2 .left ∙ own-said told .1))
+
+  -- what a test of the opening gave
+  seen : (test : Heard → Bool) (r b : Bool) → r ≡ test (c .heard .result) → r ≡ b → test (heard (q told .n) (q told .round) (messages told)) ≡ b
+  seen test r b e f = ap test (sym (c .heard .ensures)) ∙ sym e ∙ f
+
+straight : (c : tie.Else3) → crooked (heard (q (told (c .before .before)) .n) (q (told (c .before .before)) .round) (messages (told (c .before .before)))) ≡ false
+straight c = seen (c .before .before) crooked _ false (c .before .crooked .ensures) (c .if3 .left)
+
+tame : (c : tie.Else4) → wild-sum (heard (q (told (c .before .before .before .before)) .n) (q (told (c .before .before .before .before)) .round) (messages (told (c .before .before .before .before)))) ≡ false
+tame c = seen (c .before .before .before .before) wild-sum _ false (c .before .wild-sum .ensures) (c .if4 .left)
+
+whole : (c : tie.Else5) → split-verdict (heard (q (told (c .before .before .before .before .before .before)) .n) (q (told (c .before .before .before .before .before .before)) .round) (messages (told (c .before .before .before .before .before .before)))) ≡ false
+whole c = seen (c .before .before .before .before .before .before) split-verdict _ false (c .before .split-verdict .ensures) (c .if5 .left)
+
+sound-requires : tie.Need-sound-requires
+sound-requires c κs = search needs
+
+returns : tie.Need-returns
+returns c =
+    let a = c .before .before .before .before .before .before .args in
+    sym (next-refused _ _ _ (short-of-messages (a .q) (a .totals .now) (a .sheets .now) (a .messages .now) (rw (sym (c .before .before .sound .ensures)) (c .if1 .taken))))
+
+say-requires : tie.Need-say-requires
+say-requires c κs = search needs
+
+enum-known-word : tie.Need-enum-known-word
+enum-known-word c = search needs
+
+enum-known-why : tie.Need-enum-known-why
+enum-known-why c = search needs
+
+returns-2 : tie.Need-returns-2
+returns-2 c =
+    let e = c .before .before .before .before in
+    let a = e .before .before .before .before .before .before .args in
+    sym
+    (next-refused _ _ _
+    (not-said (a .q) (a .totals .now) (a .sheets .now) (a .messages .now) (enough e) _
+    (was-refused (say-judgement (a .q) (a .totals .now) (a .sheets .now)) _ _ (sym (c .before .before .before .say .ensures) ∙ c .before .why .given .1))))
+
+sub-own : tie.Need-sub-own
+sub-own c = facts c .sound .listed .own-least
+
+mul-word : tie.Need-mul-word
+mul-word c = omega (arith, facts c .sound .listed .own-most, facts c .sound .listed .parties-most)
+
+shared-slice-read-word : tie.Need-shared-slice-read-word
+shared-slice-read-word c =
+    let l = facts (c .before) .sound .listed in
+    omega (arith, many (c .before), l .own-least, l .own-most)
+
+returns-3 : tie.Need-returns-3
+returns-3 c =
+    let k = c .before .before in
+    sym (next-refused _ _ _ (listening k ∙ refuses _ _ _ (ap not (ne-eqb _ _ (λ e. c .if2 .taken (e ∙ sym (own-said k .1)))))))
+
+heard-requires : tie.Need-heard-requires
+heard-requires c κs = search needs
+
+crooked-requires : tie.Need-crooked-requires
+crooked-requires c κs = search needs
+
+returns-4 : tie.Need-returns-4
+returns-4 c =
+    let h = c .before .before in
+    sym (next-refused _ _ _ (listening (told h) ∙ passes _ _ _ (agreed h) ∙ refuses _ _ _ (seen h crooked _ true (c .before .crooked .ensures) (c .if3 .taken))))
+
+wild-sum-requires : tie.Need-wild-sum-requires
+wild-sum-requires c κs = search needs
+
+returns-5 : tie.Need-returns-5
+returns-5 c =
+    let h = c .before .before .before .before in
+    sym
+    (next-refused _ _ _
+    (listening (told h) ∙ passes _ _ _ (agreed h) ∙ passes _ _ _ (straight (c .before .before)) ∙ refuses _ _ _ (seen h wild-sum _ true (c .before .wild-sum .ensures) (c .if4 .taken))))
+
+split-verdict-requires : tie.Need-split-verdict-requires
+split-verdict-requires c κs = search needs
+
+returns-6 : tie.Need-returns-6
+returns-6 c =
+    let h = c .before .before .before .before .before .before in
+    sym
+    (next-refused _ _ _
+    (listening (told h) ∙ passes _ _ _ (agreed h) ∙ passes _ _ _ (straight (c .before .before .before .before)) ∙ passes _ _ _ (tame (c .before .before))
+    ∙ refuses _ _ _ (seen h split-verdict _ true (c .before .split-verdict .ensures) (c .if5 .taken))))
+
+current-requires : tie.Need-current-requires
+current-requires c κs =
+    let k = told (c .before .before .before .before .before .before) in
+    let f = facts k in
+    current-there (q k) (sheets k) (probing (q k) (f .sound) (f .going)) (f .sheets-long)
+
+after-requires : tie.Need-after-requires
+after-requires c κs =
+    let h = c .before .before .before .before .before .before .before in
+    let k = told h in
+    let f = facts k in (
+      sound-of (q k) (f .sound),
+      ap length (c .current .ensures) ∙ current-long (q k) (sheets k) (probing (q k) (f .sound) (f .going)) (f .sheets-long),
+      rw (c .current .ensures) (all-below-of 256 (drop 1 (current (q k) (sheets k))) (f .in-field .bytes)),
+      rw (h .heard .ensures) (heard-possible (q k .n) (q k .round) (messages k) (f .sound .round-least)),
+    )
+
+returns-7 : tie.Need-returns-7
+returns-7 c =
+    let h = c .before .before .before .before .before .before .before .before in
+    let k = told h in
+    ap Next (c .after .ensures ∙ ap₂ (after (q k)) (c .before .current .ensures) (h .heard .ensures))
+    ∙ sym
+    (next-accepted _ _
+    (listening k ∙ passes _ _ _ (agreed h) ∙ passes _ _ _ (straight (c .before .before .before .before .before .before)) ∙ passes _ _ _ (tame (c .before .before .before .before))
+    ∙ passes _ _ _ (whole (c .before .before)) ∙ all-passed))
+
+pub hear-spec : {M : Type 1} → statement M
+hear-spec =
+    tie.close
+    (tie.spec
+    sound-requires
+    returns
+    say-requires
+    enum-known-word
+    enum-known-why
+    returns-2
+    sub-own
+    mul-word
+    shared-slice-read-word
+    returns-3
+    heard-requires
+    crooked-requires
+    returns-4
+    wild-sum-requires
+    returns-5
+    split-verdict-requires
+    returns-6
+    current-requires
+    after-requires
+    returns-7)

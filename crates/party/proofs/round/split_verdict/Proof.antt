@@ -1,0 +1,43 @@
+-- `split_verdict` meets its contract. Assumes nothing.
+use mathlib.Core.Path.{sym, ap}
+use Rattle.party.specs.Hear.{split-verdict}
+use borrow.Author.Needs.{needs}
+use Rattle.party.proofs.round.split_verdict.Statement.{statement}
+use Rattle.party.proofs.round.split_verdict.Tie as tie
+
+enum-told : tie.Need-enum-told
+enum-told c = search needs
+
+enum-told-2 : tie.Need-enum-told-2
+enum-told-2 c = search needs
+
+enum-known-heard : tie.Need-enum-known-heard
+enum-known-heard c = search needs
+
+enum-told-3 : tie.Need-enum-told-3
+enum-told-3 c = search needs
+
+returns : tie.Need-returns
+returns c = search needs
+
+returns-2 : tie.Need-returns-2
+returns-2 c = search needs
+
+returns-3 : tie.Need-returns-3
+returns-3 c = sym (ap split-verdict (c .before .heard .given .1))
+
+returns-4 : tie.Need-returns-4
+returns-4 c = search needs
+
+pub split-verdict-spec : {M : Type 1} → statement M
+split-verdict-spec =
+    tie.close
+    (tie.spec
+    enum-told
+    enum-told-2
+    enum-known-heard
+    enum-told-3
+    returns
+    returns-2
+    returns-3
+    returns-4)

@@ -1,0 +1,94 @@
+// What the messages of a round open to, and when that is refused.
+ghost use mathlib.Core.Path.{_≡_};
+ghost use mathlib.Core.List.{map};
+ghost use Prim.Native.Nat.{_/_, _%_};
+ghost use Rattle.sharing.specs.Scheme.{byte-scheme};
+ghost use Rattle.sharing.specs.Opening.{opened};
+ghost use Rattle.party.specs.Hear.{factors-of, heard, crooked, wild-sum, split-verdict};
+use crate::record::Heard;
+use sharing::Opening;
+use sharing::open_amount;
+use sharing::open_byte;
+
+// The least and the greatest T: 2^59 + 2^32, less a mask below 2^58, with a difference of totals
+// below 2^32 either way.
+const LEAST: u64 = (1 << 58) + 2;
+
+const GREATEST: u64 = (1 << 59) + (1 << 33) - 1;
+
+pub fn heard(n: u64, round: u64, messages: &[u64]) -> Heard
+    ensures { λ r. ⌜ r ≡ heard n round (now (messages .entry)) ⌝ }
+{
+    if round == 1 {
+        return match open_amount(n, messages) {
+            Opening::Secret(sum) => Heard::Sum(sum),
+            Opening::Inconsistent => Heard::Crooked,
+        };
+    }
+    if round <= 32 {
+        return factors(n, messages);
+    }
+    match open_byte(n, messages) {
+        Opening::Secret(verdict) => Heard::Verdict(verdict),
+        Opening::Inconsistent => Heard::Crooked,
+    }
+}
+
+// The low bytes are the words of one polynomial and the high parts those of another.
+fn factors(n: u64, messages: &[u64]) -> Heard
+    ensures { λ r. ⌜ r ≡ factors-of (opened byte-scheme n (map (λ w. w % 256) (now (messages .entry)))) (opened byte-scheme n (map (λ w. w / 256) (now (messages .entry)))) ⌝ }
+{
+    let count = messages.len();
+    if 9 < count {
+        return Heard::Crooked;
+    }
+    let mut low = [0u64; 9];
+    let mut high = [0u64; 9];
+    let mut i = 0;
+    while i < count {
+        let word = messages[i];
+        low[i] = word % 256;
+        high[i] = word / 256;
+        i += 1;
+    }
+    match open_byte(n, &low[..count]) {
+        Opening::Secret(d) => match open_byte(n, &high[..count]) {
+            Opening::Secret(e) => Heard::Factors(d, e),
+            Opening::Inconsistent => Heard::Crooked,
+        },
+        Opening::Inconsistent => Heard::Crooked,
+    }
+}
+
+pub fn crooked(heard: Heard) -> bool
+    ensures { λ r. ⌜ r ≡ crooked heard ⌝ }
+{
+    match heard {
+        Heard::Sum(_) => false,
+        Heard::Factors(_, _) => false,
+        Heard::Verdict(_) => false,
+        Heard::Crooked => true,
+    }
+}
+
+pub fn wild_sum(heard: Heard) -> bool
+    ensures { λ r. ⌜ r ≡ wild-sum heard ⌝ }
+{
+    match heard {
+        Heard::Sum(v) => !((LEAST <= v) & (v <= GREATEST)),
+        Heard::Factors(_, _) => false,
+        Heard::Verdict(_) => false,
+        Heard::Crooked => false,
+    }
+}
+
+pub fn split_verdict(heard: Heard) -> bool
+    ensures { λ r. ⌜ r ≡ split-verdict heard ⌝ }
+{
+    match heard {
+        Heard::Sum(_) => false,
+        Heard::Factors(_, _) => false,
+        Heard::Verdict(v) => 1 < v,
+        Heard::Crooked => false,
+    }
+}

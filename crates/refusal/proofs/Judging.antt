@@ -1,0 +1,38 @@
+-- What a list of tests says, and what a call leaves. Assumes nothing.
+use mathlib.Core.Path.{_≡_, refl}
+use mathlib.Core.Bool.{Bool, true, false}
+use mathlib.Core.List.{List, [], _∷_}
+use Rattle.refusal.specs.Judging.{Test, _⇒_, judged, kept}
+use Rattle.refusal.specs.declared.Refusal.{Refusal}
+use Rattle.refusal.specs.declared.Judgement.{Judgement}
+use Rattle.refusal.specs.declared.Judgement.the-variants.{Accepted, Refused}
+
+-- the first fault of a list refuses, and where it is not there the others count
+module _ (fault : Bool) (why : Refusal) (tests : List Test) where
+  pub refuses : fault ≡ true → judged ((fault ⇒ why) ∷ tests) ≡ Refused why
+  unfolding judged
+  refuses e = rw e
+
+  pub passes : fault ≡ false → judged ((fault ⇒ why) ∷ tests) ≡ judged tests
+  unfolding judged
+  passes e = rw e
+
+pub all-passed : judged [] ≡ Accepted
+unfolding judged
+all-passed = refl
+
+pub passed : (fault : Bool) (why : Refusal) (tests : List Test) → judged ((fault ⇒ why) ∷ tests) ≡ Accepted
+    → (fault ≡ false) × (judged tests ≡ Accepted)
+unfolding judged
+passed false why tests e = (refl, e)
+passed true why tests e = (cc, cc)
+
+-- what a call leaves
+module _ {A : Type 0} (judgement : Judgement) (new old : A) where
+  pub kept-new : judgement ≡ Accepted → kept judgement new old ≡ new
+  unfolding kept
+  kept-new e = rw e
+
+  pub kept-old : (why : Refusal) → judgement ≡ Refused why → kept judgement new old ≡ old
+  unfolding kept
+  kept-old why e = rw e

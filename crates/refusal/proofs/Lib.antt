@@ -1,0 +1,2 @@
+-- Laws of judging.
+pub mod Judging
