@@ -9,10 +9,11 @@ use Rattle.verdict.specs.Verdict.{verdict}
 use Rattle.sharing.proofs.Points.{Parties}
 use Rattle.search.specs.Bracket.{start}
 use Rattle.search.specs.Limit.{limit}
+use Rattle.search.specs.Clearing.{highest, covered, clearing}
 use Rattle.search.specs.Search.{promise, trail}
 use Rattle.search.proofs.Trails.{trail-given}
 use Rattle.party.specs.declared.record.Answer.the-variants.{Cleared}
-use Rattle.auction.specs.Auction.{Auction, IsAuction, demand, supply, clearing-answer}
+use Rattle.auction.specs.Auction.{Auction, IsAuction, sum, demand, supply, clearing-answer}
 use Rattle.auction.specs.Coins.{Coins, InRange}
 use Rattle.auction.specs.Call.{Call}
 use Rattle.auction.specs.Told.{told}
@@ -88,6 +89,12 @@ module _ (a : Auction) (c : Coins) (A : IsAuction a) (C : InRange a c) (l : List
 -- the clearing answer, with as many probes as verdicts, at most P.
 pub demand-2 : (a : Auction) → IsAuction a → (c : Coins) → InRange a c → Demand2 a c
 demand-2 a A c C = record { none-refused = told-accepted a c A C; outcome = λ l run j j1 jn. outcome a c A C l run j j1 jn }
+
+-- "No bids gives k."
+pub no-bids : (n k : ℕ) → clearing-answer (record { n = n; k = k; bids = [] }) ≡ k
+unfolding clearing highest covered demand supply sum
+no-bids n zero = refl
+no-bids n (suc i) = refl
 
 -- ---- demand 3
 
