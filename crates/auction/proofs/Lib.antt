@@ -20,6 +20,7 @@ pub mod Swaps
 pub mod Elsewhere
 pub mod Orders
 pub mod Falling
+pub mod Plain
 pub mod SameBids
 pub mod SameSheets
 pub mod SameProbes

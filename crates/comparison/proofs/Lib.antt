@@ -3,6 +3,7 @@ pub mod Values
 pub mod Carries
 pub mod Dealt
 pub mod Promise
+pub mod Plain
 pub mod Agreement
 pub mod Matching
 pub mod Only

@@ -3,7 +3,6 @@ use mathlib.Core.Path.{sym, ap, _∙_}
 use Rattle.party.specs.Hear.{sum-of, verdict-of}
 use Rattle.party.proofs.Heard.{heard-sum, heard-factors, heard-verdict}
 use borrow.Author.Needs.{needs}
-use borrow.Author.Needs.{needs}
 use Rattle.party.proofs.round.heard.Statement.{statement}
 use Rattle.party.proofs.round.heard.Tie as tie
 
