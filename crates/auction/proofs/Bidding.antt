@@ -13,7 +13,7 @@ use Rattle.fields.proofs.Below.{AllBelow}
 use Rattle.fields.proofs.Fields.{amount-field}
 use Rattle.refusal.specs.Judging.{judged}
 use Rattle.refusal.specs.declared.Judgement.the-variants.{Accepted}
-use Rattle.sharing.specs.Polynomial.{value}
+use Rattle.sharing.specs.Polynomial.{value, share-each}
 use Rattle.sharing.specs.Linear.{sums}
 use Rattle.sharing.specs.Scheme.{threshold}
 use Rattle.sharing.specs.Sizes.{party}
@@ -57,7 +57,7 @@ module _ (q t : ℕ) where
 -- the groups are taken one after the other
 pub shares-written : (t j : ℕ) (table : List ℕ) (groups : List (List ℕ)) → length groups ≡ length table → Each (Group p t) groups
     → bid-shares t j table (flat groups) ≡ at-party j (entries table groups)
-unfolding bid-shares entries flat
+unfolding share-each entries flat
 shares-written t j [] gs l h = refl
 shares-written t j (x ∷ xs) [] l h = absurd (omega arith)
 shares-written t j (x ∷ xs) (g ∷ gs) l h =

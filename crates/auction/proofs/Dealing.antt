@@ -12,7 +12,7 @@ use Rattle.fields.specs.Byte.{product, bytes}
 use Rattle.refusal.specs.Judging.{judged}
 use Rattle.refusal.specs.declared.Judgement.the-variants.{Accepted}
 use Rattle.sharing.specs.Lists.{from}
-use Rattle.sharing.specs.Polynomial.{value}
+use Rattle.sharing.specs.Polynomial.{value, share-each}
 use Rattle.sharing.specs.Scheme.{threshold}
 use Rattle.comparison.specs.Rounds as rounds
 use Rattle.comparison.specs.Probe as probe
@@ -46,7 +46,7 @@ bytes-length t s h =
 
 bits-written : (t j mask : ℕ) (i m : ℕ) (css : List (List ℕ)) (rest : List ℕ) → length css ≡ m → Each (Group 256 t) css
     → byte-shares t j (map (λ i. bit i mask) (from i m)) (flat css ++ rest) ≡ map (λ b. value bytes b j) (bit-polynomials i mask css)
-unfolding byte-shares from flat bit-polynomials rounds.bit
+unfolding share-each from flat bit-polynomials rounds.bit
 bits-written t j mask i zero [] rest l h = refl
 bits-written t j mask i zero (cs ∷ css) rest l h = absurd (omega arith)
 bits-written t j mask i (suc m) [] rest l h = absurd (omega arith)
@@ -62,7 +62,7 @@ bits-written t j mask i (suc m) (cs ∷ css) rest l h =
 three-written : (t j x y z : ℕ) (xs ys zs rest : List ℕ) → length xs ≡ t → length ys ≡ t → length zs ≡ t
     → byte-shares t j (x ∷ y ∷ z ∷ []) ((xs ++ (ys ++ zs)) ++ rest)
     ≡ value bytes (x ∷ xs) j ∷ value bytes (y ∷ ys) j ∷ value bytes (z ∷ zs) j ∷ []
-unfolding byte-shares
+unfolding share-each
 three-written t j x y z xs ys zs rest lx ly lz =
     ap (byte-shares t j (x ∷ y ∷ z ∷ [])) (append-assoc xs (ys ++ zs) rest ∙ ap (λ (l : List ℕ). xs ++ l) (append-assoc ys zs rest))
     ∙ simp (

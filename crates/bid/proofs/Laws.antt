@@ -15,7 +15,8 @@ use Rattle.refusal.specs.Judging.{judged}
 use Rattle.refusal.specs.declared.Judgement.the-variants.{Accepted}
 use Rattle.refusal.specs.declared.Refusal.the-variants.{OutOfRange, WrongLength, CoinOutOfRange, AmountTooLarge, NotMonotone}
 use Rattle.sharing.specs.Lists.{every}
-use Rattle.sharing.specs.Polynomial.{value}
+use Rattle.sharing.proofs.Shares.{length-each, each-at}
+use Rattle.sharing.specs.Polynomial.{value, share-each}
 use Rattle.sharing.specs.Scheme.{threshold, points, amount-scheme}
 use Rattle.sharing.specs.Opening.{opened}
 use Rattle.sharing.specs.declared.opening.Opening.the-variants.{Secret}
@@ -31,26 +32,15 @@ use Rattle.sharing.proofs.Ranges.{IsParty, a-party, is-party, all-below, is-bel
 
 module _ (t own : ℕ) where
   pub length-shares : (table coins : List ℕ) → length (bid-shares t own table coins) ≡ length table
-  unfolding bid-shares
-  length-shares [] coins = refl
-  length-shares (a ∷ table) coins = ap suc (length-shares table (drop t coins))
+  length-shares = length-each amounts t own
 
-  -- the share of an amount is the value of its polynomial at the party's point, with the amount's own group of coins
   pub entry : (table coins : List ℕ) (e : ℕ) → e < length table
       → getD (bid-shares t own table coins) e 0 ≡ value amounts (getD table e 0 ∷ take t (drop (e * t) coins)) own
-  unfolding bid-shares
-  entry [] coins e h = absurd (omega arith)
-  entry (a ∷ table) coins zero h =
-      let z : 0 * t ≡ 0 = omega arith in
-      ap (λ (k : ℕ). value amounts (a ∷ take t (drop k coins)) own) (sym z)
-  entry (a ∷ table) coins (suc e) h =
-      let j : t + e * t ≡ suc e * t = omega arith in
-      entry table (drop t coins) e (omega arith)
-      ∙ ap (λ (l : List ℕ). value amounts (getD table e 0 ∷ take t l) own) (drop-drop (e * t) t coins ∙ ap (λ (k : ℕ). drop k coins) j)
+  entry = each-at amounts t own
 
   -- every share is a residue
   pub shares-below : (table coins : List ℕ) → AllBelow p (bid-shares t own table coins)
-  unfolding bid-shares value
+  unfolding share-each value
   shares-below [] coins = tt
   shares-below (a ∷ table) coins = (mod-lt _ (lit< tt), shares-below table (drop t coins))
 

@@ -3,13 +3,12 @@ use mathlib.Core.Bool.{not, _&&_}
 use mathlib.Core.List.{List, [], _∷_}
 use Prim.Native.Nat.{ℕ, _*_}
 use lib.Dec.{leb, ltb}
-use lib.ListN.{take, drop}
 use Rattle.fields.specs.Amount.{p, amounts}
 use Rattle.refusal.specs.Judging.{_⇒_, judged, kept}
 use Rattle.refusal.specs.declared.Judgement.{Judgement}
 use Rattle.refusal.specs.declared.Refusal.the-variants.{OutOfRange, WrongLength, CoinOutOfRange, AmountTooLarge, NotMonotone}
 use Rattle.sharing.specs.Lists.{every}
-use Rattle.sharing.specs.Polynomial.{value}
+use Rattle.sharing.specs.Polynomial.{share-each}
 use Rattle.sharing.specs.Scheme.{threshold}
 use Rattle.sharing.specs.Sizes.{party, listed, long}
 use Rattle.bid.specs.Table.{most, monotone}
@@ -26,9 +25,8 @@ split-judgement n own k table coins shares =
     ∷ [])
 
 -- A party's share of each amount, made with the amount's own t coins. The amounts are tenths, and are shared as they are.
-unfoldable pub bid-shares : (t own : ℕ) (table coins : List ℕ) → List ℕ
-bid-shares t own [] coins = []
-bid-shares t own (a ∷ table) coins = value amounts (a ∷ take t coins) own ∷ bid-shares t own table (drop t coins)
+abbrev pub bid-shares : (t own : ℕ) (table coins : List ℕ) → List ℕ
+bid-shares t own table coins = share-each amounts t own table coins
 
 -- what the slice lent for the shares holds afterwards
 abbrev pub split-left : (n own k : ℕ) (table coins shares : List ℕ) → List ℕ

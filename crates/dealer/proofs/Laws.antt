@@ -17,7 +17,8 @@ use Rattle.refusal.specs.Judging.{judged}
 use Rattle.refusal.specs.declared.Judgement.the-variants.{Accepted}
 use Rattle.refusal.specs.declared.Refusal.the-variants.{OutOfRange, WrongLength, CoinOutOfRange}
 use Rattle.sharing.specs.Lists.{from, every}
-use Rattle.sharing.specs.Polynomial.{value}
+use Rattle.sharing.proofs.Shares.{length-each, each-at}
+use Rattle.sharing.specs.Polynomial.{value, share-each}
 use Rattle.sharing.specs.Scheme.{Scheme, threshold, points, amount-scheme, byte-scheme}
 use Rattle.sharing.specs.Opening.{opened}
 use Rattle.sharing.specs.declared.opening.Opening.{Opening}
@@ -33,21 +34,11 @@ use Rattle.sharing.proofs.Ranges.{IsParty, a-party, is-party, all-below, is-bel
 
 module _ (t own : ℕ) where
   pub length-shares : (secrets drawn : List ℕ) → length (byte-shares t own secrets drawn) ≡ length secrets
-  unfolding byte-shares
-  length-shares [] drawn = refl
-  length-shares (s ∷ secrets) drawn = ap suc (length-shares secrets (drop t drawn))
+  length-shares = length-each bytes t own
 
   pub share-at : (secrets drawn : List ℕ) (e : ℕ) → e < length secrets
       → getD (byte-shares t own secrets drawn) e 0 ≡ value bytes (getD secrets e 0 ∷ take t (drop (e * t) drawn)) own
-  unfolding byte-shares
-  share-at [] drawn e h = absurd (omega arith)
-  share-at (s ∷ secrets) drawn zero h =
-      let z : 0 * t ≡ 0 = omega arith in
-      ap (λ (k : ℕ). value bytes (s ∷ take t (drop k drawn)) own) (sym z)
-  share-at (s ∷ secrets) drawn (suc e) h =
-      let j : t + e * t ≡ suc e * t = omega arith in
-      share-at secrets (drop t drawn) e (omega arith)
-      ∙ ap (λ (l : List ℕ). value bytes (getD secrets e 0 ∷ take t l) own) (drop-drop (e * t) t drawn ∙ ap (λ (k : ℕ). drop k drawn) j)
+  share-at = each-at bytes t own
 
 -- the bits of a mask
 map-from : (f : ℕ → ℕ) (a m i : ℕ) → i < m → getD (map f (from a m)) i 0 ≡ f (a + i)
@@ -169,7 +160,7 @@ secrets-below drawn h =
 
 module _ (t own : ℕ) (small : own < 256) where
   byte-shares-below : (secrets drawn : List ℕ) → AllBelow 256 secrets → AllBelow 256 drawn → AllBelow 256 (byte-shares t own secrets drawn)
-  unfolding byte-shares
+  unfolding share-each
   byte-shares-below [] drawn hs hd = tt
   byte-shares-below (s ∷ secrets) drawn hs hd =
       (value-lt byte-field (s ∷ take t drawn) own (hs .0, below-take 256 t drawn hd) small, byte-shares-below secrets (drop t drawn) (hs .1) (below-drop 256 t drawn hd))

@@ -4,14 +4,14 @@ use mathlib.Core.Bool.{not, _&&_}
 use mathlib.Core.List.{List, [], _∷_, _++_, map}
 use Prim.Native.Nat.{ℕ, zero, suc, _+_, _-_, _*_, _/_, _%_, _^_}
 use lib.Dec.{ltb}
-use lib.ListN.{take, drop, getD}
+use lib.ListN.{drop, getD}
 use Rattle.fields.specs.Amount.{p, amounts}
 use Rattle.fields.specs.Byte.{product, bytes}
 use Rattle.refusal.specs.Judging.{_⇒_, judged, kept}
 use Rattle.refusal.specs.declared.Judgement.{Judgement}
 use Rattle.refusal.specs.declared.Refusal.the-variants.{OutOfRange, WrongLength, CoinOutOfRange}
 use Rattle.sharing.specs.Lists.{from, every}
-use Rattle.sharing.specs.Polynomial.{value}
+use Rattle.sharing.specs.Polynomial.{value, share-each}
 use Rattle.sharing.specs.Scheme.{threshold}
 use Rattle.sharing.specs.Sizes.{party, long}
 
@@ -26,9 +26,8 @@ deal-judgement n own words drawn sheet =
     ∷ [])
 
 -- a party's shares of bytes, each made with the next t of the drawn bytes
-unfoldable pub byte-shares : (t own : ℕ) (secrets drawn : List ℕ) → List ℕ
-byte-shares t own [] drawn = []
-byte-shares t own (s ∷ secrets) drawn = value bytes (s ∷ take t drawn) own ∷ byte-shares t own secrets (drop t drawn)
+abbrev pub byte-shares : (t own : ℕ) (secrets drawn : List ℕ) → List ℕ
+byte-shares t own secrets drawn = share-each bytes t own secrets drawn
 
 -- "bit 1 being the lowest"
 abbrev pub bit : ℕ → ℕ → ℕ

@@ -5,6 +5,7 @@ pub mod Points
 pub mod Weighing
 pub mod Rows
 pub mod Laws
+pub mod Shares
 pub mod Terms
 pub mod Ranges
 mod Newton

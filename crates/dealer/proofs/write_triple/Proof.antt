@@ -6,7 +6,7 @@ use native.Mathlib.Omega.{arith}
 use lib.ListN.{length, take, drop, getD, set}
 use lib.Seq.{drop-drop}
 use Rattle.fields.specs.Byte.{product, bytes}
-use Rattle.sharing.specs.Polynomial.{value}
+use Rattle.sharing.specs.Polynomial.{value, share-each}
 use Rattle.dealer.specs.Deal.{byte-shares, triple}
 use borrow.Author.Needs.{needs}
 use Rattle.dealer.proofs.write_triple.Statement.{statement}
@@ -18,7 +18,7 @@ three : (t point : ℕ) (drawn old : List ℕ) (gamma x y z : ℕ) → length ol
     → y ≡ value bytes (getD drawn 1 0 ∷ take (2 + t + t - (2 + t)) (drop (2 + t) drawn)) point
     → z ≡ value bytes (gamma ∷ take (2 + t + t + t - (2 + t + t)) (drop (2 + t + t) drawn)) point
     → set (set (set old 0 x) 1 y) 2 z ≡ triple t point drawn
-unfolding triple byte-shares
+unfolding triple share-each
 three t point drawn [] gamma x y z l eg ex ey ez = absurd (omega arith)
 three t point drawn (a ∷ []) gamma x y z l eg ex ey ez = absurd (omega arith)
 three t point drawn (a ∷ b ∷ []) gamma x y z l eg ex ey ez = absurd (omega arith)
