@@ -4,8 +4,7 @@ use mathlib.Core.List.{List, [], _∷_, map, flatten, List·Memᴰ, List·Memᴰ
 use mathlib.Core.Logic.{⊎-elim}
 use Prim.Native.Nat.{ℕ, zero, suc, _*_, _≤_, _<_}
 use native.Mathlib.Omega.{arith}
-use lib.ListN.{length, drop, getD, replicate, getD-replicate, length-map}
-use Rattle.verdict.specs.Verdict.{verdict}
+use lib.ListN.{length, drop, getD, replicate, getD-replicate}
 use Rattle.sharing.proofs.Points.{Parties}
 use Rattle.search.specs.Bracket.{start}
 use Rattle.search.specs.Limit.{limit}
@@ -16,13 +15,12 @@ use Rattle.party.specs.declared.record.Answer.the-variants.{Cleared}
 use Rattle.auction.specs.Auction.{Auction, IsAuction, sum, demand, supply, clearing-answer}
 use Rattle.auction.specs.Coins.{Coins, InRange}
 use Rattle.auction.specs.Call.{Call}
-use Rattle.auction.specs.Told.{told}
 use Rattle.auction.specs.Run.{Run}
-use Rattle.auction.specs.Received.{bid-shares, sheets, messages, decisions, verdicts, indices, answers, unused}
-use Rattle.auction.specs.Demands.{Outcome, Demand2, Alike, Pool, Stay, Same, Matched, Demand3}
+use Rattle.auction.specs.Received.{bid-shares, sheets, messages, decisions, verdicts, unused}
+use Rattle.auction.specs.Demands.{Outcome, Demand2, Alike, Pool, Same, Matched, Demand3}
 use Rattle.auction.specs.Matching.{match-coins}
 use Rattle.auction.proofs.Closed.{decision, all-spoken, sheets-at, probes}
-use Rattle.auction.proofs.Orders.{told-run, run-bid-shares, run-messages, run-sheets, run-decisions, run-verdicts, run-unused, run-answers}
+use Rattle.auction.proofs.Orders.{told-run, run-bid-shares, run-messages, run-sheets, run-decisions, run-verdicts, run-answers}
 use Rattle.auction.proofs.Told.{told-accepted, told-bid-shares, told-messages, told-sheets, told-decisions, told-many, told-answers}
 use Rattle.auction.proofs.Search.{probes-trail, probes-few, probes-some}
 use Rattle.auction.proofs.SameBids.{bid-words}

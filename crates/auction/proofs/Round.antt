@@ -29,7 +29,7 @@ use Rattle.comparison.proofs.Promise.{Compares, probe-shared, sum-least, sum-mo
 use Rattle.party.specs.declared.record.Heard.the-variants.{Sum, Factors, Verdict}
 use Rattle.party.specs.Say.{message}
 use Rattle.party.specs.Hear as hear
-use Rattle.party.specs.Hear.{sum-of, factors-of, verdict-of, crooked, wild-sum, split-verdict, after}
+use Rattle.party.specs.Hear.{sum-of, factors-of, verdict-of, wild-sum, split-verdict, after}
 use Rattle.party.proofs.Messages.{first-message, product-message, last-message}
 use Rattle.party.proofs.Heard.{heard-sum, heard-factors, heard-verdict}
 use Rattle.auction.specs.Auction.{Auction, IsAuction, demand, supply}

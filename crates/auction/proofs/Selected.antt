@@ -1,7 +1,7 @@
 -- The calls of a list that pass a test, with one call more. Assumes nothing.
 use mathlib.Core.Path.{_≡_, refl}
 use mathlib.Core.Bool.{Bool, true, false, cond, _&&_}
-use mathlib.Core.List.{List, [], _∷_, _++_}
+use mathlib.Core.List.{List, _∷_, _++_}
 use Rattle.auction.specs.Call.{Call, given}
 use Rattle.auction.specs.Run.{select}
 use Rattle.auction.proofs.Calls.{select-append}

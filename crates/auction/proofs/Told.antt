@@ -1,17 +1,17 @@
 -- What is read off the told list of an auction, in closed form. Assumes nothing.
-use mathlib.Core.Path.{_≡_, refl, sym, ap, _∙_}
+use mathlib.Core.Path.{_≡_, refl, ap, _∙_}
 use mathlib.Core.Bool.{true}
 use mathlib.Core.List.{List, [], _∷_, _++_, map, append-nil}
 use mathlib.Core.Option.{Option}
 use Prim.Native.Nat.{ℕ, _*_, _≤_}
-use lib.ListN.{length, drop, replicate, length-map}
+use lib.ListN.{length, replicate, length-map}
 use Rattle.party.specs.declared.record.Answer.the-variants.{Cleared}
 use Rattle.auction.specs.Auction.{Auction, IsAuction, clearing-answer}
 use Rattle.auction.specs.Coins.{Coins, InRange}
 use Rattle.auction.specs.Call.{Call}
 use Rattle.auction.specs.Told.{told}
 use Rattle.auction.specs.Run.{own}
-use Rattle.auction.specs.Received.{collect, bid-shares-in, hearing-in, answer-in, bid-shares, hearings, answers, messages, sheets, decisions, verdicts, indices, unused}
+use Rattle.auction.specs.Received.{collect, bid-shares-in, hearing-in, answer-in, bid-shares, hearings, answers, messages, sheets, decisions, verdicts}
 use Rattle.auction.specs.Demands.{all-accepted}
 use Rattle.auction.proofs.Closed.{decision, all-spoken, sheets-at, probes}
 use Rattle.auction.proofs.Calls.{own-append, collect-append, all-accepted-append}

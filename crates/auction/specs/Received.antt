@@ -1,15 +1,12 @@
 -- What is read off a list of calls: what a party receives, hears and answers. Assumes nothing.
-use mathlib.Core.Bool.{cond}
-use mathlib.Core.List.{List, [], _∷_, _++_, map}
+use mathlib.Core.List.{List, [], _∷_, map}
 use mathlib.Core.Option.{Option, none, some}
 use Prim.Native.Nat.{ℕ, _*_}
-use lib.Dec.{eqb}
 use lib.ListN.{length, drop}
 use Rattle.search.specs.Bracket.{middle}
 use Rattle.party.specs.declared.record.Party.{Party}
 use Rattle.party.specs.declared.record.Heard as heard-as
 use Rattle.party.specs.declared.record.Heard.{Heard}
-use Rattle.party.specs.declared.record.Answer as answer-as
 use Rattle.party.specs.declared.record.Answer.{Answer}
 use Rattle.party.specs.Record.{bracket}
 use Rattle.party.specs.Hear.{heard}

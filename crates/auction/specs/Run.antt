@@ -1,6 +1,6 @@
 -- Runs: "Any other order in which every call is given the same is a run too, and saying or asking may be repeated. .. Refused calls,
 -- on any record and buffers, may stand anywhere between". Assumes nothing.
-use mathlib.Core.Bool.{Bool, true, false, cond, _&&_}
+use mathlib.Core.Bool.{Bool, cond, _&&_}
 use mathlib.Core.List.{List, [], _∷_, _++_}
 use Prim.Native.Nat.{ℕ}
 use Rattle.party.specs.declared.record.Party.{Party}

@@ -7,7 +7,7 @@ use native.Mathlib.Nat.{mod-lt, mul-le-mul-right, lt-of-le-of-lt}
 use native.Mathlib.Omega.{arith}
 use lib.Dec.{leb, ltb, lit<, leb·suc-suc}
 use lib.ListN.{length, take, drop, getD, length-drop}
-use lib.Seq.{drop-drop, length-take-le, getD-take, getD-drop}
+use lib.Seq.{length-take-le, getD-take, getD-drop}
 use borrow.Author.Tests.{leb-true, le-leb, eqb-true, eq-eqb, not-false}
 use Rattle.fields.specs.Amount.{p, amounts}
 use Rattle.fields.proofs.Below.{AllBelow}

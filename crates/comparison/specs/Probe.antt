@@ -8,7 +8,7 @@ use Rattle.fields.specs.Amount.{p, amounts}
 use Rattle.fields.specs.Byte.{product, bytes}
 use Rattle.fields.proofs.Below.{AllBelow}
 use Rattle.sharing.specs.Polynomial.{value}
-use Rattle.comparison.specs.Local.{Local, on-polynomials}
+use Rattle.comparison.specs.Local.{on-polynomials}
 use Rattle.comparison.specs.Rounds.{bit, masked, first-carry, left, right, next-carry, last, both}
 
 pub record Triple (X : Type 0) : Type 0 where

@@ -1,6 +1,6 @@
 -- The record of a session, and when it is sound. Assumes nothing.
-use mathlib.Core.Bool.{Bool, not, _&&_, _||_}
-use Prim.Native.Nat.{ℕ, _+_, _-_, _^_}
+use mathlib.Core.Bool.{Bool, not, _&&_}
+use Prim.Native.Nat.{_+_, _-_, _^_}
 use lib.Dec.{leb, ltb, eqb}
 use Rattle.refusal.specs.declared.Judgement.{Judgement}
 use Rattle.refusal.specs.declared.Judgement.the-variants.{Accepted, Refused}

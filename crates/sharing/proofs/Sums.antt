@@ -1,8 +1,8 @@
 -- An opening as a loop makes it: one sum after another. Assumes nothing.
 use mathlib.Core.Path.{_≡_, refl, sym, ap, ap₂, _∙_}
 use mathlib.Core.Bool.{Bool, true, false, cond, _&&_}
-use mathlib.Core.List.{List, [], _∷_}
-use Prim.Native.Nat.{ℕ, zero, suc, _-_, _≤_, _<_}
+use mathlib.Core.List.{List}
+use Prim.Native.Nat.{ℕ, suc, _-_, _≤_, _<_}
 use native.Mathlib.Omega.{arith}
 use lib.Dec.{leb, ltb, eqb}
 use lib.ListN.{length}
@@ -11,7 +11,6 @@ use Rattle.fields.specs.Ring.{Ops}
 use Rattle.sharing.specs.Lists.{every}
 use Rattle.sharing.specs.Scheme.{Scheme, threshold, points, weights}
 use Rattle.sharing.specs.Opening.{products, total, moments, readable, settled, opened}
-use Rattle.sharing.specs.declared.opening.Opening.{Opening}
 use Rattle.sharing.specs.declared.opening.Opening.the-variants.{Secret, Inconsistent}
 use Rattle.sharing.proofs.Terms.{and-left, and-right}
 

@@ -1,12 +1,12 @@
 -- Lists that a loop fills from the left or adds up from the right, in any field. Assumes nothing.
 use mathlib.Core.Path.{_≡_, refl, sym, ap, ap₂, _∙_}
-use mathlib.Core.Bool.{Bool, true, false, cond, _&&_}
+use mathlib.Core.Bool.{Bool, true, false, _&&_}
 use mathlib.Core.List.{List, [], _∷_, _++_}
 use Prim.Native.Nat.{ℕ, zero, suc, _+_, _-_, _≤_, _<_}
-use native.Mathlib.Nat.{suc-inj, add-zero, add-suc, suc-add}
+use native.Mathlib.Nat.{suc-inj, add-zero}
 use native.Mathlib.Numerals.{add-one}
 use native.Mathlib.Omega.{arith}
-use lib.Dec.{T, ltb, eqb, eqb→eq}
+use lib.Dec.{T, eqb, eqb→eq}
 use lib.ListN.{length, take, drop, set, getD}
 use lib.Seq.{drop-cons, drop-length, drop-drop, drop-set-lt, getD-drop, getD-take, length-take-le, take-suc, take-suc-set}
 use Rattle.fields.specs.Ring.{Ops}

@@ -1,13 +1,13 @@
 -- The starred lines of document 01 ("Checked lines"), in its order, each against the definitions that the contracts cite.
 -- Assumes nothing.
 use mathlib.Core.Path.{_≡_, refl}
-use mathlib.Core.List.{List, [], _∷_}
+use mathlib.Core.List.{[], _∷_}
 use Prim.Native.Nat.{_-_}
 use Rattle.fields.specs.Amount.{p, amounts}
 use Rattle.fields.specs.Byte.{xor, xtimes, terms, product, bytes}
 use Rattle.sharing.specs.Lists.{from, every}
 use Rattle.sharing.specs.Polynomial.{value, shares}
-use Rattle.sharing.specs.Scheme.{points, amount-scheme, byte-scheme}
+use Rattle.sharing.specs.Scheme.{points, amount-scheme}
 use Rattle.sharing.specs.Opening.{products, total, moments, readable, settled, opened}
 use Rattle.sharing.specs.declared.opening.Opening.the-variants.{Secret, Inconsistent}
 

@@ -7,7 +7,7 @@ use lib.ListN.{length, take, drop, getD, set}
 use lib.Seq.{drop-drop}
 use Rattle.fields.specs.Byte.{product, bytes}
 use Rattle.sharing.specs.Polynomial.{value, share-each}
-use Rattle.dealer.specs.Deal.{byte-shares, triple}
+use Rattle.dealer.specs.Deal.{triple}
 use borrow.Author.Needs.{needs}
 use Rattle.dealer.proofs.write_triple.Statement.{statement}
 use Rattle.dealer.proofs.write_triple.Tie as tie
