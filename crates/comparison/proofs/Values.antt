@@ -16,7 +16,7 @@ use Rattle.sharing.specs.Polynomial.{value}
 use Rattle.sharing.specs.Linear.{sums, negatives, scaled}
 use Rattle.sharing.proofs.Laws.{at-zero, sums-lt, sums-length, negatives-lt, scaled-lt, value-sums, value-negatives, value-scaled, value-plus}
 use Rattle.comparison.specs.Local.{on-shares, on-polynomials, shifted}
-use Rattle.comparison.specs.Rounds.{bit, masked, differing, first-carry, left, right, next-carry, last}
+use Rattle.comparison.specs.Rounds.{offset, bit, masked, differing, first-carry, left, right, next-carry, last}
 use Rattle.comparison.specs.Probe.{secret}
 
 -- a polynomial of degree at most t in the field of this size
@@ -94,7 +94,7 @@ module _ (t x : ℕ) (hx : x < p) where
   pub masked-reads : {mask demand supply : List ℕ} {m d s : ℕ} → Reads amount-field t x mask m → Reads amount-field t x demand d
       → Reads amount-field t x supply s → Reads amount-field t x (masked (on-polynomials amounts) mask demand supply) (masked (on-shares amounts) m d s)
   unfolding masked
-  masked-reads m d s = reads-plus hx (reads-plus hx (reads-shift hx (2 ^ 59 + 2 ^ 32) (lit< tt) (reads-negate hx m)) d) (reads-negate hx s)
+  masked-reads m d s = reads-plus hx (reads-plus hx (reads-shift hx offset (lit< tt) (reads-negate hx m)) d) (reads-negate hx s)
 
 module _ (T i t x : ℕ) (hx : x < 256) where
   pub differing-reads : {bs : List ℕ} {b : ℕ} → Reads byte-field t x bs b

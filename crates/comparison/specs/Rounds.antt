@@ -7,10 +7,14 @@ use Rattle.comparison.specs.Local.{Local}
 unfoldable pub bit : ℕ → ℕ → ℕ
 bit i T = T / 2 ^ (i - 1) % 2
 
+-- what keeps the masked difference positive, and its bit 33 the sign of the difference
+abbrev pub offset : ℕ
+offset = 2 ^ 59 + 2 ^ 32
+
 module _ {X : Type 0} (L : Local X) where
   -- round 1: "2^59 + 2^32 - mask + demand - supply, on shares, modulo p. Opened, it is T"
   unfoldable pub masked : (mask demand supply : X) → X
-  masked mask demand supply = L .plus (L .plus (L .shift (2 ^ 59 + 2 ^ 32) (L .negate mask)) demand) (L .negate supply)
+  masked mask demand supply = L .plus (L .plus (L .shift offset (L .negate mask)) demand) (L .negate supply)
 
   -- "The share of c_i is the share of b_i plus T_i."
   unfoldable pub differing : (T i : ℕ) (bit-share : X) → X
