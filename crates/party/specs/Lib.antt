@@ -4,4 +4,5 @@ pub mod Open
 pub mod Add
 pub mod Say
 pub mod Hear
+pub mod Board
 pub mod Answer

@@ -3,6 +3,7 @@
 mod adding;
 mod after;
 mod answering;
+mod board;
 mod hearing;
 mod message;
 mod opening;
@@ -14,6 +15,7 @@ mod sound;
 
 pub use adding::add;
 pub use answering::answer;
+pub use board::step;
 pub use hearing::hear;
 pub use opening::open;
 pub use record::Answer;

@@ -1,0 +1,180 @@
+/*
+ * A whole auction of five parties in one process: four bids, eight listed
+ * prices. Prints each probe and the clearing price, and checks both against
+ * the totals, which only a program that plays every role can add up.
+ *
+ *   cc -O2 -I../../include auction.c -L../../target/staticlib -lexchange -o auction
+ *
+ * The coins here come from a small generator with a fixed seed. A real bidder
+ * or dealer draws them from the operating system.
+ */
+#include <stdio.h>
+#include <stdlib.h>
+
+#include "clockivy.h"
+
+enum { N = 5, K = 8, PROBES = 4, BIDS = 4, TABLE = 2 * K };
+
+static const int prices[K] = {80, 90, 100, 110, 120, 130, 140, 150};
+
+/* Demand at each price, then supply at each, in tenths of an hour. */
+static const uint64_t tables[BIDS][TABLE] = {
+    {90, 80, 70, 55, 40, 30, 20, 5, 0, 0, 0, 0, 0, 0, 0, 0},
+    {45, 45, 45, 45, 41, 15, 0, 0, 0, 0, 0, 0, 0, 0, 5, 9},
+    {0, 0, 0, 0, 0, 0, 0, 0, 0, 10, 30, 30, 52, 60, 60, 75},
+    {0, 0, 0, 0, 0, 0, 0, 0, 7, 7, 7, 12, 29, 33, 48, 90}
+};
+
+/* What one party keeps. */
+struct seat {
+    clockivy_party party;
+    uint64_t totals[TABLE];
+    uint64_t sheets[PROBES * CLOCKIVY_SHEET_LEN];
+};
+
+static struct seat seats[N];
+
+/* Stops at a reply other than 0. */
+static void done(uint64_t reply, const char *call)
+{
+    if (reply != CLOCKIVY_DONE) {
+        fprintf(stderr, "%s: refusal %d\n", call, (int)reply);
+        exit(EXIT_FAILURE);
+    }
+}
+
+/* Stops at a result that is not that of the totals. */
+static void check(int holds, const char *otherwise)
+{
+    if (!holds) {
+        fprintf(stderr, "%s\n", otherwise);
+        exit(EXIT_FAILURE);
+    }
+}
+
+/* Marsaglia's xorshift64. */
+static uint64_t draw(void)
+{
+    static uint64_t state = ((uint64_t)0x9E3779B9 << 32) | 0x7F4A7C15;
+
+    state ^= state << 13;
+    state ^= state >> 7;
+    state ^= state << 17;
+    return state;
+}
+
+static uint64_t draw_coefficient(void)
+{
+    uint64_t word;
+
+    do
+        word = draw() & CLOCKIVY_PRIME;
+    while (word == CLOCKIVY_PRIME);
+    return word;
+}
+
+/* The bidder splits its table, and each party adds its own shares. */
+static void bid(const uint64_t *table)
+{
+    uint64_t coins[CLOCKIVY_COINS_LEN(N, K)];
+    uint64_t shares[TABLE];
+    size_t i;
+
+    for (i = 0; i < CLOCKIVY_COINS_LEN(N, K); i++)
+        coins[i] = draw_coefficient();
+    for (i = 0; i < N; i++) {
+        done(clockivy_split(N, i + 1, K, table, TABLE, coins, CLOCKIVY_COINS_LEN(N, K),
+                            shares, TABLE), "split");
+        done(clockivy_party_add(&seats[i].party, seats[i].totals, TABLE, shares, TABLE),
+             "add");
+    }
+}
+
+/* The dealer writes every party's sheet for one probe. */
+static void deal(size_t probe)
+{
+    uint64_t words[CLOCKIVY_DEAL_WORDS_LEN(N)];
+    uint8_t bytes[CLOCKIVY_DEAL_BYTES_LEN(N)];
+    size_t i;
+
+    words[0] = draw() % CLOCKIVY_MASK_LIMIT;
+    for (i = 1; i < CLOCKIVY_DEAL_WORDS_LEN(N); i++)
+        words[i] = draw_coefficient();
+    for (i = 0; i < CLOCKIVY_DEAL_BYTES_LEN(N); i++)
+        bytes[i] = (uint8_t)(draw() % 256);
+    for (i = 0; i < N; i++)
+        done(clockivy_deal(N, i + 1, words, CLOCKIVY_DEAL_WORDS_LEN(N),
+                           bytes, CLOCKIVY_DEAL_BYTES_LEN(N),
+                           seats[i].sheets + probe * CLOCKIVY_SHEET_LEN,
+                           CLOCKIVY_SHEET_LEN), "deal");
+}
+
+/* Each party says its message, and each hears all of them. */
+static void exchange_round(void)
+{
+    const size_t sheets_len = PROBES * CLOCKIVY_SHEET_LEN;
+    uint64_t messages[N];
+    size_t i;
+
+    for (i = 0; i < N; i++)
+        done(clockivy_party_say(&seats[i].party, seats[i].totals, TABLE,
+                                seats[i].sheets, sheets_len, &messages[i]), "say");
+    for (i = 0; i < N; i++)
+        done(clockivy_party_hear(&seats[i].party, seats[i].totals, TABLE,
+                                 seats[i].sheets, sheets_len, messages, N), "hear");
+}
+
+/* Whether total demand at an index is at least total supply. */
+static int clears(uint64_t index)
+{
+    uint64_t demand = 0;
+    uint64_t supply = 0;
+    size_t i;
+
+    for (i = 0; i < BIDS; i++) {
+        demand += tables[i][index - 1];
+        supply += tables[i][K + index - 1];
+    }
+    return demand >= supply;
+}
+
+int main(void)
+{
+    const clockivy_party *first = &seats[0].party;
+    uint64_t index = 0;
+    uint64_t probes = 0;
+    uint64_t expected = K;
+    size_t i;
+
+    check(clockivy_probe_limit(K) == PROBES, "the sheets are too few");
+    for (i = 0; i < N; i++)
+        done(clockivy_party_open(&seats[i].party, N, i + 1, K, seats[i].totals, TABLE),
+             "open");
+    for (i = 0; i < BIDS; i++)
+        bid(tables[i]);
+    for (i = 0; i < PROBES; i++)
+        deal(i);
+
+    while (clockivy_party_answer(first, &index, &probes) == CLOCKIVY_OUT_OF_TURN) {
+        const uint64_t probed = (first->lo + first->hi) / 2;
+
+        for (i = 0; i < CLOCKIVY_ROUNDS; i++)
+            exchange_round();
+        printf("probe %d index %d verdict %d\n",
+               (int)first->probes, (int)probed, first->lo == probed);
+        check((first->lo == probed) == clears(probed), "the verdict is wrong");
+    }
+
+    while (expected > 0 && !clears(expected))
+        expected--;
+    for (i = 0; i < N; i++) {
+        done(clockivy_party_answer(&seats[i].party, &index, &probes), "answer");
+        check(index == expected, "the answer is wrong");
+    }
+    if (index == 0)
+        printf("clears 0 none\n");
+    else
+        printf("clears %d %d\n", (int)index, prices[index - 1]);
+    printf("rounds %d\n", (int)(CLOCKIVY_ROUNDS * probes));
+    return EXIT_SUCCESS;
+}

@@ -1,0 +1,225 @@
+//! Whole auctions: every call is compared, each verdict and the answer are
+//! checked against the totals of the bids, and damaged calls stand in between.
+
+use clockivy_reference::{probe_limit, threshold, LAST_ROUND, RECORD, SHEET};
+
+use crate::call::Call;
+use crate::damage::damage;
+use crate::differential::{Difference, Tally};
+use crate::record::{index, CARRY, HI, LO, PROBES};
+use crate::rng::Rng;
+
+/// What one party keeps.
+struct Seat {
+    record: Vec<u64>,
+    totals: Vec<u64>,
+    sheets: Vec<u64>,
+}
+
+struct Auction<'a> {
+    rng: &'a mut Rng,
+    tally: &'a mut Tally,
+    n: u64,
+    k: u64,
+    tables: Vec<Vec<u64>>,
+    seats: Vec<Seat>,
+}
+
+/// Runs one auction of `bids` random bids.
+pub fn whole(
+    rng: &mut Rng,
+    n: u64,
+    k: u64,
+    bids: u64,
+    tally: &mut Tally,
+) -> Result<(), Difference> {
+    let tables = (0..bids).map(|_| rng.table(k as usize)).collect();
+    let mut auction = Auction {
+        rng,
+        tally,
+        n,
+        k,
+        tables,
+        seats: Vec::new(),
+    };
+    auction.open()?;
+    auction.bid()?;
+    auction.deal()?;
+    let mut verdicts = 0;
+    while auction.bracket() > 1 {
+        auction.probe()?;
+        verdicts += 1;
+    }
+    auction.ask(verdicts)?;
+    auction.tally.count_auction();
+    Ok(())
+}
+
+impl Auction<'_> {
+    fn open(&mut self) -> Result<(), Difference> {
+        for own in 1..=self.n {
+            let totals = self.rng.words(2 * self.k as usize, Rng::word);
+            let record = self.rng.words(RECORD, Rng::word);
+            let call = Call::open(self.n, own, self.k, &totals, &record);
+            let left = self.accepted(call)?;
+            self.seats.push(Seat {
+                totals: left.words[0].to_vec(),
+                record: left.words[1].to_vec(),
+                sheets: Vec::new(),
+            });
+        }
+        Ok(())
+    }
+
+    fn bid(&mut self) -> Result<(), Difference> {
+        let length = 2 * self.k as usize;
+        for table in self.tables.clone() {
+            let coins = self
+                .rng
+                .words(length * threshold(self.n), Rng::amount_share);
+            for own in 1..=self.n {
+                let shares = self.rng.words(length, Rng::word);
+                let call = Call::split(self.n, own, self.k, &table, &coins, &shares);
+                let shares = self.accepted(call)?.words[2].to_vec();
+                let seat = &self.seats[own as usize - 1];
+                let call = Call::add(&seat.record, &seat.totals, &shares);
+                let left = self.accepted(call)?;
+                let seat = &mut self.seats[own as usize - 1];
+                seat.record = left.words[0].to_vec();
+                seat.totals = left.words[1].to_vec();
+            }
+        }
+        Ok(())
+    }
+
+    fn deal(&mut self) -> Result<(), Difference> {
+        let t = threshold(self.n);
+        for _ in 0..probe_limit(self.k) {
+            let mut words = self.rng.words(1 + t, Rng::amount_share);
+            words[0] = self.rng.mask();
+            let bytes = self.rng.bytes(126 * t + 62);
+            for own in 1..=self.n {
+                let sheet = self.rng.words(SHEET, Rng::word);
+                let call = Call::deal(self.n, own, &words, &bytes, &sheet);
+                let left = self.accepted(call)?;
+                self.seats[own as usize - 1]
+                    .sheets
+                    .extend_from_slice(&left.words[1]);
+            }
+        }
+        Ok(())
+    }
+
+    /// One probe: all rounds, then the verdict against the totals.
+    fn probe(&mut self) -> Result<(), Difference> {
+        let before = self.seats[0].record.clone();
+        let index = index(&before) as u64;
+        for _ in 1..=LAST_ROUND {
+            self.round()?;
+        }
+        let after = &self.seats[0].record;
+        let mut expected = before.clone();
+        expected[if self.clears(index) { LO } else { HI }] = index;
+        expected[PROBES] += 1;
+        self.holds(*after == expected, "a verdict is not that of the totals")
+    }
+
+    /// One round: each party says its message, and each hears all of them.
+    fn round(&mut self) -> Result<(), Difference> {
+        let mut messages = Vec::new();
+        for own in 0..self.seats.len() {
+            let seat = &self.seats[own];
+            let call = Call::say(&seat.record, &seat.totals, &seat.sheets, self.rng.word());
+            let left = self.accepted(call)?;
+            messages.push(left.words[3][0]);
+        }
+        for own in 0..self.seats.len() {
+            let seat = &self.seats[own];
+            let call = Call::hear(&seat.record, &seat.totals, &seat.sheets, &messages);
+            let left = self.accepted(call)?;
+            self.seats[own].record = left.words[0].to_vec();
+        }
+        let public = |seat: &Seat| [&seat.record[..1], &seat.record[2..CARRY]].concat();
+        let agree = self
+            .seats
+            .iter()
+            .all(|seat| public(seat) == public(&self.seats[0]));
+        self.holds(agree, "the parties' records differ")
+    }
+
+    /// Asks every party for the answer.
+    fn ask(&mut self, verdicts: u64) -> Result<(), Difference> {
+        let highest = (1..=self.k).rev().find(|&index| self.clears(index));
+        for own in 0..self.seats.len() {
+            let call = Call::answer(&self.seats[own].record, self.rng.word(), self.rng.word());
+            let left = self.accepted(call)?;
+            let (index, probes) = (left.words[1][0], left.words[2][0]);
+            self.holds(index == highest.unwrap_or(0), "the answer is wrong")?;
+            self.holds(probes == verdicts, "the number of probes is wrong")?;
+        }
+        self.holds(
+            verdicts <= probe_limit(self.k),
+            "there were too many probes",
+        )
+    }
+
+    fn bracket(&self) -> u64 {
+        self.seats[0].record[HI] - self.seats[0].record[LO]
+    }
+
+    /// Whether total demand at an index is at least total supply.
+    fn clears(&self, index: u64) -> bool {
+        let demand = index as usize - 1;
+        let supply = demand + self.k as usize;
+        let total = |place: usize| -> u64 { self.tables.iter().map(|table| table[place]).sum() };
+        total(demand) >= total(supply)
+    }
+
+    /// Makes a call that must be accepted, with damaged ones before it now and
+    /// then.
+    fn accepted(&mut self, call: Call) -> Result<Call, Difference> {
+        if self.rng.once_in(4) {
+            let mut damaged = call.clone();
+            damage(self.rng, &mut damaged);
+            self.tally.compare(&damaged)?;
+        }
+        if self.rng.once_in(16) {
+            self.out_of_turn()?;
+        }
+        let (reply, left) = self.tally.compare(&call)?;
+        self.holds(reply == 0, &format!("refusal {reply} of\n{call}\n"))?;
+        Ok(left)
+    }
+
+    /// Calls on the parties' own buffers that are refused, or that change
+    /// nothing which a run receives.
+    fn out_of_turn(&mut self) -> Result<(), Difference> {
+        if self.seats.is_empty() {
+            return Ok(());
+        }
+        let seat = &self.seats[self.rng.place(self.seats.len())];
+        let shares = vec![1; seat.totals.len()];
+        let messages = self.rng.words(self.n as usize, |rng| rng.below(256));
+        let calls = [
+            Call::answer(&seat.record, self.rng.word(), self.rng.word()),
+            Call::add(&seat.record, &seat.totals, &shares),
+            Call::hear(&seat.record, &seat.totals, &seat.sheets, &messages),
+        ];
+        for call in &calls {
+            self.tally.compare(call)?;
+        }
+        Ok(())
+    }
+
+    fn holds(&self, fact: bool, otherwise: &str) -> Result<(), Difference> {
+        if fact {
+            return Ok(());
+        }
+        Err(Difference(format!(
+            "{otherwise}, in an auction of {} parties, {} prices, {} bids",
+            self.n,
+            self.k,
+            self.tables.len()
+        )))
+    }
+}

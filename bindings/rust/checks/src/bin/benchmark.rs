@@ -1,0 +1,333 @@
+//! Times the verified library against the plain reference, same inputs, both
+//! optimised, in one run:
+//!
+//!     cargo run --release --bin benchmark
+//!
+//! In each repeat the two take turns, one short batch of calls after the other,
+//! and the shortest batch of each is kept: the one that the rest of the machine
+//! disturbed least. Their ratio, verified time divided by plain time, is the
+//! figure of the repeat. The table has the middle figure of all repeats, the
+//! least and the greatest.
+//!
+//! All inputs are drawn before the clock starts. Buffers that a call writes
+//! are not cleared between calls. The record that a call steps is set back
+//! before each call, on both sides.
+
+use std::process::ExitCode;
+use std::thread::available_parallelism;
+use std::time::{Duration, Instant};
+
+use clockivy_checks::engine::{Engine, Plain, Verified};
+use clockivy_checks::record::{HI, LO};
+use clockivy_checks::rng::Rng;
+use clockivy_reference::{probe_limit, threshold, LAST_ROUND, MAX_BIDS, RECORD, SHEET};
+
+const N: u64 = 5;
+const K: u64 = 1_024;
+const TABLE: usize = 2 * K as usize;
+/// The party whose calls are timed one by one.
+const OWN: u64 = 4;
+/// The round that stands for rounds 2 to 32, which do the same work.
+const MIDDLE: u64 = 17;
+
+const SEED: u64 = 1979;
+
+/// How often a case is timed.
+struct Plan {
+    repeats: usize,
+    /// Batches of each side in a repeat.
+    batches: usize,
+    /// The least time of a batch.
+    batch: Duration,
+}
+
+const CALL_PLAN: Plan = Plan {
+    repeats: 31,
+    batches: 25,
+    batch: Duration::from_micros(100),
+};
+
+/// A batch is one auction.
+const AUCTION_PLAN: Plan = Plan {
+    repeats: 7,
+    batches: 5,
+    batch: Duration::ZERO,
+};
+
+/// One call, or one auction, on either side.
+struct Case {
+    name: &'static str,
+    verified: fn(&mut Inputs),
+    plain: fn(&mut Inputs),
+}
+
+macro_rules! case {
+    ($name:literal, $run:ident $(, $round:expr)?) => {
+        Case {
+            name: $name,
+            verified: $run::<Verified $(, { $round })?>,
+            plain: $run::<Plain $(, { $round })?>,
+        }
+    };
+}
+
+const CALLS: [Case; 9] = [
+    case!("split", split),
+    case!("deal", deal),
+    case!("add", add),
+    case!("say, round 1", say, 1),
+    case!("say, rounds 2 to 32", say, MIDDLE),
+    case!("say, round 33", say, LAST_ROUND),
+    case!("hear, round 1", hear, 1),
+    case!("hear, rounds 2 to 32", hear, MIDDLE),
+    case!("hear, round 33", hear, LAST_ROUND),
+];
+
+const AUCTION: Case = case!("whole auction, 1,000 bids", auction);
+
+fn main() -> ExitCode {
+    let cores = available_parallelism().map_or(1, usize::from);
+    println!("n = {N}, k = {K}, one thread, {cores} cores\n");
+
+    let mut inputs = Inputs::draw(&mut Rng::new(SEED));
+    println!("| call | verified | plain | ratio | least | greatest |");
+    println!("|---|---:|---:|---:|---:|---:|");
+    for case in &CALLS {
+        println!("{}", measure(case, &mut inputs, &CALL_PLAN));
+    }
+    println!("{}", measure(&AUCTION, &mut inputs, &AUCTION_PLAN));
+
+    auction::<Verified>(&mut inputs);
+    let verified = inputs.answer;
+    auction::<Plain>(&mut inputs);
+    if verified != inputs.answer {
+        println!("\nbenchmark: FAILED, the answers differ");
+        return ExitCode::FAILURE;
+    }
+    println!("\nbenchmark: done, same answers");
+    ExitCode::SUCCESS
+}
+
+/// A row of the table.
+fn measure(case: &Case, inputs: &mut Inputs, plan: &Plan) -> String {
+    let mut times = 1;
+    while batch(case.plain, inputs, times) < plan.batch {
+        times *= 2;
+    }
+    let mut verified = Vec::new();
+    let mut plain = Vec::new();
+    for _ in 0..plan.repeats {
+        let mut least = [Duration::MAX; 2];
+        for _ in 0..plan.batches {
+            least[0] = least[0].min(batch(case.verified, inputs, times));
+            least[1] = least[1].min(batch(case.plain, inputs, times));
+        }
+        verified.push(least[0].as_secs_f64() / f64::from(times));
+        plain.push(least[1].as_secs_f64() / f64::from(times));
+    }
+    let mut ratios: Vec<f64> = verified.iter().zip(&plain).map(|(v, p)| v / p).collect();
+    format!(
+        "| {} | {} | {} | {:.2} | {:.2} | {:.2} |",
+        case.name,
+        shown(middle(&mut verified)),
+        shown(middle(&mut plain)),
+        middle(&mut ratios),
+        ratios[0],
+        ratios[plan.repeats - 1]
+    )
+}
+
+/// The time of a number of calls.
+fn batch(run: fn(&mut Inputs), inputs: &mut Inputs, times: u32) -> Duration {
+    let start = Instant::now();
+    for _ in 0..times {
+        run(inputs);
+    }
+    start.elapsed()
+}
+
+/// Sorts and gives the middle one.
+fn middle(figures: &mut [f64]) -> f64 {
+    figures.sort_by(f64::total_cmp);
+    figures[figures.len() / 2]
+}
+
+/// A time in a unit that suits it.
+fn shown(seconds: f64) -> String {
+    match seconds {
+        s if s < 1e-6 => format!("{:.0} ns", s * 1e9),
+        s if s < 1e-3 => format!("{:.2} us", s * 1e6),
+        s => format!("{:.1} ms", s * 1e3),
+    }
+}
+
+/// A bidder's table and coins.
+struct Bid {
+    table: Vec<u64>,
+    coins: Vec<u64>,
+}
+
+/// The dealer's coins for one probe.
+struct Drawn {
+    words: Vec<u64>,
+    bytes: Vec<u8>,
+}
+
+/// What one party keeps.
+struct Seat {
+    record: [u64; RECORD],
+    totals: Vec<u64>,
+    sheets: Vec<u64>,
+}
+
+/// What one party holds before a round, and what it then hears.
+struct Round {
+    record: [u64; RECORD],
+    messages: Vec<u64>,
+}
+
+/// All that the calls are given and lent.
+struct Inputs {
+    bids: Vec<Bid>,
+    draws: Vec<Drawn>,
+    /// The timed party after the first probe, and the rounds of that probe.
+    seat: Seat,
+    rounds: Vec<Round>,
+    /// Shares below the prime that are added over and over, and to what.
+    addend: Vec<u64>,
+    sum: Vec<u64>,
+    /// What the calls write.
+    shares: Vec<u64>,
+    sheet: Vec<u64>,
+    answer: [u64; 2],
+}
+
+impl Inputs {
+    fn draw(rng: &mut Rng) -> Inputs {
+        let t = threshold(N);
+        let bids: Vec<Bid> = (0..MAX_BIDS)
+            .map(|_| Bid {
+                table: rng.table(K as usize),
+                coins: rng.words(TABLE * t, Rng::amount_share),
+            })
+            .collect();
+        let draws: Vec<Drawn> = (0..probe_limit(K))
+            .map(|_| {
+                let mut words = rng.words(1 + t, Rng::amount_share);
+                words[0] = rng.mask();
+                let bytes = rng.bytes(126 * t + 62);
+                Drawn { words, bytes }
+            })
+            .collect();
+
+        let mut seats = seats::<Plain>(&bids, &draws);
+        let mut rounds = Vec::new();
+        for _ in 1..=LAST_ROUND {
+            let record = seats[OWN as usize - 1].record;
+            let messages = round::<Plain>(&mut seats);
+            rounds.push(Round { record, messages });
+        }
+        Inputs {
+            seat: seats.swap_remove(OWN as usize - 1),
+            rounds,
+            bids,
+            draws,
+            addend: rng.words(TABLE, Rng::amount_share),
+            sum: vec![0; TABLE],
+            shares: vec![0; TABLE],
+            sheet: vec![0; SHEET],
+            answer: [0; 2],
+        }
+    }
+}
+
+fn split<E: Engine>(inputs: &mut Inputs) {
+    let Bid { table, coins } = &inputs.bids[0];
+    done(E::split(N, OWN, K, table, coins, &mut inputs.shares));
+}
+
+fn deal<E: Engine>(inputs: &mut Inputs) {
+    let Drawn { words, bytes } = &inputs.draws[0];
+    done(E::deal(N, OWN, words, bytes, &mut inputs.sheet));
+}
+
+fn add<E: Engine>(inputs: &mut Inputs) {
+    let mut record = [N, OWN, K, 0, 0, K + 1, 0, 1, 0, 0];
+    done(E::add(&mut record, &mut inputs.sum, &inputs.addend));
+}
+
+fn say<E: Engine, const ROUND: u64>(inputs: &mut Inputs) {
+    let round = &inputs.rounds[ROUND as usize - 1];
+    let Seat { totals, sheets, .. } = &inputs.seat;
+    let mut message = 0;
+    done(E::say(&round.record, totals, sheets, &mut message));
+    assert_eq!(message, round.messages[OWN as usize - 1]);
+}
+
+fn hear<E: Engine, const ROUND: u64>(inputs: &mut Inputs) {
+    let round = &inputs.rounds[ROUND as usize - 1];
+    let Seat { totals, sheets, .. } = &inputs.seat;
+    let mut record = round.record;
+    done(E::hear(&mut record, totals, sheets, &round.messages));
+}
+
+/// Every call of an auction, for all parties.
+fn auction<E: Engine>(inputs: &mut Inputs) {
+    let mut seats = seats::<E>(&inputs.bids, &inputs.draws);
+    while seats[0].record[HI] - seats[0].record[LO] > 1 {
+        round::<E>(&mut seats);
+    }
+    for seat in &seats {
+        let [index, probes] = &mut inputs.answer;
+        done(E::answer(&seat.record, index, probes));
+    }
+}
+
+/// All parties with the bids added and the sheets dealt.
+fn seats<E: Engine>(bids: &[Bid], draws: &[Drawn]) -> Vec<Seat> {
+    let mut seats = Vec::new();
+    for own in 1..=N {
+        let mut seat = Seat {
+            record: [0; RECORD],
+            totals: vec![0; TABLE],
+            sheets: vec![0; SHEET * draws.len()],
+        };
+        done(E::open(N, own, K, &mut seat.totals, &mut seat.record));
+        seats.push(seat);
+    }
+    let mut shares = vec![0; TABLE];
+    for Bid { table, coins } in bids {
+        for (own, seat) in (1..).zip(&mut seats) {
+            done(E::split(N, own, K, table, coins, &mut shares));
+            done(E::add(&mut seat.record, &mut seat.totals, &shares));
+        }
+    }
+    for (probe, Drawn { words, bytes }) in draws.iter().enumerate() {
+        for (own, seat) in (1..).zip(&mut seats) {
+            let sheet = &mut seat.sheets[SHEET * probe..SHEET * (probe + 1)];
+            done(E::deal(N, own, words, bytes, sheet));
+        }
+    }
+    seats
+}
+
+/// One round of all parties; gives the messages.
+fn round<E: Engine>(seats: &mut [Seat]) -> Vec<u64> {
+    let mut messages = vec![0; seats.len()];
+    for (seat, message) in seats.iter().zip(&mut messages) {
+        done(E::say(&seat.record, &seat.totals, &seat.sheets, message));
+    }
+    for seat in seats {
+        done(E::hear(
+            &mut seat.record,
+            &seat.totals,
+            &seat.sheets,
+            &messages,
+        ));
+    }
+    messages
+}
+
+fn done(reply: u64) {
+    assert_eq!(reply, 0, "a call was refused");
+}

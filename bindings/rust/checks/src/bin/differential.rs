@@ -1,0 +1,64 @@
+//! Compares the verified library with the plain reference, call by call:
+//!
+//!     cargo run --release --bin differential [CALLS [SEED]]
+
+use std::env;
+use std::process::ExitCode;
+use std::time::Instant;
+
+use clockivy_checks::differential::{run, Difference, Tally};
+
+const CALLS: u64 = 4_000_000;
+const SEED: u64 = 1979;
+/// The numbers of listed prices of the whole auctions.
+const PRICES: [u64; 18] = [
+    1, 2, 3, 4, 5, 7, 8, 15, 16, 17, 31, 33, 100, 255, 256, 1_000, 1_023, 1_024,
+];
+
+fn main() -> ExitCode {
+    let arguments: Vec<String> = env::args().skip(1).collect();
+    let numbers: Result<Vec<u64>, _> = arguments.iter().map(|word| word.parse()).collect();
+    let (calls, seed) = match numbers.as_deref() {
+        Ok([]) => (CALLS, SEED),
+        Ok(&[calls]) => (calls, SEED),
+        Ok(&[calls, seed]) => (calls, seed),
+        _ => {
+            eprintln!("usage: differential [CALLS [SEED]]");
+            return ExitCode::from(2);
+        }
+    };
+
+    let start = Instant::now();
+    let mut tally = Tally::default();
+    let outcome = run(seed, &PRICES, calls, &mut tally);
+    println!("Calls by reply: 0 (done) or the number of the refusal\n");
+    println!("{tally}\n");
+    println!(
+        "seed {seed}, {} calls, {} whole auctions, {:.0} seconds",
+        tally.calls(),
+        tally.auctions(),
+        start.elapsed().as_secs_f64()
+    );
+    match outcome.and_then(|()| complete(&tally)) {
+        Ok(()) => {
+            println!("differential: passed, every reply, record and buffer the same");
+            ExitCode::SUCCESS
+        }
+        Err(Difference(what)) => {
+            println!("{what}");
+            println!("differential: FAILED");
+            ExitCode::FAILURE
+        }
+    }
+}
+
+/// Every reply that a call can give has come up, and no other.
+fn complete(tally: &Tally) -> Result<(), Difference> {
+    if let Some((kind, reply)) = tally.unreached().first() {
+        return Err(Difference(format!("{} never replied {reply}", kind.name())));
+    }
+    if let Some((kind, reply)) = tally.unexpected().first() {
+        return Err(Difference(format!("{} replied {reply}", kind.name())));
+    }
+    Ok(())
+}

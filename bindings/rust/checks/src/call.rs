@@ -1,0 +1,241 @@
+//! One call with everything that it is given and lent, as data: to be damaged,
+//! made on either implementation, and compared afterwards.
+
+use std::fmt;
+use std::ops::{Deref, DerefMut};
+
+use crate::engine::Engine;
+
+/// The seven calls, in the order of the tables.
+#[derive(Clone, Copy, Debug, PartialEq, Eq)]
+pub enum Kind {
+    /// Opens a session. Words: totals, record.
+    Open,
+    /// Splits a bid. Words: table, coins, shares.
+    Split,
+    /// Writes preprocessing. Words: words, sheet.
+    Deal,
+    /// Adds a bid. Words: record, totals, shares.
+    Add,
+    /// Says a message. Words: record, totals, sheets, the message.
+    Say,
+    /// Hears all messages. Words: record, totals, sheets, messages.
+    Hear,
+    /// Asks for the answer. Words: record, the index, the probes.
+    Answer,
+}
+
+impl Kind {
+    /// All seven.
+    pub const ALL: [Kind; 7] = [
+        Kind::Open,
+        Kind::Split,
+        Kind::Deal,
+        Kind::Add,
+        Kind::Say,
+        Kind::Hear,
+        Kind::Answer,
+    ];
+
+    /// The name in tables.
+    pub fn name(self) -> &'static str {
+        match self {
+            Kind::Open => "open",
+            Kind::Split => "split",
+            Kind::Deal => "deal",
+            Kind::Add => "add",
+            Kind::Say => "say",
+            Kind::Hear => "hear",
+            Kind::Answer => "answer",
+        }
+    }
+
+    /// The replies that the call can give.
+    pub fn replies(self) -> &'static [u64] {
+        match self {
+            Kind::Open => &[0, 1, 2],
+            Kind::Split => &[0, 1, 2, 5, 6, 7],
+            Kind::Deal => &[0, 1, 2, 5],
+            Kind::Add => &[0, 1, 2, 3, 4, 8],
+            Kind::Say => &[0, 1, 2, 3, 8],
+            Kind::Hear => &[0, 1, 2, 3, 8, 9, 10, 11, 12],
+            Kind::Answer => &[0, 1, 2, 3],
+        }
+    }
+
+    /// How many of the numbers n, own and k the call is given beside a record.
+    pub fn numbers(self) -> usize {
+        match self {
+            Kind::Open | Kind::Split => 3,
+            Kind::Deal => 2,
+            _ => 0,
+        }
+    }
+
+    /// Which of the word slices is the record.
+    pub fn record(self) -> Option<usize> {
+        match self {
+            Kind::Open => Some(1),
+            Kind::Split | Kind::Deal => None,
+            Kind::Add | Kind::Say | Kind::Hear | Kind::Answer => Some(0),
+        }
+    }
+
+    /// How many of the word slices have a length of their own; those after
+    /// them are single words.
+    pub fn slices(self) -> usize {
+        match self {
+            Kind::Open | Kind::Deal => 2,
+            Kind::Split | Kind::Add | Kind::Say => 3,
+            Kind::Hear => 4,
+            Kind::Answer => 1,
+        }
+    }
+}
+
+/// A lent slice with guard elements before and behind it. A store past either
+/// end makes two buffers differ that should be the same.
+#[derive(Clone, PartialEq)]
+pub struct Lent<T> {
+    guarded: Vec<T>,
+}
+
+/// The guard elements on each side.
+const GUARD: usize = 4;
+
+impl<T: Copy + From<u8>> Lent<T> {
+    /// A slice with these contents.
+    pub fn new(contents: &[T]) -> Lent<T> {
+        let guard = [T::from(0xA5); GUARD];
+        Lent {
+            guarded: [&guard[..], contents, &guard].concat(),
+        }
+    }
+
+    /// The slice with another length, filled up with `filler`.
+    pub fn resize(&mut self, length: usize, filler: T) {
+        let mut contents = self.to_vec();
+        contents.resize(length, filler);
+        *self = Lent::new(&contents);
+    }
+}
+
+impl<T: Copy> Deref for Lent<T> {
+    type Target = [T];
+
+    fn deref(&self) -> &[T] {
+        &self.guarded[GUARD..self.guarded.len() - GUARD]
+    }
+}
+
+impl<T: Copy> DerefMut for Lent<T> {
+    fn deref_mut(&mut self) -> &mut [T] {
+        let end = self.guarded.len() - GUARD;
+        &mut self.guarded[GUARD..end]
+    }
+}
+
+/// A call.
+#[derive(Clone, PartialEq)]
+pub struct Call {
+    /// Which one.
+    pub kind: Kind,
+    /// n, own and k; 0 where the call is not given them.
+    pub numbers: [u64; 3],
+    /// The slices of words, and then the single words, in the order of the C
+    /// declaration.
+    pub words: Vec<Lent<u64>>,
+    /// The bytes that [`Kind::Deal`] is lent.
+    pub bytes: Lent<u8>,
+}
+
+impl Call {
+    /// A call on words.
+    pub fn new(kind: Kind, numbers: [u64; 3], words: &[&[u64]]) -> Call {
+        Call {
+            kind,
+            numbers,
+            words: words.iter().map(|contents| Lent::new(contents)).collect(),
+            bytes: Lent::new(&[]),
+        }
+    }
+
+    /// Opens a session.
+    pub fn open(n: u64, own: u64, k: u64, totals: &[u64], record: &[u64]) -> Call {
+        Call::new(Kind::Open, [n, own, k], &[totals, record])
+    }
+
+    /// Splits a bid.
+    pub fn split(n: u64, own: u64, k: u64, table: &[u64], coins: &[u64], shares: &[u64]) -> Call {
+        Call::new(Kind::Split, [n, own, k], &[table, coins, shares])
+    }
+
+    /// Writes preprocessing.
+    pub fn deal(n: u64, own: u64, words: &[u64], bytes: &[u8], sheet: &[u64]) -> Call {
+        Call {
+            bytes: Lent::new(bytes),
+            ..Call::new(Kind::Deal, [n, own, 0], &[words, sheet])
+        }
+    }
+
+    /// Adds a bid.
+    pub fn add(record: &[u64], totals: &[u64], shares: &[u64]) -> Call {
+        Call::new(Kind::Add, [0; 3], &[record, totals, shares])
+    }
+
+    /// Says a message, into a word that holds `message`.
+    pub fn say(record: &[u64], totals: &[u64], sheets: &[u64], message: u64) -> Call {
+        Call::new(Kind::Say, [0; 3], &[record, totals, sheets, &[message]])
+    }
+
+    /// Hears all messages.
+    pub fn hear(record: &[u64], totals: &[u64], sheets: &[u64], messages: &[u64]) -> Call {
+        Call::new(Kind::Hear, [0; 3], &[record, totals, sheets, messages])
+    }
+
+    /// Asks for the answer, into words that hold `index` and `probes`.
+    pub fn answer(record: &[u64], index: u64, probes: u64) -> Call {
+        Call::new(Kind::Answer, [0; 3], &[record, &[index], &[probes]])
+    }
+
+    /// Makes the call and gives the reply.
+    pub fn run<E: Engine>(&mut self) -> u64 {
+        let [n, own, k] = self.numbers;
+        match (self.kind, &mut self.words[..]) {
+            (Kind::Open, [totals, record]) => E::open(n, own, k, totals, record),
+            (Kind::Split, [table, coins, shares]) => E::split(n, own, k, table, coins, shares),
+            (Kind::Deal, [words, sheet]) => E::deal(n, own, words, &self.bytes, sheet),
+            (Kind::Add, [record, totals, shares]) => E::add(record, totals, shares),
+            (Kind::Say, [record, totals, sheets, message]) => {
+                E::say(record, totals, sheets, &mut message[0])
+            }
+            (Kind::Hear, [record, totals, sheets, messages]) => {
+                E::hear(record, totals, sheets, messages)
+            }
+            (Kind::Answer, [record, index, probes]) => {
+                E::answer(record, &mut index[0], &mut probes[0])
+            }
+            _ => unreachable!("each kind of call is made with its own buffers"),
+        }
+    }
+}
+
+impl fmt::Display for Call {
+    fn fmt(&self, f: &mut fmt::Formatter<'_>) -> fmt::Result {
+        write!(f, "{} {:?}", self.kind.name(), self.numbers)?;
+        for words in &self.words {
+            write!(f, "\n  {} words: {}", words.len(), start(words))?;
+        }
+        if self.kind == Kind::Deal {
+            write!(f, "\n  {} bytes: {}", self.bytes.len(), start(&self.bytes))?;
+        }
+        Ok(())
+    }
+}
+
+/// The first elements of a slice.
+fn start<T: fmt::Display>(slice: &[T]) -> String {
+    let shown: Vec<String> = slice.iter().take(12).map(T::to_string).collect();
+    let dots = if slice.len() > shown.len() { " .." } else { "" };
+    shown.join(" ") + dots
+}

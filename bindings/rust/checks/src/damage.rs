@@ -1,0 +1,187 @@
+//! Damage to a call: a number, a length, a field of the record or a word is
+//! changed, mostly to a value at or next to a limit. Some damage leaves the
+//! call acceptable; that is for the comparison to find out.
+
+use clockivy_reference::field::amount::P;
+use clockivy_reference::{
+    probe_limit, LAST_ROUND, MASK_LIMIT, MAX_AMOUNT, MAX_BIDS, MAX_PRICES, RECORD, SHEET, SUM_LIMIT,
+};
+
+use crate::call::{Call, Kind};
+use crate::record::{BIDS, HI, K, LO, N, OWN, PROBES, ROUND, SUM};
+use crate::rng::Rng;
+
+/// Values at which one test or another turns.
+const EDGES: [u64; 24] = [
+    0,
+    1,
+    2,
+    127,
+    128,
+    255,
+    256,
+    257,
+    65_535,
+    65_536,
+    MAX_AMOUNT,
+    MAX_AMOUNT + 1,
+    (1 << 32) - 1,
+    1 << 32,
+    MASK_LIMIT - 1,
+    MASK_LIMIT,
+    P - 1,
+    P,
+    P + 1,
+    1 << 62,
+    (1 << 63) - 1,
+    1 << 63,
+    u64::MAX - 1,
+    u64::MAX,
+];
+
+/// Damages a call in one place.
+pub fn damage(rng: &mut Rng, call: &mut Call) {
+    match rng.below(8) {
+        0..=1 if call.kind.numbers() > 0 => number(rng, call),
+        0..=2 if call.kind.record().is_some() => record_field(rng, call),
+        3..=4 => length(rng, call),
+        5 if call.kind == Kind::Hear => swap(rng, call),
+        _ => word(rng, call),
+    }
+}
+
+/// Changes n, own or k.
+fn number(rng: &mut Rng, call: &mut Call) {
+    let place = rng.place(call.kind.numbers());
+    let [n, _, k] = call.numbers;
+    let near = match place {
+        0 => [0, 2, 3, 9, 10],
+        1 => [0, 1, n.wrapping_sub(1), n, n.wrapping_add(1)],
+        _ => [0, 1, k.wrapping_add(1), MAX_PRICES, MAX_PRICES + 1],
+    };
+    call.numbers[place] = value(rng, call.numbers[place], &near);
+}
+
+/// Makes a slice longer or shorter.
+fn length(rng: &mut Rng, call: &mut Call) {
+    let filler = rng.pick(&EDGES);
+    if call.kind == Kind::Deal && rng.once_in(3) {
+        let length = other_length(rng, call.bytes.len());
+        call.bytes.resize(length, filler as u8);
+    } else {
+        let slice = &mut call.words[rng.place(call.kind.slices())];
+        let length = other_length(rng, slice.len());
+        slice.resize(length, filler);
+    }
+}
+
+fn other_length(rng: &mut Rng, length: usize) -> usize {
+    match rng.below(8) {
+        0 => 0,
+        1 => 2 * length,
+        2 => length / 2,
+        3 => length + SHEET,
+        4 => rng.place(length + 20),
+        5..=6 => length + 1,
+        _ => length.saturating_sub(1),
+    }
+}
+
+/// Changes a field of the record.
+fn record_field(rng: &mut Rng, call: &mut Call) {
+    let record = match call.kind.record() {
+        Some(place) if call.words[place].len() == RECORD => &mut call.words[place],
+        _ => return,
+    };
+    let field = rng.place(RECORD);
+    let [n, own, k, _, lo, hi, probes, ..] = record[..] else {
+        unreachable!("it has ten words");
+    };
+    let limit = if k <= MAX_PRICES { probe_limit(k) } else { 0 };
+    let near = match field {
+        N => [2, 3, 9, 10, own],
+        OWN => [0, 1, n, n.wrapping_add(1), own ^ 1],
+        K => [0, 1, MAX_PRICES, MAX_PRICES + 1, hi.wrapping_sub(1)],
+        BIDS => [0, 1, MAX_BIDS - 1, MAX_BIDS, MAX_BIDS + 1],
+        LO => [
+            0,
+            hi.wrapping_sub(2),
+            hi.wrapping_sub(1),
+            hi,
+            hi.wrapping_add(1),
+        ],
+        HI => [
+            0,
+            lo,
+            lo.wrapping_add(1),
+            k.wrapping_add(1),
+            k.wrapping_add(2),
+        ],
+        PROBES => [0, limit.wrapping_sub(1), limit, limit + 1, probes ^ 1],
+        ROUND => [0, 1, 2, LAST_ROUND, LAST_ROUND + 1],
+        SUM => [0, 1, SUM_LIMIT - 1, SUM_LIMIT, SUM_LIMIT + 1],
+        _ => [0, 1, 255, 256, 511],
+    };
+    record[field] = value(rng, record[field], &near);
+}
+
+/// Changes one word of a slice: the first, the last, one that the call uses,
+/// or any.
+fn word(rng: &mut Rng, call: &mut Call) {
+    let slice = rng.place(call.kind.slices());
+    let length = call.words[slice].len();
+    if call.kind.record() == Some(slice) || length == 0 {
+        return;
+    }
+    let place = match rng.below(8) {
+        0 => Some(0),
+        1 => Some(length - 1),
+        2..=4 => used(rng, call, slice).filter(|&place| place < length),
+        _ => None,
+    };
+    let place = place.unwrap_or_else(|| rng.place(length));
+    let old = call.words[slice][place];
+    call.words[slice][place] = value(rng, old, &EDGES);
+}
+
+/// A place that a saying or hearing uses.
+fn used(rng: &mut Rng, call: &Call, slice: usize) -> Option<usize> {
+    if !matches!(call.kind, Kind::Say | Kind::Hear) || call.words[0].len() != RECORD {
+        return None;
+    }
+    let [n, own, k, _, lo, hi, probes, ..] = call.words[0][..] else {
+        unreachable!("it has ten words");
+    };
+    if k > MAX_PRICES || hi > k + 1 || lo >= hi || probes > 64 || n > 9 {
+        return None;
+    }
+    let index = (lo + hi) / 2;
+    let place = match slice {
+        1 => index.saturating_sub(1) + rng.pick(&[0, k]),
+        2 => probes * SHEET as u64 + rng.pick(&[0, 1, 33, 34, 64, 126]),
+        _ => own.saturating_sub(1),
+    };
+    Some(place as usize)
+}
+
+/// Exchanges two messages.
+fn swap(rng: &mut Rng, call: &mut Call) {
+    let messages = &mut call.words[3];
+    if !messages.is_empty() {
+        let (one, other) = (rng.place(messages.len()), rng.place(messages.len()));
+        messages.swap(one, other);
+    }
+}
+
+/// Another value for a word that holds `old`.
+fn value(rng: &mut Rng, old: u64, near: &[u64]) -> u64 {
+    match rng.below(10) {
+        0 => rng.word(),
+        1 => old.wrapping_add(1),
+        2 => old.wrapping_sub(1),
+        3 => old.wrapping_add(P),
+        4 => old ^ (1 << rng.below(64)),
+        5 => rng.pick(&EDGES),
+        _ => rng.pick(near),
+    }
+}

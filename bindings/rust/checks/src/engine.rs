@@ -1,0 +1,73 @@
+//! The two implementations behind one set of names.
+
+use clockivy::words;
+use clockivy_reference as reference;
+
+/// The seven calls.
+pub trait Engine {
+    /// What tables and messages call it.
+    const NAME: &'static str;
+    /// Opens a session.
+    fn open(n: u64, own: u64, k: u64, totals: &mut [u64], record: &mut [u64]) -> u64;
+    /// Splits a bid.
+    fn split(n: u64, own: u64, k: u64, table: &[u64], coins: &[u64], shares: &mut [u64]) -> u64;
+    /// Writes preprocessing.
+    fn deal(n: u64, own: u64, words: &[u64], bytes: &[u8], sheet: &mut [u64]) -> u64;
+    /// Adds a bid.
+    fn add(record: &mut [u64], totals: &mut [u64], shares: &[u64]) -> u64;
+    /// Says a message.
+    fn say(record: &[u64], totals: &[u64], sheets: &[u64], message: &mut u64) -> u64;
+    /// Hears all messages.
+    fn hear(record: &mut [u64], totals: &[u64], sheets: &[u64], messages: &[u64]) -> u64;
+    /// Asks for the answer.
+    fn answer(record: &[u64], index: &mut u64, probes: &mut u64) -> u64;
+}
+
+macro_rules! engine {
+    ($engine:ident, $name:literal, $library:ident, $doc:literal) => {
+        #[doc = $doc]
+        pub struct $engine;
+
+        impl Engine for $engine {
+            const NAME: &'static str = $name;
+
+            fn open(n: u64, own: u64, k: u64, totals: &mut [u64], record: &mut [u64]) -> u64 {
+                $library::open(n, own, k, totals, record)
+            }
+
+            fn split(
+                n: u64,
+                own: u64,
+                k: u64,
+                table: &[u64],
+                coins: &[u64],
+                shares: &mut [u64],
+            ) -> u64 {
+                $library::split(n, own, k, table, coins, shares)
+            }
+
+            fn deal(n: u64, own: u64, words: &[u64], bytes: &[u8], sheet: &mut [u64]) -> u64 {
+                $library::deal(n, own, words, bytes, sheet)
+            }
+
+            fn add(record: &mut [u64], totals: &mut [u64], shares: &[u64]) -> u64 {
+                $library::add(record, totals, shares)
+            }
+
+            fn say(record: &[u64], totals: &[u64], sheets: &[u64], message: &mut u64) -> u64 {
+                $library::say(record, totals, sheets, message)
+            }
+
+            fn hear(record: &mut [u64], totals: &[u64], sheets: &[u64], messages: &[u64]) -> u64 {
+                $library::hear(record, totals, sheets, messages)
+            }
+
+            fn answer(record: &[u64], index: &mut u64, probes: &mut u64) -> u64 {
+                $library::answer(record, index, probes)
+            }
+        }
+    };
+}
+
+engine!(Verified, "verified", words, "The verified library.");
+engine!(Plain, "plain", reference, "The plain reference.");

@@ -1,0 +1,378 @@
+//! Calls to compare, mostly such as are accepted: random parties, prices,
+//! records and contents. Words that a call does not use hold anything.
+
+use clockivy_reference as reference;
+use clockivy_reference::field::{amount, byte};
+use clockivy_reference::{
+    probe_limit, LAST_ROUND, MAX_BIDS, MAX_PRICES, SHEET, SUM_LIMIT, SUM_LOW,
+};
+
+use crate::call::{Call, Kind};
+use crate::record::{index, HI, LO, N, OWN, PROBES, ROUND};
+use crate::rng::Rng;
+
+/// The numbers that fix the lengths of all buffers.
+#[derive(Clone, Copy)]
+pub struct Shape {
+    /// The number of parties.
+    pub n: u64,
+    /// The party's number.
+    pub own: u64,
+    /// The number of listed prices.
+    pub k: u64,
+}
+
+impl Shape {
+    /// A shape within its ranges or, now and then, one step outside them. The
+    /// lengths fit it in either case.
+    pub fn random(rng: &mut Rng) -> Shape {
+        let n = rng.between(3, 9);
+        let k = match rng.below(64) {
+            0 => MAX_PRICES,
+            1 => rng.between(1, MAX_PRICES),
+            2 => rng.pick(&[63, 64, 127, 128, 255, 256, 511, 512, 1_023]),
+            3..=15 => rng.between(1, 40),
+            _ => rng.between(1, 6),
+        };
+        let shape = Shape {
+            n,
+            own: rng.between(1, n),
+            k,
+        };
+        match rng.below(128) {
+            0 => Shape { n: 2, ..shape },
+            1 => Shape { n: 10, ..shape },
+            2 => Shape { own: 0, ..shape },
+            3 => Shape {
+                own: n + 1,
+                ..shape
+            },
+            4 => Shape { k: 0, ..shape },
+            5 => Shape {
+                k: MAX_PRICES + 1,
+                ..shape
+            },
+            _ => shape,
+        }
+    }
+
+    fn threshold(self) -> usize {
+        reference::threshold(self.n)
+    }
+
+    fn table_len(self) -> usize {
+        2 * self.k as usize
+    }
+
+    /// Changes the first coefficient so that the party's share is 0.
+    fn vanish(self, secret: u64, coefficients: &mut [u64]) {
+        if (1..=9).contains(&self.own) && !coefficients.is_empty() {
+            coefficients[0] = 0;
+            let rest = amount::share(secret, coefficients, self.own);
+            coefficients[0] = amount::mul(amount::sub(0, rest), amount::inverse(self.own));
+        }
+    }
+}
+
+/// A call of this kind.
+pub fn call(rng: &mut Rng, kind: Kind) -> Call {
+    let shape = Shape::random(rng);
+    match kind {
+        Kind::Open => open(rng, shape),
+        Kind::Split => split(rng, shape),
+        Kind::Deal => deal(rng, shape),
+        Kind::Add => add(rng, shape),
+        Kind::Say => say(rng, shape),
+        Kind::Hear => {
+            let said = say(rng, shape);
+            hear(rng, &said)
+        }
+        Kind::Answer => answer(rng, shape),
+    }
+}
+
+fn open(rng: &mut Rng, shape: Shape) -> Call {
+    let totals = rng.words(shape.table_len(), Rng::word);
+    let record = rng.words(reference::RECORD, Rng::word);
+    Call::open(shape.n, shape.own, shape.k, &totals, &record)
+}
+
+fn split(rng: &mut Rng, shape: Shape) -> Call {
+    let table = rng.table(shape.k as usize);
+    let t = shape.threshold();
+    let mut coins = rng.words(shape.table_len() * t, Rng::amount_share);
+    if t > 0 {
+        for (&entry, group) in table.iter().zip(coins.chunks_exact_mut(t)) {
+            if rng.once_in(8) {
+                shape.vanish(entry, group);
+            }
+        }
+    }
+    let shares = rng.words(shape.table_len(), Rng::word);
+    Call::split(shape.n, shape.own, shape.k, &table, &coins, &shares)
+}
+
+fn deal(rng: &mut Rng, shape: Shape) -> Call {
+    let mut words = rng.words(1 + shape.threshold(), Rng::amount_share);
+    words[0] = rng.mask();
+    if let ([mask, coefficients @ ..], true) = (&mut words[..], rng.once_in(8)) {
+        shape.vanish(*mask, coefficients);
+    }
+    let bytes = rng.bytes(126 * shape.threshold() + 62);
+    let sheet = rng.words(SHEET, Rng::word);
+    Call::deal(shape.n, shape.own, &words, &bytes, &sheet)
+}
+
+fn add(rng: &mut Rng, shape: Shape) -> Call {
+    let mut record = record(rng, shape);
+    if !rng.once_in(8) {
+        record[PROBES] = 0;
+        record[ROUND] = 1;
+    }
+    let totals = rng.words(shape.table_len(), Rng::amount_share);
+    let mut shares = rng.words(shape.table_len(), Rng::amount_share);
+    for (share, &total) in shares.iter_mut().zip(&totals) {
+        if rng.once_in(8) {
+            *share = amount::sub(0, total);
+        }
+    }
+    Call::add(&record, &totals, &shares)
+}
+
+fn say(rng: &mut Rng, shape: Shape) -> Call {
+    let record = record(rng, shape);
+    let mut totals = totals(rng, shape, &record);
+    let sheets = sheets(rng, shape, &record);
+    let message = rng.word();
+    if rng.once_in(8) {
+        silence(&record, &mut totals, &sheets);
+    }
+    Call::say(&record, &totals, &sheets, message)
+}
+
+/// Changes the demand that is probed so that the message of round 1 is 0.
+fn silence(record: &[u64], totals: &mut [u64], sheets: &[u64]) {
+    let mut message = 0;
+    if record[ROUND] == 1 && reference::say(record, totals, sheets, &mut message) == 0 {
+        let demand = &mut totals[index(record) - 1];
+        *demand = amount::sub(*demand, message);
+    }
+}
+
+/// A hearing with the record, totals and sheets of a saying, on messages that
+/// open, mostly, to something that is accepted.
+pub fn hear(rng: &mut Rng, said: &Call) -> Call {
+    let [record, totals, sheets, _] = &said.words[..] else {
+        unreachable!("it is a saying");
+    };
+    let mut own_message = 0;
+    let messages = if reference::say(record, totals, sheets, &mut own_message) == 0 {
+        messages(rng, record, own_message)
+    } else {
+        let n = record.first().map_or(3, |&n| n.min(10) as usize);
+        rng.words(n, |rng| rng.below(256))
+    };
+    Call::hear(record, totals, sheets, &messages)
+}
+
+fn answer(rng: &mut Rng, shape: Shape) -> Call {
+    let mut record = record(rng, shape);
+    if !rng.once_in(4) {
+        record[LO] = record[HI] - 1;
+    }
+    Call::answer(&record, rng.word(), rng.word())
+}
+
+/// A sound record, not always one that an auction can reach.
+fn record(rng: &mut Rng, shape: Shape) -> Vec<u64> {
+    let Shape { n, own, k } = shape;
+    let bids = match rng.below(4) {
+        0 => 0,
+        1 => MAX_BIDS,
+        _ => rng.between(0, MAX_BIDS),
+    };
+    let hi = if rng.once_in(2) {
+        k + 1
+    } else {
+        rng.between(1, k + 1)
+    };
+    let lo = match rng.below(4) {
+        0 => 0,
+        1 => hi.saturating_sub(2),
+        _ => rng.below(hi),
+    };
+    let probes = if hi - lo == 1 {
+        rng.between(0, probe_limit(k))
+    } else {
+        rng.below(probe_limit(k))
+    };
+    let round = match rng.below(4) {
+        0 => 1,
+        1 => LAST_ROUND,
+        _ => rng.between(1, LAST_ROUND),
+    };
+    let sum = match rng.below(16) {
+        0 => 0,
+        1 => SUM_LIMIT - 1,
+        _ => rng.below(SUM_LIMIT),
+    };
+    let carry = u64::from(rng.byte());
+    vec![n, own, k, bids, lo, hi, probes, round, sum, carry]
+}
+
+/// Totals: the two words that round 1 uses are shares, the others anything.
+fn totals(rng: &mut Rng, shape: Shape, record: &[u64]) -> Vec<u64> {
+    if rng.once_in(2) {
+        return rng.words(shape.table_len(), Rng::amount_share);
+    }
+    let mut totals = rng.words(shape.table_len(), Rng::word);
+    let index = index(record);
+    if record[ROUND] == 1 && index > 0 {
+        totals[index - 1] = rng.amount_share();
+        totals[shape.k as usize + index - 1] = rng.amount_share();
+    }
+    totals
+}
+
+/// Preprocessing: the current probe's is sound, the others hold anything.
+fn sheets(rng: &mut Rng, shape: Shape, record: &[u64]) -> Vec<u64> {
+    let mut sheets = Vec::new();
+    for probe in 0..probe_limit(shape.k) {
+        if probe == record[PROBES] || rng.once_in(2) {
+            sheets.push(rng.amount_share());
+            sheets.extend(rng.words(SHEET - 1, |rng| u64::from(rng.byte())));
+        } else {
+            sheets.extend(rng.words(SHEET, Rng::word));
+        }
+    }
+    sheets
+}
+
+/// All parties' messages for a record whose own message is given: on a random
+/// polynomial through it or, one time in three, bent off it elsewhere.
+fn messages(rng: &mut Rng, record: &[u64], own_message: u64) -> Vec<u64> {
+    let places = Places {
+        n: record[N],
+        own: record[OWN],
+    };
+    let mut messages = match record[ROUND] {
+        1 => {
+            let other = rng.between(1, places.n);
+            if rng.once_in(16) && other != places.own {
+                // Another party's message is 0, or the prime, which is not 0.
+                let mut messages = places.amounts(rng, own_message, other, 0);
+                messages[other as usize - 1] = rng.pick(&[0, amount::P]);
+                messages
+            } else {
+                let sum = sum(rng);
+                places.amounts(rng, own_message, 0, sum)
+            }
+        }
+        LAST_ROUND => {
+            let verdict = match rng.below(8) {
+                0 => rng.byte(),
+                1 => rng.pick(&[2, 3, 128, 255]),
+                even => (even % 2) as u8,
+            };
+            let bytes = places.bytes(rng, own_message as u8, verdict);
+            bytes.into_iter().map(u64::from).collect()
+        }
+        _ => {
+            let (d, e) = (rng.byte(), rng.byte());
+            let low = places.bytes(rng, own_message as u8, d);
+            let high = places.bytes(rng, (own_message >> 8) as u8, e);
+            let pairs = low.into_iter().zip(high);
+            pairs
+                .map(|(d, e)| u64::from(d) + 256 * u64::from(e))
+                .collect()
+        }
+    };
+    if rng.once_in(3) {
+        places.bend(rng, record[ROUND], &mut messages);
+    }
+    messages
+}
+
+/// A sum of round 1: mostly in its range, often at an end of it.
+fn sum(rng: &mut Rng) -> u64 {
+    match rng.below(8) {
+        0 => rng.below(amount::P),
+        1 => rng.between(SUM_LOW - 2, SUM_LOW + 2),
+        2 => rng.between(SUM_LIMIT - 3, SUM_LIMIT + 2),
+        3 => rng.pick(&[0, 1, 1 << 58, 1 << 59, amount::P - 1]),
+        _ => rng.between(SUM_LOW, SUM_LIMIT - 1),
+    }
+}
+
+/// The parties' points 1 to n, and the one whose word is given.
+struct Places {
+    n: u64,
+    own: u64,
+}
+
+impl Places {
+    /// The words of a random polynomial of degree at most t that has the given
+    /// values at the own point and at another.
+    fn amounts(&self, rng: &mut Rng, at_own: u64, point: u64, at_point: u64) -> Vec<u64> {
+        let mut coefficients = rng.words(reference::threshold(self.n), Rng::amount_share);
+        coefficients[0] = 0;
+        let missing_at_own = amount::sub(at_own, amount::share(0, &coefficients, self.own));
+        let missing = amount::sub(at_point, amount::share(0, &coefficients, point));
+        let run = amount::inverse(amount::sub(self.own, point));
+        coefficients[0] = amount::mul(amount::sub(missing_at_own, missing), run);
+        let secret = amount::sub(missing, amount::mul(coefficients[0], point));
+        let share = |point| amount::share(secret, &coefficients, point);
+        (1..=self.n).map(share).collect()
+    }
+
+    /// The words of a random polynomial of degree at most t in the byte field
+    /// that has the given values at the own point and at 0.
+    fn bytes(&self, rng: &mut Rng, at_own: u8, at_zero: u8) -> Vec<u8> {
+        let mut coefficients = rng.bytes(reference::threshold(self.n));
+        coefficients[0] = 0;
+        let rest = byte::share(at_zero, &coefficients, self.own as u8);
+        let missing = byte::add(at_own, rest);
+        coefficients[0] = byte::mul(missing, byte::inverse(self.own as u8));
+        let share = |point| byte::share(at_zero, &coefficients, point);
+        (1..=self.n as u8).map(share).collect()
+    }
+
+    /// Adds a polynomial of a degree above t that vanishes at the own point
+    /// and at as many others as its degree allows. With degree n - 1 that
+    /// alters one message; with t + 1 the most that can be altered unnoticed
+    /// by a test that looks at too few messages.
+    fn bend(&self, rng: &mut Rng, round: u64, messages: &mut [u64]) {
+        let t = reference::threshold(self.n) as u64;
+        let degree = rng.between(t + 1, self.n - 1);
+        let mut roots = vec![self.own];
+        while (roots.len() as u64) < degree {
+            let point = rng.between(1, self.n);
+            if !roots.contains(&point) {
+                roots.push(point);
+            }
+        }
+        let factor = rng.between(1, 255);
+        for (place, message) in messages.iter_mut().enumerate() {
+            let point = place as u64 + 1;
+            if round == 1 {
+                let mut value = factor;
+                for &root in &roots {
+                    value = amount::mul(value, amount::sub(point, root));
+                }
+                *message = amount::add(*message, value);
+            } else {
+                let mut value = factor as u8;
+                for &root in &roots {
+                    value = byte::mul(value, byte::add(point as u8, root as u8));
+                }
+                // Either byte of the message, in the rounds that have two.
+                let shift = if round < LAST_ROUND && factor % 2 == 0 {
+                    8
+                } else {
+                    0
+                };
+                *message ^= u64::from(value) << shift;
+            }
+        }
+    }
+}

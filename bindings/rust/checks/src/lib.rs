@@ -1,0 +1,13 @@
+//! The verified library held against the plain reference: that they do the
+//! same on every input (`differential`), and at what speed (`benchmark`).
+
+#![forbid(unsafe_code)]
+
+pub mod auction;
+pub mod call;
+pub mod damage;
+pub mod differential;
+pub mod engine;
+pub mod generate;
+pub mod record;
+pub mod rng;

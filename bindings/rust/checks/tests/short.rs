@@ -1,0 +1,15 @@
+//! A short comparison, for `cargo test`. The long one is the program
+//! `differential`.
+
+use clockivy_checks::differential::{run, Difference, Tally};
+
+#[test]
+fn a_short_comparison() {
+    let mut tally = Tally::default();
+    if let Err(Difference(what)) = run(1991, &[1, 2, 5, 16], 100_000, &mut tally) {
+        panic!("{what}");
+    }
+    assert_eq!(tally.unreached(), []);
+    assert_eq!(tally.unexpected(), []);
+    assert_eq!(tally.auctions(), 7 * 4);
+}

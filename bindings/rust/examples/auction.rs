@@ -1,0 +1,155 @@
+//! A whole auction of five parties in one process: four bids, eight listed
+//! prices. Prints each probe and the clearing price, and checks both against
+//! the totals, which only a program that plays every role can add up.
+//!
+//! The coins here come from a small generator with a fixed seed. A real bidder
+//! or dealer draws them from the operating system.
+
+use clockivy::{
+    coins_len, deal, deal_bytes_len, deal_words_len, sheets_len, split, table_len, Party, Refusal,
+    MASK_LIMIT, PRIME, ROUNDS, SHEET_LEN,
+};
+
+const N: u64 = 5;
+const K: u64 = 8;
+const PRICES: [u64; K as usize] = [80, 90, 100, 110, 120, 130, 140, 150];
+/// Demand at each price, then supply at each, in tenths of an hour.
+const BIDS: [[u64; 2 * K as usize]; 4] = [
+    [90, 80, 70, 55, 40, 30, 20, 5, 0, 0, 0, 0, 0, 0, 0, 0],
+    [45, 45, 45, 45, 41, 15, 0, 0, 0, 0, 0, 0, 0, 0, 5, 9],
+    [0, 0, 0, 0, 0, 0, 0, 0, 0, 10, 30, 30, 52, 60, 60, 75],
+    [0, 0, 0, 0, 0, 0, 0, 0, 7, 7, 7, 12, 29, 33, 48, 90],
+];
+
+/// Marsaglia's xorshift64.
+struct Coins(u64);
+
+impl Coins {
+    fn next(&mut self) -> u64 {
+        self.0 ^= self.0 << 13;
+        self.0 ^= self.0 >> 7;
+        self.0 ^= self.0 << 17;
+        self.0
+    }
+
+    fn mask(&mut self) -> u64 {
+        self.next() % MASK_LIMIT
+    }
+
+    fn coefficient(&mut self) -> u64 {
+        loop {
+            let word = self.next() & PRIME;
+            if word != PRIME {
+                return word;
+            }
+        }
+    }
+
+    fn byte(&mut self) -> u8 {
+        self.next() as u8
+    }
+}
+
+/// What one party keeps.
+struct Seat {
+    party: Party,
+    totals: Vec<u64>,
+    sheets: Vec<u64>,
+}
+
+fn main() -> Result<(), Refusal> {
+    let mut coins = Coins(0x9E37_79B9_7F4A_7C15);
+    let mut seats = open_sessions()?;
+    for table in &BIDS {
+        bid(&mut seats, table, &mut coins)?;
+    }
+    preprocess(&mut seats, &mut coins)?;
+
+    while !seats[0].party.is_over() {
+        let index = seats[0].party.index();
+        for _ in 1..=ROUNDS {
+            round(&mut seats)?;
+        }
+        let after = &seats[0].party;
+        let verdict = after.lo == index;
+        println!(
+            "probe {} index {index} verdict {}",
+            after.probes,
+            u64::from(verdict)
+        );
+        assert_eq!(verdict, clears(index));
+    }
+
+    let answer = seats[0].party.answer()?;
+    for seat in &seats {
+        assert_eq!(seat.party.answer()?, answer);
+    }
+    match answer.index {
+        0 => println!("clears 0 none"),
+        index => println!("clears {index} {}", PRICES[index as usize - 1]),
+    }
+    println!("rounds {}", ROUNDS * answer.probes);
+    let expected = (1..=K).rev().find(|&index| clears(index)).unwrap_or(0);
+    assert_eq!(answer.index, expected);
+    Ok(())
+}
+
+fn open_sessions() -> Result<Vec<Seat>, Refusal> {
+    let mut seats = Vec::new();
+    for own in 1..=N {
+        let mut totals = vec![0; table_len(K)];
+        let party = Party::open(N, own, K, &mut totals)?;
+        let sheets = vec![0; sheets_len(K)];
+        seats.push(Seat {
+            party,
+            totals,
+            sheets,
+        });
+    }
+    Ok(seats)
+}
+
+/// The bidder splits its table, and each party adds its own shares.
+fn bid(seats: &mut [Seat], table: &[u64], coins: &mut Coins) -> Result<(), Refusal> {
+    let drawn: Vec<u64> = (0..coins_len(N, K)).map(|_| coins.coefficient()).collect();
+    let mut shares = vec![0; table_len(K)];
+    for seat in seats {
+        split(N, seat.party.own, K, table, &drawn, &mut shares)?;
+        seat.party.add(&mut seat.totals, &shares)?;
+    }
+    Ok(())
+}
+
+/// The dealer writes every party's preprocessing, with new coins for each probe.
+fn preprocess(seats: &mut [Seat], coins: &mut Coins) -> Result<(), Refusal> {
+    for start in (0..sheets_len(K)).step_by(SHEET_LEN) {
+        let mut words = vec![coins.mask()];
+        words.resize_with(deal_words_len(N), || coins.coefficient());
+        let bytes: Vec<u8> = (0..deal_bytes_len(N)).map(|_| coins.byte()).collect();
+        for seat in seats.iter_mut() {
+            let sheet = &mut seat.sheets[start..start + SHEET_LEN];
+            deal(N, seat.party.own, &words, &bytes, sheet)?;
+        }
+    }
+    Ok(())
+}
+
+/// Each party says its message, and each hears all of them.
+fn round(seats: &mut [Seat]) -> Result<(), Refusal> {
+    let mut messages = Vec::new();
+    for seat in seats.iter() {
+        messages.push(seat.party.say(&seat.totals, &seat.sheets)?);
+    }
+    for seat in seats.iter_mut() {
+        seat.party.hear(&seat.totals, &seat.sheets, &messages)?;
+    }
+    Ok(())
+}
+
+/// Whether total demand at an index is at least total supply.
+fn clears(index: u64) -> bool {
+    let place = index as usize - 1;
+    let demand: u64 = BIDS.iter().map(|table| table[place]).sum();
+    let supply: u64 = BIDS.iter().map(|table| table[K as usize + place]).sum();
+    demand >= supply
+}

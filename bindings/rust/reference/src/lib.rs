@@ -1,0 +1,486 @@
+//! A plain implementation of the auction's seven calls, written from the paper
+//! alone: the ordinary loops, 128-bit products, one test after the other. The
+//! library is compared with it call by call, and timed against it.
+//!
+//! The functions have the shape of the C calls. Every slice may have any
+//! length and any contents; the reply is 0, or the number of the refusal, and
+//! then nothing has been written.
+
+#![forbid(unsafe_code)]
+
+pub mod field;
+
+use field::{amount, byte};
+
+const OUT_OF_RANGE: u64 = 1;
+const WRONG_LENGTH: u64 = 2;
+const OUT_OF_TURN: u64 = 3;
+const TOO_MANY_BIDS: u64 = 4;
+const COIN_OUT_OF_RANGE: u64 = 5;
+const AMOUNT_TOO_LARGE: u64 = 6;
+const NOT_MONOTONE: u64 = 7;
+const SHARE_OUT_OF_RANGE: u64 = 8;
+const OWN_MESSAGE_DIFFERS: u64 = 9;
+const INCONSISTENT: u64 = 10;
+const SUM_OUT_OF_RANGE: u64 = 11;
+const VERDICT_NOT_BIT: u64 = 12;
+
+/// The words of a party's record.
+pub const RECORD: usize = 10;
+/// The words of one probe's preprocessing.
+pub const SHEET: usize = 127;
+/// The most bids that are held.
+pub const MAX_BIDS: u64 = 1_000;
+/// The most listed prices.
+pub const MAX_PRICES: u64 = 1_024;
+/// The largest amount, in tenths of an hour.
+pub const MAX_AMOUNT: u64 = 4_194_303;
+/// Masks are below this.
+pub const MASK_LIMIT: u64 = 1 << 58;
+/// The opened sum of round 1 is at least this ..
+pub const SUM_LOW: u64 = (1 << 58) + 2;
+/// .. and below this.
+pub const SUM_LIMIT: u64 = (1 << 59) + (1 << 33);
+/// The last round of a probe.
+pub const LAST_ROUND: u64 = 33;
+
+/// The number of coefficients of a sharing among `n` parties.
+pub fn threshold(n: u64) -> usize {
+    ((n - 1) / 2) as usize
+}
+
+/// The base-2 logarithm of `k` + 1, rounded up.
+pub fn probe_limit(k: u64) -> u64 {
+    let mut limit = 0;
+    while 1 << limit < k + 1 {
+        limit += 1;
+    }
+    limit
+}
+
+/// Opens a session: zeroes the totals and writes the record.
+pub fn open(n: u64, own: u64, k: u64, totals: &mut [u64], record: &mut [u64]) -> u64 {
+    reply(try_open(n, own, k, totals, record))
+}
+
+/// Writes party `own`'s shares of a bid.
+pub fn split(n: u64, own: u64, k: u64, table: &[u64], coins: &[u64], shares: &mut [u64]) -> u64 {
+    reply(try_split(n, own, k, table, coins, shares))
+}
+
+/// Writes party `own`'s preprocessing for one probe.
+pub fn deal(n: u64, own: u64, words: &[u64], bytes: &[u8], sheet: &mut [u64]) -> u64 {
+    reply(try_deal(n, own, words, bytes, sheet))
+}
+
+/// Adds a bid's shares to the totals.
+pub fn add(record: &mut [u64], totals: &mut [u64], shares: &[u64]) -> u64 {
+    reply(try_add(record, totals, shares))
+}
+
+/// Writes the party's message of the current round.
+pub fn say(record: &[u64], totals: &[u64], sheets: &[u64], message: &mut u64) -> u64 {
+    reply(try_say(record, totals, sheets, message))
+}
+
+/// Takes all parties' messages of the current round and steps the record.
+pub fn hear(record: &mut [u64], totals: &[u64], sheets: &[u64], messages: &[u64]) -> u64 {
+    reply(try_hear(record, totals, sheets, messages))
+}
+
+/// Writes the clearing index and the number of probes made.
+pub fn answer(record: &[u64], index: &mut u64, probes: &mut u64) -> u64 {
+    reply(try_answer(record, index, probes))
+}
+
+fn reply(outcome: Result<(), u64>) -> u64 {
+    match outcome {
+        Ok(()) => 0,
+        Err(number) => number,
+    }
+}
+
+fn need(holds: bool, refusal: u64) -> Result<(), u64> {
+    if holds {
+        Ok(())
+    } else {
+        Err(refusal)
+    }
+}
+
+fn party_in_range(n: u64, own: u64) -> bool {
+    (3..=9).contains(&n) && (1..=n).contains(&own)
+}
+
+fn prices_in_range(k: u64) -> bool {
+    (1..=MAX_PRICES).contains(&k)
+}
+
+fn try_open(n: u64, own: u64, k: u64, totals: &mut [u64], record: &mut [u64]) -> Result<(), u64> {
+    need(party_in_range(n, own) && prices_in_range(k), OUT_OF_RANGE)?;
+    need(
+        totals.len() == 2 * k as usize && record.len() == RECORD,
+        WRONG_LENGTH,
+    )?;
+    totals.fill(0);
+    let opened = Record {
+        n,
+        own,
+        k,
+        bids: 0,
+        lo: 0,
+        hi: k + 1,
+        probes: 0,
+        round: 1,
+        sum: 0,
+        carry: 0,
+    };
+    opened.write(record);
+    Ok(())
+}
+
+fn try_split(
+    n: u64,
+    own: u64,
+    k: u64,
+    table: &[u64],
+    coins: &[u64],
+    shares: &mut [u64],
+) -> Result<(), u64> {
+    need(party_in_range(n, own) && prices_in_range(k), OUT_OF_RANGE)?;
+    let prices = k as usize;
+    let t = threshold(n);
+    need(
+        table.len() == 2 * prices && coins.len() == 2 * prices * t && shares.len() == 2 * prices,
+        WRONG_LENGTH,
+    )?;
+    need(
+        coins.iter().all(|&coin| coin < amount::P),
+        COIN_OUT_OF_RANGE,
+    )?;
+    need(
+        table.iter().all(|&entry| entry <= MAX_AMOUNT),
+        AMOUNT_TOO_LARGE,
+    )?;
+    let (demand, supply) = table.split_at(prices);
+    need(
+        demand.windows(2).all(|pair| pair[0] >= pair[1])
+            && supply.windows(2).all(|pair| pair[0] <= pair[1]),
+        NOT_MONOTONE,
+    )?;
+    for entry in 0..2 * prices {
+        let coefficients = &coins[entry * t..(entry + 1) * t];
+        shares[entry] = amount::share(table[entry], coefficients, own);
+    }
+    Ok(())
+}
+
+fn try_deal(n: u64, own: u64, words: &[u64], bytes: &[u8], sheet: &mut [u64]) -> Result<(), u64> {
+    need(party_in_range(n, own), OUT_OF_RANGE)?;
+    let t = threshold(n);
+    need(
+        words.len() == 1 + t && bytes.len() == 126 * t + 62 && sheet.len() == SHEET,
+        WRONG_LENGTH,
+    )?;
+    let mask = words[0];
+    need(
+        mask < MASK_LIMIT && words[1..].iter().all(|&word| word < amount::P),
+        COIN_OUT_OF_RANGE,
+    )?;
+
+    let point = own as u8;
+    let mut drawn = Drawn { bytes };
+    sheet[0] = amount::share(mask, &words[1..], own);
+    for i in 1..=33_u64 {
+        sheet[i as usize] = byte::share(bit(mask, i), drawn.take(t), point).into();
+    }
+    for i in 2..=32 {
+        let alpha = drawn.take(1)[0];
+        let beta = drawn.take(1)[0];
+        let triple = &mut sheet[34 + 3 * (i - 2)..34 + 3 * (i - 1)];
+        triple[0] = byte::share(alpha, drawn.take(t), point).into();
+        triple[1] = byte::share(beta, drawn.take(t), point).into();
+        triple[2] = byte::share(byte::mul(alpha, beta), drawn.take(t), point).into();
+    }
+    Ok(())
+}
+
+/// The drawn bytes that are still unused.
+struct Drawn<'a> {
+    bytes: &'a [u8],
+}
+
+impl<'a> Drawn<'a> {
+    fn take(&mut self, count: usize) -> &'a [u8] {
+        let (taken, rest) = self.bytes.split_at(count);
+        self.bytes = rest;
+        taken
+    }
+}
+
+fn try_add(record: &mut [u64], totals: &mut [u64], shares: &[u64]) -> Result<(), u64> {
+    let mut party = Record::read(record)?;
+    let length = 2 * party.k as usize;
+    need(
+        totals.len() == length && shares.len() == length,
+        WRONG_LENGTH,
+    )?;
+    need(party.probes == 0 && party.round == 1, OUT_OF_TURN)?;
+    need(party.bids < MAX_BIDS, TOO_MANY_BIDS)?;
+    need(
+        totals.iter().all(|&word| word < amount::P) && shares.iter().all(|&word| word < amount::P),
+        SHARE_OUT_OF_RANGE,
+    )?;
+    for (total, share) in totals.iter_mut().zip(shares) {
+        *total = amount::add(*total, *share);
+    }
+    party.bids += 1;
+    party.write(record);
+    Ok(())
+}
+
+fn try_say(record: &[u64], totals: &[u64], sheets: &[u64], message: &mut u64) -> Result<(), u64> {
+    let party = Record::read(record)?;
+    need(party.lengths_fit(totals, sheets), WRONG_LENGTH)?;
+    let sheet = party.current_sheet(totals, sheets)?;
+    *message = party.message(totals, &sheet);
+    Ok(())
+}
+
+fn try_hear(
+    record: &mut [u64],
+    totals: &[u64],
+    sheets: &[u64],
+    messages: &[u64],
+) -> Result<(), u64> {
+    let mut party = Record::read(record)?;
+    need(
+        party.lengths_fit(totals, sheets) && messages.len() == party.n as usize,
+        WRONG_LENGTH,
+    )?;
+    let sheet = party.current_sheet(totals, sheets)?;
+    let own_message = messages[party.own as usize - 1];
+    need(
+        own_message == party.message(totals, &sheet),
+        OWN_MESSAGE_DIFFERS,
+    )?;
+    match party.round {
+        1 => party.hear_sum(&sheet, messages)?,
+        LAST_ROUND => party.hear_verdict(messages)?,
+        _ => party.hear_product(&sheet, messages)?,
+    }
+    party.write(record);
+    Ok(())
+}
+
+fn try_answer(record: &[u64], index: &mut u64, probes: &mut u64) -> Result<(), u64> {
+    let party = Record::read(record)?;
+    need(party.is_over(), OUT_OF_TURN)?;
+    *index = party.lo;
+    *probes = party.probes;
+    Ok(())
+}
+
+/// Bit `i` of a number, bit 1 being the lowest.
+fn bit(number: u64, i: u64) -> u8 {
+    ((number >> (i - 1)) & 1) as u8
+}
+
+/// A party's record.
+struct Record {
+    n: u64,
+    own: u64,
+    k: u64,
+    bids: u64,
+    lo: u64,
+    hi: u64,
+    probes: u64,
+    round: u64,
+    sum: u64,
+    carry: u64,
+}
+
+/// The preprocessing of the current probe, judged.
+struct Sheet<'a> {
+    words: &'a [u64],
+}
+
+impl Sheet<'_> {
+    /// The share of the mask.
+    fn mask(&self) -> u64 {
+        self.words[0]
+    }
+
+    /// The share of bit `i` of the mask.
+    fn bit(&self, i: u64) -> u8 {
+        self.words[i as usize] as u8
+    }
+
+    /// The shares of alpha, beta and gamma for rounds 2 to 32.
+    fn triple(&self, round: u64) -> [u8; 3] {
+        let first = 34 + 3 * (round as usize - 2);
+        [0, 1, 2].map(|place| self.words[first + place] as u8)
+    }
+}
+
+impl Record {
+    /// The record in ten words, judged.
+    fn read(words: &[u64]) -> Result<Record, u64> {
+        let &[n, own, k, bids, lo, hi, probes, round, sum, carry] = words else {
+            return Err(WRONG_LENGTH);
+        };
+        need(party_in_range(n, own) && prices_in_range(k), OUT_OF_RANGE)?;
+        need(bids <= MAX_BIDS, OUT_OF_RANGE)?;
+        need(lo < hi && hi <= k + 1, OUT_OF_RANGE)?;
+        need((1..=LAST_ROUND).contains(&round), OUT_OF_RANGE)?;
+        need(sum < SUM_LIMIT, OUT_OF_RANGE)?;
+        need(carry <= 255, OUT_OF_RANGE)?;
+        need(probes <= probe_limit(k), OUT_OF_RANGE)?;
+        need(probes < probe_limit(k) || hi - lo <= 1, OUT_OF_RANGE)?;
+        Ok(Record {
+            n,
+            own,
+            k,
+            bids,
+            lo,
+            hi,
+            probes,
+            round,
+            sum,
+            carry,
+        })
+    }
+
+    fn write(&self, words: &mut [u64]) {
+        words.copy_from_slice(&[
+            self.n,
+            self.own,
+            self.k,
+            self.bids,
+            self.lo,
+            self.hi,
+            self.probes,
+            self.round,
+            self.sum,
+            self.carry,
+        ]);
+    }
+
+    fn is_over(&self) -> bool {
+        self.hi - self.lo == 1
+    }
+
+    /// The probed index.
+    fn index(&self) -> u64 {
+        (self.lo + self.hi) / 2
+    }
+
+    fn lengths_fit(&self, totals: &[u64], sheets: &[u64]) -> bool {
+        totals.len() == 2 * self.k as usize && sheets.len() == SHEET * probe_limit(self.k) as usize
+    }
+
+    /// This party's shares of total demand and total supply at the probed index.
+    fn totals_at_index(&self, totals: &[u64]) -> (u64, u64) {
+        let place = self.index() as usize - 1;
+        (totals[place], totals[self.k as usize + place])
+    }
+
+    /// The preprocessing of the current probe, where it is this party's turn
+    /// and every word that the round uses is a share.
+    fn current_sheet<'a>(&self, totals: &[u64], sheets: &'a [u64]) -> Result<Sheet<'a>, u64> {
+        need(!self.is_over(), OUT_OF_TURN)?;
+        if self.round == 1 {
+            let (demand, supply) = self.totals_at_index(totals);
+            need(demand < amount::P && supply < amount::P, SHARE_OUT_OF_RANGE)?;
+        }
+        let start = SHEET * self.probes as usize;
+        let words = &sheets[start..start + SHEET];
+        need(
+            words[0] < amount::P && words[1..].iter().all(|&word| word <= 255),
+            SHARE_OUT_OF_RANGE,
+        )?;
+        Ok(Sheet { words })
+    }
+
+    /// What this party says in the current round.
+    fn message(&self, totals: &[u64], sheet: &Sheet) -> u64 {
+        match self.round {
+            1 => {
+                let (demand, supply) = self.totals_at_index(totals);
+                let constant = (1 << 59) + (1 << 32);
+                let masked = amount::sub(constant, sheet.mask());
+                amount::sub(amount::add(masked, demand), supply)
+            }
+            LAST_ROUND => {
+                let sum_bit = bit(self.sum, LAST_ROUND);
+                byte::add(byte::add(sum_bit, sheet.bit(LAST_ROUND)), self.carry as u8).into()
+            }
+            round => {
+                let sum_bit = bit(self.sum, round);
+                let [alpha, beta, _] = sheet.triple(round);
+                let u = byte::add(sheet.bit(round), sum_bit);
+                let v = byte::add(self.carry as u8, sum_bit);
+                let d = byte::add(u, alpha);
+                let e = byte::add(v, beta);
+                u64::from(d) + 256 * u64::from(e)
+            }
+        }
+    }
+
+    /// Round 1: opens the masked sum and starts the carries.
+    fn hear_sum(&mut self, sheet: &Sheet, messages: &[u64]) -> Result<(), u64> {
+        need(messages.iter().all(|&word| word < amount::P), INCONSISTENT)?;
+        let sum = amount::open(messages, threshold(self.n)).ok_or(INCONSISTENT)?;
+        need((SUM_LOW..SUM_LIMIT).contains(&sum), SUM_OUT_OF_RANGE)?;
+        let sum_bit = bit(sum, 1);
+        let c = byte::add(sheet.bit(1), sum_bit);
+        self.sum = sum;
+        self.carry = byte::add(byte::mul(c, sum_bit), sum_bit).into();
+        self.round = 2;
+        Ok(())
+    }
+
+    /// Rounds 2 to 32: opens D and E and steps the carry.
+    fn hear_product(&mut self, sheet: &Sheet, messages: &[u64]) -> Result<(), u64> {
+        need(messages.iter().all(|&word| word <= 65_535), INCONSISTENT)?;
+        let mut low = [0; 9];
+        let mut high = [0; 9];
+        for (place, &word) in messages.iter().enumerate() {
+            low[place] = (word % 256) as u8;
+            high[place] = (word / 256) as u8;
+        }
+        let n = messages.len();
+        let t = threshold(self.n);
+        let d = byte::open(&low[..n], t).ok_or(INCONSISTENT)?;
+        let e = byte::open(&high[..n], t).ok_or(INCONSISTENT)?;
+        let [alpha, beta, gamma] = sheet.triple(self.round);
+        let mut carry = gamma;
+        carry = byte::add(carry, byte::mul(d, beta));
+        carry = byte::add(carry, byte::mul(e, alpha));
+        carry = byte::add(carry, byte::mul(d, e));
+        carry = byte::add(carry, bit(self.sum, self.round));
+        self.carry = carry.into();
+        self.round += 1;
+        Ok(())
+    }
+
+    /// Round 33: opens the verdict and steps the search.
+    fn hear_verdict(&mut self, messages: &[u64]) -> Result<(), u64> {
+        need(messages.iter().all(|&word| word <= 255), INCONSISTENT)?;
+        let mut words = [0; 9];
+        for (place, &word) in messages.iter().enumerate() {
+            words[place] = word as u8;
+        }
+        let verdict = byte::open(&words[..messages.len()], threshold(self.n));
+        match verdict.ok_or(INCONSISTENT)? {
+            1 => self.lo = self.index(),
+            0 => self.hi = self.index(),
+            _ => return Err(VERDICT_NOT_BIT),
+        }
+        self.probes += 1;
+        self.round = 1;
+        self.sum = 0;
+        self.carry = 0;
+        Ok(())
+    }
+}

@@ -1,0 +1,88 @@
+use std::error::Error;
+use std::fmt;
+
+/// Why a call did nothing. Of several that apply, a call names the one with
+/// the lowest number; whatever was lent to it is as before.
+#[derive(Clone, Copy, Debug, PartialEq, Eq, Hash)]
+#[non_exhaustive]
+pub enum Refusal {
+    /// 1: `n`, `own` or `k` is outside its range, or a field of the record is.
+    OutOfRange = 1,
+    /// 2: a slice has not the length that the call states.
+    WrongLength = 2,
+    /// 3: a bid after the first heard round; a round when the auction is over;
+    /// the answer before it is over.
+    OutOfTurn = 3,
+    /// 4: 1,000 bids are held already.
+    TooManyBids = 4,
+    /// 5: a coefficient is not below the prime, or a mask not below 2^58.
+    CoinOutOfRange = 5,
+    /// 6: an amount is above 4,194,303.
+    AmountTooLarge = 6,
+    /// 7: demand rises or supply falls.
+    NotMonotone = 7,
+    /// 8: a share of an amount is not below the prime, or one of a bit is
+    /// above 255.
+    ShareOutOfRange = 8,
+    /// 9: the message in the party's own place is not what the party says.
+    OwnMessageDiffers = 9,
+    /// 10: a message is out of range, or no polynomial of degree at most t
+    /// passes through all of them.
+    Inconsistent = 10,
+    /// 11: the opened sum of round 1 is outside its range.
+    SumOutOfRange = 11,
+    /// 12: the opened verdict is neither 0 nor 1.
+    VerdictNotBit = 12,
+}
+
+impl Refusal {
+    /// Every refusal, in the order of the numbers.
+    pub const ALL: [Refusal; 12] = [
+        Refusal::OutOfRange,
+        Refusal::WrongLength,
+        Refusal::OutOfTurn,
+        Refusal::TooManyBids,
+        Refusal::CoinOutOfRange,
+        Refusal::AmountTooLarge,
+        Refusal::NotMonotone,
+        Refusal::ShareOutOfRange,
+        Refusal::OwnMessageDiffers,
+        Refusal::Inconsistent,
+        Refusal::SumOutOfRange,
+        Refusal::VerdictNotBit,
+    ];
+
+    /// The refusal's number, 1 to 12.
+    pub fn number(self) -> u64 {
+        self as u64
+    }
+
+    /// The refusal with this number.
+    pub fn from_number(number: u64) -> Option<Refusal> {
+        Refusal::ALL
+            .into_iter()
+            .find(|refusal| refusal.number() == number)
+    }
+}
+
+impl fmt::Display for Refusal {
+    fn fmt(&self, f: &mut fmt::Formatter<'_>) -> fmt::Result {
+        let text = match self {
+            Refusal::OutOfRange => "a number or a field of the record is out of range",
+            Refusal::WrongLength => "a slice has the wrong length",
+            Refusal::OutOfTurn => "the call is out of turn",
+            Refusal::TooManyBids => "1,000 bids are held already",
+            Refusal::CoinOutOfRange => "a coin is out of range",
+            Refusal::AmountTooLarge => "an amount is too large",
+            Refusal::NotMonotone => "demand rises or supply falls",
+            Refusal::ShareOutOfRange => "a share is out of range",
+            Refusal::OwnMessageDiffers => "the party's own message is not what it says",
+            Refusal::Inconsistent => "the messages lie on no polynomial of the degree",
+            Refusal::SumOutOfRange => "the opened sum is out of range",
+            Refusal::VerdictNotBit => "the opened verdict is not a bit",
+        };
+        write!(f, "refusal {}: {text}", self.number())
+    }
+}
+
+impl Error for Refusal {}

@@ -1,0 +1,180 @@
+//! The seven calls on plain words, as the C library has them. The reply is 0,
+//! or the number of the [refusal](crate::Refusal), and then nothing that was
+//! lent has changed.
+//!
+//! Most callers want [`Party`](crate::Party) and the functions beside it. This
+//! module serves those who keep records as words, and tests: here a record may
+//! have any length.
+//!
+//! It is the only module with `unsafe` in it. Each function passes every slice
+//! as its pointer and its length. The library asks nothing else of its caller:
+//! it reads and writes within the slices, on any contents, always returns, and
+//! keeps no pointer. The borrows of one call cannot overlap where one of them
+//! is written.
+
+#![allow(unsafe_code)]
+
+extern "C" {
+    fn clockivy_open(
+        n: u64,
+        own: u64,
+        k: u64,
+        totals: *mut u64,
+        totals_len: usize,
+        record: *mut u64,
+        record_len: usize,
+    ) -> u64;
+    fn clockivy_split(
+        n: u64,
+        own: u64,
+        k: u64,
+        table: *const u64,
+        table_len: usize,
+        coins: *const u64,
+        coins_len: usize,
+        shares: *mut u64,
+        shares_len: usize,
+    ) -> u64;
+    fn clockivy_deal(
+        n: u64,
+        own: u64,
+        words: *const u64,
+        words_len: usize,
+        bytes: *const u8,
+        bytes_len: usize,
+        sheet: *mut u64,
+        sheet_len: usize,
+    ) -> u64;
+    fn clockivy_add(
+        record: *mut u64,
+        record_len: usize,
+        totals: *mut u64,
+        totals_len: usize,
+        shares: *const u64,
+        shares_len: usize,
+    ) -> u64;
+    fn clockivy_say(
+        record: *const u64,
+        record_len: usize,
+        totals: *const u64,
+        totals_len: usize,
+        sheets: *const u64,
+        sheets_len: usize,
+        message: *mut u64,
+    ) -> u64;
+    fn clockivy_hear(
+        record: *mut u64,
+        record_len: usize,
+        totals: *const u64,
+        totals_len: usize,
+        sheets: *const u64,
+        sheets_len: usize,
+        messages: *const u64,
+        messages_len: usize,
+    ) -> u64;
+    fn clockivy_answer(
+        record: *const u64,
+        record_len: usize,
+        index: *mut u64,
+        probes: *mut u64,
+    ) -> u64;
+}
+
+/// Zeroes `totals` and writes a new session's record. Refusals 1, 2.
+pub fn open(n: u64, own: u64, k: u64, totals: &mut [u64], record: &mut [u64]) -> u64 {
+    // SAFETY: see the head of this module; so for each call below.
+    unsafe {
+        clockivy_open(
+            n,
+            own,
+            k,
+            totals.as_mut_ptr(),
+            totals.len(),
+            record.as_mut_ptr(),
+            record.len(),
+        )
+    }
+}
+
+/// Writes one party's shares of a bid. Refusals 1, 2, 5, 6, 7.
+pub fn split(n: u64, own: u64, k: u64, table: &[u64], coins: &[u64], shares: &mut [u64]) -> u64 {
+    unsafe {
+        clockivy_split(
+            n,
+            own,
+            k,
+            table.as_ptr(),
+            table.len(),
+            coins.as_ptr(),
+            coins.len(),
+            shares.as_mut_ptr(),
+            shares.len(),
+        )
+    }
+}
+
+/// Writes one party's preprocessing for one probe. Refusals 1, 2, 5.
+pub fn deal(n: u64, own: u64, words: &[u64], bytes: &[u8], sheet: &mut [u64]) -> u64 {
+    unsafe {
+        clockivy_deal(
+            n,
+            own,
+            words.as_ptr(),
+            words.len(),
+            bytes.as_ptr(),
+            bytes.len(),
+            sheet.as_mut_ptr(),
+            sheet.len(),
+        )
+    }
+}
+
+/// Adds a bid's shares to `totals`. Refusals 1, 2, 3, 4, 8.
+pub fn add(record: &mut [u64], totals: &mut [u64], shares: &[u64]) -> u64 {
+    unsafe {
+        clockivy_add(
+            record.as_mut_ptr(),
+            record.len(),
+            totals.as_mut_ptr(),
+            totals.len(),
+            shares.as_ptr(),
+            shares.len(),
+        )
+    }
+}
+
+/// Writes the party's message of the current round. Refusals 1, 2, 3, 8.
+pub fn say(record: &[u64], totals: &[u64], sheets: &[u64], message: &mut u64) -> u64 {
+    unsafe {
+        clockivy_say(
+            record.as_ptr(),
+            record.len(),
+            totals.as_ptr(),
+            totals.len(),
+            sheets.as_ptr(),
+            sheets.len(),
+            message,
+        )
+    }
+}
+
+/// Steps the record by all parties' messages. Refusals 1, 2, 3, 8 to 12.
+pub fn hear(record: &mut [u64], totals: &[u64], sheets: &[u64], messages: &[u64]) -> u64 {
+    unsafe {
+        clockivy_hear(
+            record.as_mut_ptr(),
+            record.len(),
+            totals.as_ptr(),
+            totals.len(),
+            sheets.as_ptr(),
+            sheets.len(),
+            messages.as_ptr(),
+            messages.len(),
+        )
+    }
+}
+
+/// Writes the clearing index and the number of probes. Refusals 1, 2, 3.
+pub fn answer(record: &[u64], index: &mut u64, probes: &mut u64) -> u64 {
+    unsafe { clockivy_answer(record.as_ptr(), record.len(), index, probes) }
+}

@@ -1,0 +1,242 @@
+//! The paper's checked lines and limits, through the typed calls.
+
+use clockivy::{
+    coins_len, deal, deal_bytes_len, deal_words_len, probe_limit, sheets_len, split, table_len,
+    threshold, Answer, Party, Refusal, MASK_LIMIT, MAX_AMOUNT, PRIME, ROUNDS, SHEET_LEN,
+};
+
+/// All parties' shares of one amount, written as demand at the only price.
+fn shares_of(n: u64, secret: u64, coefficients: &[u64]) -> Vec<u64> {
+    let mut coins = coefficients.to_vec();
+    coins.resize(coins_len(n, 1), 0);
+    (1..=n)
+        .map(|own| {
+            let mut shares = [0; 2];
+            split(n, own, 1, &[secret, 0], &coins, &mut shares).unwrap();
+            shares[0]
+        })
+        .collect()
+}
+
+#[test]
+fn shares_of_an_amount() {
+    assert_eq!(shares_of(5, 7, &[3, 2]), [12, 21, 34, 51, 72]);
+    assert_eq!(
+        shares_of(3, 0, &[PRIME - 1]),
+        [PRIME - 1, PRIME - 2, PRIME - 3]
+    );
+}
+
+#[test]
+fn shares_of_a_bit() {
+    let mut bytes = vec![0; deal_bytes_len(3)];
+    bytes[0] = 0x80;
+    let shares: Vec<u64> = (1..=3)
+        .map(|own| {
+            let mut sheet = [0; SHEET_LEN];
+            deal(3, own, &[1, 0], &bytes, &mut sheet).unwrap();
+            sheet[1]
+        })
+        .collect();
+    assert_eq!(shares, [0x81, 0x1A, 0x9A]);
+}
+
+/// The share of alpha times beta, none of them masked.
+fn product(alpha: u8, beta: u8) -> u64 {
+    let mut bytes = vec![0; deal_bytes_len(3)];
+    bytes[33] = alpha;
+    bytes[34] = beta;
+    let mut sheet = [0; SHEET_LEN];
+    deal(3, 1, &[0, 0], &bytes, &mut sheet).unwrap();
+    assert_eq!(sheet[34..36], [alpha.into(), beta.into()]);
+    sheet[36]
+}
+
+#[test]
+fn products_of_bytes() {
+    assert_eq!(product(0x57, 0x83), 0xC1);
+    assert_eq!(product(0x57, 0x13), 0xFE);
+    for power in 0..8 {
+        let expected = [0x57, 0xAE, 0x47, 0x8E, 0x07, 0x0E, 0x1C, 0x38];
+        assert_eq!(product(0x57, 1 << power), expected[power as usize]);
+    }
+}
+
+#[test]
+fn shares_wrap_around_the_prime() {
+    assert_eq!(
+        shares_of(5, 0, &[0, PRIME - 1]),
+        [PRIME - 1, PRIME - 4, PRIME - 9, PRIME - 16, PRIME - 25]
+    );
+}
+
+#[test]
+fn a_round_that_lies_on_no_polynomial() {
+    let mut totals = [0; 2];
+    let mut party = Party::open(5, 1, 1, &mut totals).unwrap();
+    let mut sheet = [0; SHEET_LEN];
+    sheet[0] = (1 << 59) + (1 << 32) - 12;
+    assert_eq!(party.say(&totals, &sheet), Ok(12));
+    let before = party.clone();
+    let mut hear = |last| party.hear(&totals, &sheet, &[12, 21, 34, 51, last]);
+    assert_eq!(hear(73), Err(Refusal::Inconsistent));
+    // These open to 7, which is consistent but no sum.
+    assert_eq!(hear(72), Err(Refusal::SumOutOfRange));
+    assert_eq!(party, before);
+}
+
+/// One probe of three parties on the given totals and mask: the opened sum and
+/// the verdict.
+fn probe(demand: u64, supply: u64, mask: u64) -> (u64, bool) {
+    let n = 3;
+    // Totals can be larger than any one bid, so they are shared by hand, each
+    // with its own coefficient.
+    let share = |secret: u64, coefficient: u64, own: u64| secret + coefficient * own;
+    let words = [mask, 0x1234_5678];
+    let bytes: Vec<u8> = (0..deal_bytes_len(n)).map(|i| (i * 89) as u8).collect();
+    let mut seats: Vec<_> = (1..=n)
+        .map(|own| {
+            let mut totals = [0; 2];
+            let party = Party::open(n, own, 1, &mut totals).unwrap();
+            totals = [share(demand, 99, own), share(supply, 55, own)];
+            let mut sheet = [0; SHEET_LEN];
+            deal(n, own, &words, &bytes, &mut sheet).unwrap();
+            (party, totals, sheet)
+        })
+        .collect();
+    let mut sum = 0;
+    for round in 1..=ROUNDS {
+        let messages: Vec<u64> = seats
+            .iter()
+            .map(|(party, totals, sheet)| party.say(totals, sheet).unwrap())
+            .collect();
+        for (party, totals, sheet) in &mut seats {
+            party.hear(totals, sheet, &messages).unwrap();
+            if round == 1 {
+                sum = party.sum;
+            }
+        }
+    }
+    let answer = seats[0].0.answer().unwrap();
+    assert_eq!(answer.probes, 1);
+    for (party, _, _) in &seats {
+        assert_eq!(party.answer(), Ok(answer));
+    }
+    (sum, answer.index == 1)
+}
+
+#[test]
+fn comparisons() {
+    let base = (1 << 59) + (1 << 32);
+    assert_eq!(probe(5, 3, 7), (base - 5, true));
+    assert_eq!(probe(3, 5, 7), (base - 9, false));
+    assert_eq!(probe(0, 0, 0), (base, true));
+    let top = (1 << 32) - 1;
+    assert_eq!(probe(0, top, MASK_LIMIT - 1), ((1 << 58) + 2, false));
+    assert_eq!(probe(top, 0, 0), (base + top, true));
+    assert!(probe(top, top, MASK_LIMIT - 1).1);
+    assert!(!probe(top - 1, top, 0).1);
+}
+
+#[test]
+fn limits_of_a_bid() {
+    let try_table = |table: &[u64]| {
+        let k = table.len() as u64 / 2;
+        let coins = vec![1; coins_len(3, k)];
+        let mut shares = vec![5; table.len()];
+        let reply = split(3, 1, k, table, &coins, &mut shares);
+        if reply.is_err() {
+            assert!(shares.iter().all(|&share| share == 5));
+        }
+        reply
+    };
+    assert_eq!(try_table(&[MAX_AMOUNT, MAX_AMOUNT]), Ok(()));
+    assert_eq!(
+        try_table(&[MAX_AMOUNT + 1, 0]),
+        Err(Refusal::AmountTooLarge)
+    );
+    assert_eq!(
+        try_table(&[0, MAX_AMOUNT + 1]),
+        Err(Refusal::AmountTooLarge)
+    );
+    assert_eq!(try_table(&[4, 4, 0, 0]), Ok(()));
+    assert_eq!(try_table(&[4, 5, 0, 0]), Err(Refusal::NotMonotone));
+    assert_eq!(try_table(&[5, 4, 1, 0]), Err(Refusal::NotMonotone));
+    assert_eq!(try_table(&[0; 2 * 1_024]), Ok(()));
+    assert_eq!(try_table(&[0; 2 * 1_025]), Err(Refusal::OutOfRange));
+}
+
+#[test]
+fn a_thousand_bids_and_no_more() {
+    let mut totals = [0; 2];
+    let mut party = Party::open(3, 2, 1, &mut totals).unwrap();
+    for _ in 0..1_000 {
+        party.add(&mut totals, &[2, 3]).unwrap();
+    }
+    assert_eq!(totals, [2_000, 3_000]);
+    let before = party.clone();
+    assert_eq!(party.add(&mut totals, &[2, 3]), Err(Refusal::TooManyBids));
+    assert_eq!((party, totals), (before, [2_000, 3_000]));
+}
+
+#[test]
+fn limits_of_a_session() {
+    let open = |n, own, k: u64| {
+        let mut totals = vec![9; table_len(k)];
+        Party::open(n, own, k, &mut totals).map(|party| (party.to_words(), totals))
+    };
+    for n in 3..=9 {
+        let opened = [n, n, 1_024, 0, 0, 1_025, 0, 1, 0, 0];
+        assert_eq!(open(n, n, 1_024), Ok((opened, vec![0; 2_048])));
+        assert_eq!(open(n, n + 1, 1), Err(Refusal::OutOfRange));
+        assert_eq!(open(n, 0, 1), Err(Refusal::OutOfRange));
+    }
+    assert_eq!(open(2, 1, 1), Err(Refusal::OutOfRange));
+    assert_eq!(open(10, 1, 1), Err(Refusal::OutOfRange));
+    assert_eq!(open(3, 1, 0), Err(Refusal::OutOfRange));
+    assert_eq!(open(3, 1, 1_025), Err(Refusal::OutOfRange));
+    let mut short = [9; 3];
+    assert_eq!(Party::open(3, 1, 2, &mut short), Err(Refusal::WrongLength));
+    assert_eq!(short, [9; 3]);
+}
+
+#[test]
+fn answers_wait_for_the_end() {
+    let mut totals = [0; 2];
+    let mut party = Party::open(3, 1, 1, &mut totals).unwrap();
+    assert_eq!(party.answer(), Err(Refusal::OutOfTurn));
+    (party.lo, party.probes) = (1, 1);
+    let answer = Answer {
+        index: 1,
+        probes: 1,
+    };
+    assert_eq!(party.answer(), Ok(answer));
+    assert!(party.is_over());
+    party.carry = 256;
+    assert_eq!(party.answer(), Err(Refusal::OutOfRange));
+}
+
+#[test]
+fn refusals_by_number() {
+    for (place, refusal) in Refusal::ALL.into_iter().enumerate() {
+        let number = place as u64 + 1;
+        assert_eq!(refusal.number(), number);
+        assert_eq!(Refusal::from_number(number), Some(refusal));
+        assert!(refusal
+            .to_string()
+            .starts_with(&format!("refusal {number}: ")));
+    }
+    assert_eq!(Refusal::from_number(0), None);
+    assert_eq!(Refusal::from_number(13), None);
+}
+
+#[test]
+fn sizes() {
+    assert_eq!([3, 4, 5, 6, 7, 8, 9].map(threshold), [1, 1, 2, 2, 3, 3, 4]);
+    assert_eq!(
+        [1, 2, 3, 4, 7, 8, 255, 256, 1_023, 1_024].map(probe_limit),
+        [1, 2, 2, 3, 3, 4, 8, 9, 10, 11]
+    );
+    assert_eq!((deal_words_len(9), deal_bytes_len(9)), (5, 566));
+    assert_eq!((coins_len(9, 1_024), sheets_len(1_024)), (8_192, 1_397));
+}

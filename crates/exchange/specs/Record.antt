@@ -1,0 +1,50 @@
+-- A record in a lent slice: "n, own number, k, bids, lo, hi, probes done, round, T, carry share", a word each. Assumes nothing.
+use mathlib.Core.Bool.{not}
+use mathlib.Core.List.{List, [], _∷_}
+use Prim.Native.Nat.{ℕ}
+use lib.ListN.{getD}
+use Rattle.refusal.specs.Refusal.{numberOf}
+use Rattle.refusal.specs.Judging.{_⇒_, judged}
+use Rattle.refusal.specs.declared.Judgement.{Judgement}
+use Rattle.refusal.specs.declared.Judgement.the-variants as judgement
+use Rattle.refusal.specs.declared.Refusal.the-variants.{WrongLength}
+use Rattle.sharing.specs.Sizes.{long}
+use Rattle.party.specs.declared.record.Party.{Party}
+use Rattle.party.specs.declared.record.Reply.{Reply}
+use Rattle.party.specs.declared.record.Reply.the-variants.{Next, Refused}
+
+unfoldable pub words-of : Party → List ℕ
+words-of q = q .n ∷ q .own ∷ q .k ∷ q .bids ∷ q .lo ∷ q .hi ∷ q .probes ∷ q .round ∷ q .sum ∷ q .carry ∷ []
+
+unfoldable pub party-of : List ℕ → Party
+party-of words =
+    record {
+      n = getD words 0 0;
+      own = getD words 1 0;
+      k = getD words 2 0;
+      bids = getD words 3 0;
+      lo = getD words 4 0;
+      hi = getD words 5 0;
+      probes = getD words 6 0;
+      round = getD words 7 0;
+      sum = getD words 8 0;
+      carry = getD words 9 0;
+    }
+
+-- a slice of any other length is no record
+unfoldable pub record-judgement : List ℕ → Judgement
+record-judgement words = judged ((not (long 10 words) ⇒ WrongLength) ∷ [])
+
+-- a judgement, and another where the first accepts
+unfoldable pub then : Judgement → Judgement → Judgement
+then judgement.Accepted next = next
+then (judgement.Refused why) next = judgement.Refused why
+
+-- a reply as a host gets it: its number, and what is left in the record's slice
+abbrev pub reply-code : Reply → ℕ
+reply-code (Next q) = 0
+reply-code (Refused why) = numberOf why
+
+abbrev pub reply-record : Reply → List ℕ → List ℕ
+reply-record (Next q) words = words-of q
+reply-record (Refused why) words = words

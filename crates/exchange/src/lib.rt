@@ -1,0 +1,158 @@
+// The calls, exported for C. Each answers 0, or the refusal's number, and writes what it gives into
+// what it is lent; a refused call changes nothing that is lent. A record is lent as its ten words.
+ghost use mathlib.Core.Path.{_≡_};
+ghost use mathlib.Core.Bool.{_&&_};
+ghost use Rattle.sharing.specs.Sizes.{party, listed};
+ghost use Rattle.bid.specs.Split.{split-left};
+ghost use Rattle.dealer.specs.Deal.{deal-left};
+ghost use Rattle.exchange.specs.Calls.{open-code, open-totals, open-record, split-code, deal-code, add-code, add-totals, add-record, say-code, say-message, hear-code, hear-record, answer-code, answer-index, answer-probes};
+
+mod record;
+
+use party::Answer;
+use party::Said;
+use party::add;
+use party::answer;
+use party::hear;
+use party::open;
+use party::say;
+use record::WORDS;
+use record::read;
+use record::store;
+use refusal::Refusal;
+use refusal::code;
+use refusal::number;
+
+// Nothing is zeroed unless the record can be written too. n, own and k out of their ranges count
+// before any wrong length.
+#[no_mangle]
+pub extern "C" fn clockivy_open(
+    n: u64,
+    own: u64,
+    k: u64,
+    totals: &mut [u64],
+    words: &mut [u64],
+) -> u64
+    ensures { λ r. ⌜ (r ≡ open-code n own k (now (totals .entry)) (now (words .entry)))
+        × (now (totals .exit) ≡ open-totals n own k (now (totals .entry)) (now (words .entry)))
+        × (now (words .exit) ≡ open-record n own k (now (totals .entry)) (now (words .entry))) ⌝ }
+{
+    if !on_list(n, own, k) {
+        return number(Refusal::OutOfRange);
+    }
+    if words.len() != WORDS {
+        return number(Refusal::WrongLength);
+    }
+    store(open(n, own, k, totals), words)
+}
+
+// One of n parties, and k listed prices.
+fn on_list(n: u64, own: u64, k: u64) -> bool
+    ensures { λ r. ⌜ r ≡ (party n own && listed k) ⌝ }
+{
+    (3 <= n) & (n <= 9) & (1 <= own) & (own <= n) & ((1 <= k) & (k <= 1024))
+}
+
+// A party's shares of a bid.
+#[no_mangle]
+pub extern "C" fn clockivy_split(
+    n: u64,
+    own: u64,
+    k: u64,
+    table: &[u64],
+    coins: &[u64],
+    shares: &mut [u64],
+) -> u64
+    ensures { λ r. ⌜ (r ≡ split-code n own k (now (table .entry)) (now (coins .entry)) (now (shares .entry)))
+        × (now (shares .exit) ≡ split-left n own k (now (table .entry)) (now (coins .entry)) (now (shares .entry))) ⌝ }
+{
+    code(bid::split(n, own, k, table, coins, shares))
+}
+
+// A party's preprocessing of one probe.
+#[no_mangle]
+pub extern "C" fn clockivy_deal(
+    n: u64,
+    own: u64,
+    words: &[u64],
+    bytes: &[u8],
+    sheet: &mut [u64],
+) -> u64
+    ensures { λ r. ⌜ (r ≡ deal-code n own (now (words .entry)) (now (bytes .entry)) (now (sheet .entry)))
+        × (now (sheet .exit) ≡ deal-left n own (now (words .entry)) (now (bytes .entry)) (now (sheet .entry))) ⌝ }
+{
+    code(dealer::deal(n, own, words, bytes, sheet))
+}
+
+// Without a record nothing else can be judged, so here and below its length comes first.
+#[no_mangle]
+pub extern "C" fn clockivy_add(words: &mut [u64], totals: &mut [u64], shares: &[u64]) -> u64
+    ensures { λ r. ⌜ (r ≡ add-code (now (words .entry)) (now (totals .entry)) (now (shares .entry)))
+        × (now (words .exit) ≡ add-record (now (words .entry)) (now (totals .entry)) (now (shares .entry)))
+        × (now (totals .exit) ≡ add-totals (now (words .entry)) (now (totals .entry)) (now (shares .entry))) ⌝ }
+{
+    if words.len() != WORDS {
+        return number(Refusal::WrongLength);
+    }
+    store(add(read(&words[..]), totals, shares), words)
+}
+
+// The message of the round. The record is only read.
+#[no_mangle]
+pub extern "C" fn clockivy_say(
+    words: &[u64],
+    totals: &[u64],
+    sheets: &[u64],
+    message: &mut u64,
+) -> u64
+    ensures { λ r. ⌜ (r ≡ say-code (now (words .entry)) (now (totals .entry)) (now (sheets .entry)))
+        × (now (message .exit) ≡ say-message (now (words .entry)) (now (totals .entry)) (now (sheets .entry)) (now (message .entry))) ⌝ }
+{
+    if words.len() != WORDS {
+        return number(Refusal::WrongLength);
+    }
+    match say(read(words), totals, sheets) {
+        Said::Message(word) => {
+            *message = word;
+            0
+        }
+        Said::Refused(why) => number(why),
+    }
+}
+
+// The record after the round is written over the record before it.
+#[no_mangle]
+pub extern "C" fn clockivy_hear(
+    words: &mut [u64],
+    totals: &[u64],
+    sheets: &[u64],
+    messages: &[u64],
+) -> u64
+    ensures { λ r. ⌜ (r ≡ hear-code (now (words .entry)) (now (totals .entry)) (now (sheets .entry)) (now (messages .entry)))
+        × (now (words .exit) ≡ hear-record (now (words .entry)) (now (totals .entry)) (now (sheets .entry)) (now (messages .entry))) ⌝ }
+{
+    if words.len() != WORDS {
+        return number(Refusal::WrongLength);
+    }
+    store(hear(read(&words[..]), totals, sheets, messages), words)
+}
+
+// The clearing index, 0 for no price, and how many probes were made.
+#[no_mangle]
+pub extern "C" fn clockivy_answer(words: &[u64], index: &mut u64, probes: &mut u64) -> u64
+    ensures { λ r. ⌜ (r ≡ answer-code (now (words .entry)))
+        × (now (index .exit) ≡ answer-index (now (words .entry)) (now (index .entry)))
+        × (now (probes .exit) ≡ answer-probes (now (words .entry)) (now (probes .entry))) ⌝ }
+{
+    if words.len() != WORDS {
+        return number(Refusal::WrongLength);
+    }
+    match answer(read(words)) {
+        Answer::Cleared(price, made) => {
+            *index = price;
+            *probes = made;
+            0
+        }
+        Answer::Refused(why) => number(why),
+    }
+}

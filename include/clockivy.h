@@ -1,0 +1,319 @@
+/*
+ * clockivy.h - a sealed-bid uniform-price auction among parties who hold every
+ * amount in shares, as seven calls. Link with libexchange.a (64-bit targets).
+ *
+ * Terms
+ *   n       the number of parties, 3 to 9; t is (n - 1) / 2 rounded down
+ *   own     the number of the party that a call is for, 1 to n
+ *   k       the number of listed prices, 1 to 1,024; indices start from 1
+ *   P       the most probes of a search: log2(k + 1) rounded up
+ *   prime   2^61 - 1; shares of amounts and their coefficients are below it
+ *   totals  a party's shares of total demand at each price, then of supply
+ *   sheet   a party's preprocessing for one probe, 127 words
+ *   record  where a party stands in the auction, ten words (clockivy_party)
+ *
+ * An auction
+ *   Each party opens a session. A bidder splits its table once for each party,
+ *   with the same coins, and each party adds its shares. The dealer writes
+ *   every party's sheets for P probes, from new coins for each probe. Then,
+ *   round after round, each party says a message and hears all n of them, 33
+ *   rounds to a probe, until the answer is there.
+ *
+ * Buffers
+ *   Every buffer is the caller's and is lent for the length of the call; no
+ *   pointer is kept, nothing is allocated, and there is no hidden state, so
+ *   calls on different buffers may run at the same time. A slice is a pointer
+ *   and then its length in elements, not bytes. The pointer is aligned, is not
+ *   NULL even if the length is 0, and has that many elements behind it. A
+ *   buffer that a call writes does not overlap another one lent to that call.
+ *   That is all a caller has to see to: any number, length and contents is
+ *   judged, and every call returns.
+ *
+ * Replies
+ *   0 when the call is done, else the number of a refusal. Of the refusals
+ *   that apply the lowest is given; but where a record has not ten words,
+ *   nothing else can be judged and the reply is 2 (clockivy_open, which only
+ *   writes the record, judges 1 first). A refused call has changed nothing.
+ *
+ * Secrets
+ *   Coins are drawn by the caller: each uniform over its range, independent,
+ *   used once. A party's shares, totals and sheets are for that party alone.
+ */
+#ifndef CLOCKIVY_H
+#define CLOCKIVY_H
+
+#include <stddef.h>
+#include <stdint.h>
+
+#ifdef __cplusplus
+extern "C" {
+#endif
+
+/* The replies. */
+enum {
+    CLOCKIVY_DONE = 0,
+    CLOCKIVY_OUT_OF_RANGE = 1,        /* n, own, k or a field of the record */
+    CLOCKIVY_WRONG_LENGTH = 2,        /* a slice is not as long as stated */
+    CLOCKIVY_OUT_OF_TURN = 3,         /* a bid after the first heard round; a round
+                                         when over; the answer before it is over */
+    CLOCKIVY_TOO_MANY_BIDS = 4,       /* 1,000 bids are held */
+    CLOCKIVY_COIN_OUT_OF_RANGE = 5,   /* a coefficient at or above the prime, a mask
+                                         at or above 2^58 */
+    CLOCKIVY_AMOUNT_TOO_LARGE = 6,    /* an amount above 4,194,303 */
+    CLOCKIVY_NOT_MONOTONE = 7,        /* demand rises or supply falls */
+    CLOCKIVY_SHARE_OUT_OF_RANGE = 8,  /* an amount's share at or above the prime, a
+                                         bit's share above 255 */
+    CLOCKIVY_OWN_MESSAGE_DIFFERS = 9, /* the party's own place holds another message
+                                         than it says */
+    CLOCKIVY_INCONSISTENT = 10,       /* a message out of range, or no polynomial of
+                                         degree at most t through all of them */
+    CLOCKIVY_SUM_OUT_OF_RANGE = 11,   /* the opened sum of round 1 */
+    CLOCKIVY_VERDICT_NOT_BIT = 12     /* the opened verdict is above 1 */
+};
+
+/* Limits. */
+#define CLOCKIVY_PRIME ((((uint64_t)1) << 61) - 1)
+#define CLOCKIVY_MASK_LIMIT (((uint64_t)1) << 58)
+#define CLOCKIVY_MAX_PARTIES 9
+#define CLOCKIVY_MAX_PRICES 1024
+#define CLOCKIVY_MAX_BIDS 1000
+#define CLOCKIVY_MAX_AMOUNT 4194303
+#define CLOCKIVY_ROUNDS 33
+
+/* Lengths, for n and k within their ranges. */
+#define CLOCKIVY_RECORD_LEN 10
+#define CLOCKIVY_SHEET_LEN 127
+#define CLOCKIVY_THRESHOLD(n) (((n) - 1) / 2)
+#define CLOCKIVY_TABLE_LEN(k) (2 * (k))
+#define CLOCKIVY_COINS_LEN(n, k) (2 * (k) * CLOCKIVY_THRESHOLD(n))
+#define CLOCKIVY_DEAL_WORDS_LEN(n) (1 + CLOCKIVY_THRESHOLD(n))
+#define CLOCKIVY_DEAL_BYTES_LEN(n) (126 * CLOCKIVY_THRESHOLD(n) + 62)
+
+/*
+ * Opens party own's session: zeroes totals and writes a new record.
+ *
+ *   totals  2k words, written
+ *   record  10 words, written: n, own, k, bids 0, lo 0, hi k + 1, probes 0,
+ *           round 1, sum 0, carry 0
+ *
+ *   1  n, own or k is out of range
+ *   2  totals has not 2k words, or record not 10
+ */
+uint64_t clockivy_open(uint64_t n, uint64_t own, uint64_t k,
+                       uint64_t *totals, size_t totals_len,
+                       uint64_t *record, size_t record_len);
+
+/*
+ * Writes party own's shares of a bid. Call it once for each party with the
+ * same table and coins.
+ *
+ *   table   2k amounts in tenths of an hour, 0 to 4,194,303: demand at indices
+ *           1 to k, never rising, then supply, never falling
+ *   coins   2kt words below the prime: t coefficients for each entry in turn
+ *   shares  2k words, written
+ *
+ *   1  n, own or k is out of range
+ *   2  table has not 2k words, coins not 2kt, or shares not 2k
+ *   5  a coin is at or above the prime
+ *   6  an amount is above 4,194,303
+ *   7  demand rises or supply falls
+ */
+uint64_t clockivy_split(uint64_t n, uint64_t own, uint64_t k,
+                        const uint64_t *table, size_t table_len,
+                        const uint64_t *coins, size_t coins_len,
+                        uint64_t *shares, size_t shares_len);
+
+/*
+ * Writes party own's sheet for one probe. Call it once for each party with the
+ * same words and bytes, and draw new ones for each probe.
+ *
+ *   words  1 + t words: the mask, below 2^58, then its t coefficients, below
+ *          the prime
+ *   bytes  126t + 62 bytes: t coefficients for each of bits 1 to 33 of the
+ *          mask, bit 1 being the lowest; then for each of rounds 2 to 32
+ *          alpha, beta, and t coefficients each for alpha, beta and gamma,
+ *          which is alpha times beta
+ *   sheet  127 words, written: the mask's share, 33 bits' shares, then the
+ *          shares of alpha, beta and gamma for each of rounds 2 to 32
+ *
+ *   1  n or own is out of range
+ *   2  words has not 1 + t words, bytes not 126t + 62 bytes, or sheet not 127
+ *      words
+ *   5  the mask is at or above 2^58, or a coefficient at or above the prime
+ */
+uint64_t clockivy_deal(uint64_t n, uint64_t own,
+                       const uint64_t *words, size_t words_len,
+                       const uint8_t *bytes, size_t bytes_len,
+                       uint64_t *sheet, size_t sheet_len);
+
+/*
+ * Adds a bid's shares to the totals, modulo the prime, and counts the bid.
+ *
+ *   record  10 words; bids grows by one
+ *   totals  2k words; each has its share added
+ *   shares  2k words
+ *
+ *   1  a field of the record is out of range
+ *   2  record has not 10 words, or totals or shares not 2k
+ *   3  a round has been heard: probes above 0 or round above 1
+ *   4  1,000 bids are held
+ *   8  a word of totals or of shares is at or above the prime
+ */
+uint64_t clockivy_add(uint64_t *record, size_t record_len,
+                      uint64_t *totals, size_t totals_len,
+                      const uint64_t *shares, size_t shares_len);
+
+/*
+ * Writes the party's message of the current round. The record stays, so saying
+ * may be repeated.
+ *
+ *   record   10 words
+ *   totals   2k words
+ *   sheets   127P words: the party's sheets for all probes in turn
+ *   message  one word, written
+ *
+ *   1  a field of the record is out of range
+ *   2  record has not 10 words, totals not 2k, or sheets not 127P
+ *   3  the auction is over
+ *   8  round 1: a word of totals at the probed index is at or above the prime;
+ *      any round: in the current sheet, the mask's share is at or above the
+ *      prime or another word above 255
+ */
+uint64_t clockivy_say(const uint64_t *record, size_t record_len,
+                      const uint64_t *totals, size_t totals_len,
+                      const uint64_t *sheets, size_t sheets_len,
+                      uint64_t *message);
+
+/*
+ * Takes all parties' messages of the current round and steps the record to the
+ * next round. Round 33 opens the verdict: on 1 lo becomes the probed index, on
+ * 0 hi does, and the next probe begins or the auction is over.
+ *
+ *   record    10 words, stepped
+ *   totals    2k words
+ *   sheets    127P words
+ *   messages  n words, party 1's first
+ *
+ *   1   a field of the record is out of range
+ *   2   record has not 10 words, totals not 2k, sheets not 127P, or messages
+ *       not n
+ *   3   the auction is over
+ *   8   as in clockivy_say
+ *   9   the party's own place holds another message than it says
+ *   10  a message is at or above the prime (round 1), above 65,535 (2 to 32)
+ *       or above 255 (33); or no polynomial of degree at most t passes through
+ *       them (rounds 2 to 32: through the low bytes, and through the high)
+ *   11  round 1: the opened sum is outside 2^58 + 2 to 2^59 + 2^33 - 1
+ *   12  round 33: the opened verdict is above 1
+ */
+uint64_t clockivy_hear(uint64_t *record, size_t record_len,
+                       const uint64_t *totals, size_t totals_len,
+                       const uint64_t *sheets, size_t sheets_len,
+                       const uint64_t *messages, size_t messages_len);
+
+/*
+ * Writes the clearing index, the highest at which total demand is at least
+ * total supply, or 0 where there is none; and the number of probes made.
+ *
+ *   record  10 words
+ *   index   one word, written
+ *   probes  one word, written
+ *
+ *   1  a field of the record is out of range
+ *   2  record has not 10 words
+ *   3  the auction is not over
+ */
+uint64_t clockivy_answer(const uint64_t *record, size_t record_len,
+                         uint64_t *index, uint64_t *probes);
+
+#ifdef __cplusplus
+}
+#endif
+
+/*
+ * A party's record by names. It is plain data, to be stored and read back at
+ * will: every call judges it.
+ *
+ * A field is out of range (refusal 1) where n, own or k is; bids is above
+ * 1,000; not lo < hi <= k + 1; round is outside 1 to 33; sum is at or above
+ * 2^59 + 2^33; carry is above 255; probes is above P, or is P with hi - lo
+ * above 1.
+ */
+typedef struct clockivy_party {
+    uint64_t n;      /* the number of parties */
+    uint64_t own;    /* this party's number */
+    uint64_t k;      /* the number of listed prices */
+    uint64_t bids;   /* bids added */
+    uint64_t lo;     /* the highest index known to clear, or 0 */
+    uint64_t hi;     /* the lowest index known not to clear, or k + 1 */
+    uint64_t probes; /* probes done */
+    uint64_t round;  /* the round to be said and heard next */
+    uint64_t sum;    /* the opened sum of this probe's round 1, else 0 */
+    uint64_t carry;  /* this party's share of the carry, else 0 */
+} clockivy_party;
+
+/* The struct is the ten words, in their order. */
+typedef char clockivy_party_is_ten_words
+    [sizeof(clockivy_party) == CLOCKIVY_RECORD_LEN * sizeof(uint64_t) ? 1 : -1];
+
+#if defined(__cplusplus) || (defined(__STDC_VERSION__) && __STDC_VERSION__ >= 199901L)
+#define CLOCKIVY_INLINE static inline
+#elif defined(__GNUC__)
+#define CLOCKIVY_INLINE static __inline__
+#else
+#define CLOCKIVY_INLINE static
+#endif
+
+/* P, the most probes of a search over k prices. */
+CLOCKIVY_INLINE size_t clockivy_probe_limit(uint64_t k)
+{
+    size_t limit = 0;
+    while (k >> limit != 0)
+        limit++;
+    return limit;
+}
+
+/* The calls on a record, with a struct in place of ten words. */
+
+CLOCKIVY_INLINE uint64_t clockivy_party_open(clockivy_party *party,
+                                             uint64_t n, uint64_t own, uint64_t k,
+                                             uint64_t *totals, size_t totals_len)
+{
+    return clockivy_open(n, own, k, totals, totals_len,
+                         (uint64_t *)party, CLOCKIVY_RECORD_LEN);
+}
+
+CLOCKIVY_INLINE uint64_t clockivy_party_add(clockivy_party *party,
+                                            uint64_t *totals, size_t totals_len,
+                                            const uint64_t *shares, size_t shares_len)
+{
+    return clockivy_add((uint64_t *)party, CLOCKIVY_RECORD_LEN,
+                        totals, totals_len, shares, shares_len);
+}
+
+CLOCKIVY_INLINE uint64_t clockivy_party_say(const clockivy_party *party,
+                                            const uint64_t *totals, size_t totals_len,
+                                            const uint64_t *sheets, size_t sheets_len,
+                                            uint64_t *message)
+{
+    return clockivy_say((const uint64_t *)party, CLOCKIVY_RECORD_LEN,
+                        totals, totals_len, sheets, sheets_len, message);
+}
+
+CLOCKIVY_INLINE uint64_t clockivy_party_hear(clockivy_party *party,
+                                             const uint64_t *totals, size_t totals_len,
+                                             const uint64_t *sheets, size_t sheets_len,
+                                             const uint64_t *messages, size_t messages_len)
+{
+    return clockivy_hear((uint64_t *)party, CLOCKIVY_RECORD_LEN,
+                         totals, totals_len, sheets, sheets_len,
+                         messages, messages_len);
+}
+
+CLOCKIVY_INLINE uint64_t clockivy_party_answer(const clockivy_party *party,
+                                               uint64_t *index, uint64_t *probes)
+{
+    return clockivy_answer((const uint64_t *)party, CLOCKIVY_RECORD_LEN, index, probes);
+}
+
+#endif /* CLOCKIVY_H */
