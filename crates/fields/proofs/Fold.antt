@@ -1,7 +1,7 @@
 -- What folding by 2^61 = 1 keeps: the residue. Assumes nothing.
 use mathlib.Core.Path.{_≡_, sym, ap, _∙_}
 use Prim.Native.Nat.{ℕ, _+_, _-_, _*_, _/_, _%_, _^_, _≤_, _<_}
-use native.Mathlib.Nat.{mod-lt, mod-add-mod, add-mod-mod, add-mul-mod-self-left}
+use native.Mathlib.Nat.{add-comm, mod-mod, mod-lt, mod-add-mod, add-mod-mod, add-mul-mod-self-left}
 use mir.Syntax.{w64}
 use mir.Val.{Fits}
 use lib.Arith.{digits-mod}
@@ -57,8 +57,26 @@ module _ (h l : ℕ) (fl : l < 2 ^ 64) where
       sum : (b x : ℕ) → b < 2 ^ 61 → x < 8 → Fits w64 (b * 8 + x)
       sum b x hb hx = omega arith
 
-  pub parts-fit : h < 2 ^ 64 → Fits w64 parts
-  parts-fit fh = sum (l % 2 ^ 61) ((h * 8 % 2 ^ 64 + l / 2 ^ 61) % 2 ^ 61) (h / 2 ^ 58) (omega arith) (mod-lt (h * 8 % 2 ^ 64 + l / 2 ^ 61) (omega arith)) (omega arith)
+  parts-lt : h < 2 ^ 64 → parts < 2 ^ 62 + 64
+  parts-lt fh =
+      sum (l % 2 ^ 61) ((h * 8 % 2 ^ 64 + l / 2 ^ 61) % 2 ^ 61) (h / 2 ^ 58) (omega arith) (mod-lt (h * 8 % 2 ^ 64 + l / 2 ^ 61) (omega arith)) (omega arith)
     where
-      sum : (a b c : ℕ) → a < 2 ^ 61 → b < 2 ^ 61 → c < 64 → Fits w64 (a + b + c)
+      sum : (a b c : ℕ) → a < 2 ^ 61 → b < 2 ^ 61 → c < 64 → a + b + c < 2 ^ 62 + 64
       sum a b c ha hb hc = omega arith
+
+  pub parts-fit : h < 2 ^ 64 → Fits w64 parts
+  parts-fit fh = small parts (parts-lt fh)
+    where
+      small : (m : ℕ) → m < 2 ^ 62 + 64 → Fits w64 m
+      small m hm = omega arith
+
+  -- with one number more
+  pub parts-plus-fit : h < 2 ^ 64 → (c : ℕ) → c ≤ 2 ^ 61 + 6 → Fits w64 (parts + c)
+  parts-plus-fit fh c hc = more parts (parts-lt fh)
+    where
+      more : (m : ℕ) → m < 2 ^ 62 + 64 → Fits w64 (m + c)
+      more m hm = omega arith
+
+  pub parts-plus : (n c d : ℕ) → h ≡ n / 2 ^ 64 → l ≡ n % 2 ^ 64 → c % p ≡ d % p → (parts + c) % p ≡ amounts .add d (n % p)
+  parts-plus n c d eh el e =
+      add-cong parts c (n % p) d (parts-law n eh el ∙ sym (mod-mod n p)) e ∙ ap (λ (k : ℕ). k % p) (add-comm (n % p) d)

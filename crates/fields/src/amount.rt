@@ -37,6 +37,16 @@ impl AmountShare {
         let l = low(self.0, other.0);
         AmountShare(residue(l % TOP + ((h << 3) + l / TOP) % TOP + (h >> 58)))
     }
+
+    // addend + self * other, reduced once: a step of Horner's rule.
+    pub fn mul_add(self, other: AmountShare, addend: AmountShare) -> AmountShare
+        ensures { λ r. ⌜ r .0 ≡ amounts .add (addend .0) (amounts .mul (self .0) (other .0)) ⌝ }
+    {
+        let h = high(self.0, other.0);
+        let l = low(self.0, other.0);
+        let c = fold(addend.0);
+        AmountShare(residue(l % TOP + ((h << 3) + l / TOP) % TOP + (h >> 58) + c))
+    }
 }
 
 // A number below 2^61 + 7 that has the residue of x.

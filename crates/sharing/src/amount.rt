@@ -35,9 +35,9 @@ pub fn share_amount(secret: u64, coins: &[u64], point: u64) -> AmountShare
     while 0 < i {
         i -= 1;
         let coin = coins[i];
-        sum = AmountShare(coin).add(at.mul(sum));
+        sum = at.mul_add(sum, AmountShare(coin));
     }
-    AmountShare(secret).add(at.mul(sum))
+    at.mul_add(sum, AmountShare(secret))
 }
 
 // What n words open to: their weighted sum, where the sums of x, x^2, .. times them are 0.
