@@ -24,3 +24,11 @@ pub fn word(text: &[u8]) {
 pub fn end() {
     io::write_all(STDOUT_FILENO, b"\n");
 }
+
+pub fn numbers(words: &[u64]) {
+    let mut i = 0;
+    while i < words.len() {
+        number(words[i]);
+        i += 1;
+    }
+}

@@ -1,0 +1,226 @@
+// Hearing: the second of three parties in a session of one bid, demand 5 and supply 3, and one
+// price, with a mask of 7. Three calls are accepted, those of rounds 1, 2 and 33, and every other one
+// changes one of them. A call prints its refusal's number, or 0.
+ghost use Prim.Native.Nat.{_<_};
+use crate::line;
+use crate::of_dealer::fill;
+use crate::of_party::code;
+use crate::of_party::record;
+use party::Party;
+
+const P: u64 = 0x1fff_ffff_ffff_ffff;
+
+// 2^59 + 2^32 - 7 + 5 - 3.
+const SUM: u64 = (1 << 59) + (1 << 32) - 5;
+
+// The messages of the accepted calls.
+const WORDS_1: [u64; 3] = [576460756598389768, 576460756598388757, 576460756598387746];
+
+const WORDS_2: [u64; 3] = [49658, 40324, 43438];
+
+const WORDS_33: [u64; 3] = [17, 33, 49];
+
+pub fn print() {
+    accepted();
+    records();
+    lengths();
+    shares();
+    own_words();
+    crooked();
+    sums();
+    verdicts();
+}
+
+fn first() -> Party {
+    at_round(1, 0, 0)
+}
+
+fn second() -> Party {
+    at_round(2, SUM, 23)
+}
+
+fn last() -> Party {
+    at_round(33, SUM, 108)
+}
+
+fn at_round(round: u64, sum: u64, carry: u64) -> Party {
+    Party {
+        n: 3,
+        own: 2,
+        k: 1,
+        bids: 1,
+        lo: 0,
+        hi: 2,
+        probes: 0,
+        round,
+        sum,
+        carry,
+    }
+}
+
+fn accepted() {
+    line::title(b"heard, round 1:");
+    heard(first(), &WORDS_1);
+    line::end();
+
+    line::title(b"heard, round 2:");
+    heard(second(), &WORDS_2);
+    line::end();
+
+    line::title(b"heard, round 33:");
+    heard(last(), &WORDS_33);
+    line::end();
+}
+
+// A party's number out of its range, with a message missing; and a session that is over.
+fn records() {
+    line::title(b"hear records:");
+    let mut q = first();
+    q.own = 4;
+    hears(q, &[576460756598389768, 576460756598388757]);
+    q = first();
+    q.lo = 1;
+    q.probes = 1;
+    hears(q, &WORDS_1);
+    line::end();
+}
+
+fn lengths() {
+    line::title(b"hear lengths:");
+    hears(first(), &[576460756598389768, 576460756598388757]);
+    hears(
+        first(),
+        &[
+            576460756598389768,
+            576460756598388757,
+            576460756598387746,
+            0,
+        ],
+    );
+    of_totals(first(), &[2005], &WORDS_1);
+    of_totals(first(), &[2005, 4003, 0], &WORDS_1);
+    let short = [0u64; 126];
+    call(first(), &[2005, 4003], &short, &WORDS_1);
+    let long = [0u64; 128];
+    call(first(), &[2005, 4003], &long, &WORDS_1);
+    line::end();
+}
+
+// A share of p in the totals or for the mask, or a byte's of 256. Round 2 uses no total.
+fn shares() {
+    line::title(b"hear shares:");
+    of_totals(first(), &[P, 4003], &WORDS_1);
+    of_totals(first(), &[2005, P], &WORDS_1);
+    of_totals(second(), &[P, P], &WORDS_2);
+    of_sheet(first(), 0, P, &WORDS_1);
+    of_sheet(first(), 1, 256, &WORDS_1);
+    of_sheet(first(), 126, 256, &WORDS_1);
+    of_sheet(second(), 0, P, &WORDS_2);
+    line::end();
+}
+
+// The word in the party's own place is another one.
+fn own_words() {
+    line::title(b"hear own words:");
+    hears(
+        first(),
+        &[576460756598389768, 576460756598388758, 576460756598387746],
+    );
+    hears(second(), &[49658, 40323, 43438]);
+    hears(last(), &[17, 32, 49]);
+    line::end();
+}
+
+// In round 1: no line through the words, a word of p, a word with p added to it. In round 2: no line
+// through the low bytes, none through the high bytes, a word above 65,535. In round 33: no line
+// through the words, a word above 255.
+fn crooked() {
+    line::title(b"hear crooked rounds:");
+    hears(
+        first(),
+        &[576460756598389768, 576460756598388757, 576460756598387747],
+    );
+    hears(first(), &[P, 576460756598388757, 576460756598387746]);
+    hears(
+        first(),
+        &[576460756598389768, 576460756598388757, 2882303765812081697],
+    );
+    hears(second(), &[49658, 40324, 43439]);
+    hears(second(), &[49658, 40324, 43182]);
+    hears(second(), &[49658, 40324, 108974]);
+    hears(last(), &[16, 33, 49]);
+    hears(last(), &[273, 33, 49]);
+    line::end();
+}
+
+// The least sum, one less, the greatest, one more, and 0.
+fn sums() {
+    line::title(b"hear sums:");
+    hears(
+        first(),
+        &[1585267070981897227, 576460756598388757, 1873497451428574238],
+    );
+    hears(
+        first(),
+        &[432345566375050251, 576460756598388757, 720575946821727263],
+    );
+    hears(
+        first(),
+        &[576460758745873418, 576460756598388757, 576460754450904096],
+    );
+    hears(
+        first(),
+        &[1729382263352720394, 576460756598388757, 1729382259057751071],
+    );
+    hears(
+        first(),
+        &[1441151882906041354, 576460756598388757, 2017612639504430111],
+    );
+    line::end();
+}
+
+// 1, 0, 2 and 255.
+fn verdicts() {
+    line::title(b"hear verdicts:");
+    hears(last(), &WORDS_33);
+    hears(last(), &[157, 33, 188]);
+    hears(last(), &[158, 33, 189]);
+    hears(last(), &[144, 33, 78]);
+    line::end();
+}
+
+fn heard(q: Party, messages: &[u64]) {
+    let sheet = dealt();
+    record(party::hear(q, &[2005, 4003], &sheet, messages));
+}
+
+fn hears(q: Party, messages: &[u64]) {
+    of_totals(q, &[2005, 4003], messages);
+}
+
+fn of_totals(q: Party, totals: &[u64], messages: &[u64]) {
+    let sheet = dealt();
+    call(q, totals, &sheet, messages);
+}
+
+// One word of the sheet is another one.
+fn of_sheet(q: Party, at: usize, word: u64, messages: &[u64])
+    requires { ⌜ at < 127 ⌝ }
+{
+    let mut sheet = dealt();
+    sheet[at] = word;
+    call(q, &[2005, 4003], &sheet, messages);
+}
+
+fn call(q: Party, totals: &[u64], sheets: &[u64], messages: &[u64]) {
+    line::number(code(party::hear(q, totals, sheets, messages)));
+}
+
+// Party 2's sheet. It was dealt with bytes that follow a rule.
+fn dealt() -> [u64; 127] {
+    let mut bytes = [0u8; 188];
+    fill(&mut bytes, 37, 11);
+    let mut sheet = [0u64; 127];
+    let _ = dealer::deal(3, 2, &[7, 11], &bytes, &mut sheet);
+    sheet
+}
