@@ -1,0 +1,249 @@
+-- What holds of an accepted input: its plan is an auction, and the sections read again are the plan's. Assumes nothing.
+use mathlib.Core.Path.{_≡_, refl, sym, ap, ap₂, subst, _∙_}
+use mathlib.Core.Bool.{_&&_}
+use mathlib.Core.Logic.{_⊎_, inl, inr, ⊎-elim}
+use mathlib.Core.List.{List, [], _++_}
+use Prim.Native.Nat.{ℕ, zero, suc, _+_, _-_, _*_, _≤_, _<_}
+use native.Mathlib.Omega.{arith}
+use lib.Dec.{leb, eqb}
+use lib.ListN.{length, drop, getD}
+use borrow.Author.Tests.{leb-true, leb-false, eqb-true, eqb-false}
+use Rattle.sharing.proofs.Terms.{and-left, and-right}
+use Rattle.search.proofs.Clearing.{clearing-within}
+use Rattle.auction.specs.Auction.{GoodTable, IsAuction, demand, supply, clearing-answer}
+use Rattle.rehearsal.specs.declared.table.Fault.{Fault}
+use Rattle.rehearsal.specs.declared.table.Fault.the-variants.{None, At}
+use Rattle.rehearsal.specs.declared.judging.Shape.{Shape}
+use Rattle.rehearsal.specs.declared.judging.Judged.the-variants.{Faulty, Good}
+use Rattle.rehearsal.specs.Lines.{lines, rest, numbers, bytes-of, sound, after}
+use Rattle.rehearsal.specs.Plan.{Plan, Reading, faulty, accepted, read, read-prices, read-bids}
+use Rattle.rehearsal.specs.Judged.{shape-of, as-judged, judged-as, seeds-of, prices-of, price-of, good-prices, tables, bid-fault, bids-fault, or-else}
+use Rattle.rehearsal.specs.Listing.{refused-line, probe-lines, clears-line, rounds-line, told, auction, plan-trail, printed, listing}
+use Rattle.rehearsal.proofs.Again.{bytes-one, after-add, sound-most, length-numbers, number-at}
+use Rattle.rehearsal.proofs.Sections.{line-of, either, good-most}
+use Rattle.rehearsal.proofs.Bids.{torn, whole, length-tables}
+use Rattle.rehearsal.proofs.Tables.{faultless}
+use Rattle.rehearsal.proofs.Answers.{rest-after, n-misshapen, n-range, seeds-torn, seeds-all, k-misshapen, k-range, price-bad, prices-good, m-misshapen, m-range, bids-bad, one-too-many, all-read}
+
+-- ---- reading that ends well did so section by section
+
+refuses : {r : Reading} {number line : ℕ} {p : Plan} → r ≡ faulty number line → r ≡ accepted p → ⊥
+refuses e f = let z : _≡_ {A = ℕ} 0 1 = cc in omega arith
+
+same-or-less : (a b : ℕ) → a ≤ b → (a ≡ b) ⊎ (a < b)
+same-or-less a b h = ⊎-elim (λ e. inl (eqb-true a b e)) (λ e. inr (omega (arith, eqb-false a b e))) (either (eqb a b))
+
+record N (bytes : List ℕ) (p : Plan) : Type 0 where
+  n : ℕ
+  least : 3 ≤ n
+  most : n ≤ 9
+  next : read-prices n (numbers n (rest bytes)) (lines (after n (rest bytes))) ≡ accepted p
+
+n-read : (bytes : List ℕ) (p : Plan) → read (lines bytes) ≡ accepted p → N bytes p
+n-read bytes p e =
+    ⊎-elim
+    (λ w. ⊎-elim
+    (λ t. ⊎-elim
+    (λ h. record {
+      n = w .0;
+      least = leb-true 3 (w .0) (and-left (leb 3 (w .0)) (leb (w .0) 9) t);
+      most = leb-true (w .0) 9 (and-right (leb 3 (w .0)) (leb (w .0) 9) t);
+      next = sym (seeds-all bytes (w .0) (w .1) t h) ∙ e;
+    })
+    (λ h. absurd (refuses (seeds-torn bytes (w .0) (w .1) t h) e))
+    (same-or-less (sound (w .0) (rest bytes)) (w .0) (sound-most (w .0) (rest bytes))))
+    (λ t. absurd (refuses (n-range bytes (w .0) (w .1) t) e))
+    (either (leb 3 (w .0) && leb (w .0) 9)))
+    (λ m. absurd (refuses (n-misshapen bytes m) e))
+    (line-of bytes)
+
+record K (n : ℕ) (seeds bytes : List ℕ) (p : Plan) : Type 0 where
+  k : ℕ
+  least : 1 ≤ k
+  most : k ≤ 256
+  next : read-bids n seeds k (numbers k (rest bytes)) (lines (after k (rest bytes))) ≡ accepted p
+
+k-read : (n : ℕ) (seeds bytes : List ℕ) (p : Plan) → read-prices n seeds (lines bytes) ≡ accepted p → K n seeds bytes p
+k-read n seeds bytes p e =
+    ⊎-elim
+    (λ w. ⊎-elim
+    (λ t. ⊎-elim
+    (λ h. record {
+      k = w .0;
+      least = leb-true 1 (w .0) (and-left (leb 1 (w .0)) (leb (w .0) 256) t);
+      most = leb-true (w .0) 256 (and-right (leb 1 (w .0)) (leb (w .0) 256) t);
+      next = sym (prices-good n seeds bytes (w .0) (w .1) t h) ∙ e;
+    })
+    (λ h. absurd (refuses (price-bad n seeds bytes (w .0) (w .1) t h) e))
+    (same-or-less (good-prices (w .0) 0 (rest bytes)) (w .0) (good-most (w .0) 0 (rest bytes))))
+    (λ t. absurd (refuses (k-range n seeds bytes (w .0) (w .1) t) e))
+    (either (leb 1 (w .0) && leb (w .0) 256)))
+    (λ m. absurd (refuses (k-misshapen n seeds bytes m) e))
+    (line-of bytes)
+
+record M (n : ℕ) (seeds : List ℕ) (k : ℕ) (listed bytes : List ℕ) (p : Plan) : Type 0 where
+  m : ℕ
+  few : m ≤ 1000
+  sound-bids : bids-fault k m (n + k + 4) (rest bytes) ≡ None
+  plan : p ≡ record { n = n; seeds = seeds; k = k; prices = listed; bids = tables k m (rest bytes) }
+
+fault-of : (f : Fault) → (f ≡ None) ⊎ ((number : ℕ) × (line : ℕ) × (f ≡ At number line))
+fault-of None = inl refl
+fault-of (At number line) = inr (number, line, refl)
+
+same-plan : {p q : Plan} → accepted p ≡ accepted q → q ≡ p
+same-plan e = cc
+
+m-read : (n : ℕ) (seeds : List ℕ) (k : ℕ) (listed bytes : List ℕ) (p : Plan) → read-bids n seeds k listed (lines bytes) ≡ accepted p
+    → M n seeds k listed bytes p
+m-read n seeds k listed bytes p e =
+    ⊎-elim
+    (λ w. let m = w .0 in
+    ⊎-elim
+    (λ t. let few = leb-true m 1000 t in
+    ⊎-elim
+    (λ f. ⊎-elim
+    (λ z. record {
+      m = m;
+      few = few;
+      sound-bids = f;
+      plan = same-plan (sym (all-read n seeds k listed bytes m (w .1) few f (sym z)) ∙ e);
+    })
+    (λ z. absurd (refuses (one-too-many n seeds k listed bytes m (w .1) few f z) e))
+    (same-or-less 0 (length (after (m * (2 * k)) (rest bytes))) (omega arith)))
+    (λ f. absurd (refuses (bids-bad n seeds k listed bytes m (w .1) few (f .0) (f .1) (f .2)) e))
+    (fault-of (bids-fault k m (n + k + 4) (rest bytes))))
+    (λ t. absurd (refuses (m-range n seeds k listed bytes m (w .1) (leb-false m 1000 t)) e))
+    (either (leb m 1000)))
+    (λ m. absurd (refuses (m-misshapen n seeds k listed bytes m) e))
+    (line-of bytes)
+
+-- ---- tables without a fault are good
+
+both-none : (f g : Fault) → or-else f g ≡ None → (f ≡ None) × (g ≡ None)
+unfolding or-else
+both-none None g e = (refl, e)
+both-none (At number line) g e = absurd (let z : _≡_ {A = ℕ} 0 1 = cc in omega arith)
+
+good-table : (k line : ℕ) (bytes : List ℕ) → bid-fault k line bytes ≡ None → GoodTable k (numbers (2 * k) bytes)
+good-table k line bytes e =
+    ⊎-elim
+    (λ h. let f = faultless k line (numbers (2 * k) bytes) (sym (whole k line bytes h) ∙ e) in
+    record { long = length-numbers (2 * k) bytes; small = f .0; monotone = f .1 })
+    (λ h. absurd (let z : _≡_ {A = ℕ} 0 1 = apart (torn k line bytes h) e in omega arith))
+    (same-or-less (sound (2 * k) bytes) (2 * k) (sound-most (2 * k) bytes))
+  where
+    apart : {f : Fault} {number at : ℕ} → f ≡ At number at → f ≡ None → _≡_ {A = ℕ} 0 1
+    apart e g = cc
+
+good-auction : (n k m line : ℕ) (bytes : List ℕ) → 3 ≤ n → n ≤ 9 → 1 ≤ k → k ≤ 256 → m ≤ 1000 → bids-fault k m line bytes ≡ None
+    → IsAuction (record { n = n; k = k; bids = tables k m bytes })
+unfolding bids-fault tables
+good-auction n k zero line bytes a b c d f e =
+    record { n-least = a; n-most = b; k-least = c; k-most = omega arith; few = omega arith; tables = tt }
+good-auction n k (suc m) line bytes a b c d f e =
+    let g = both-none (bid-fault k line bytes) (bids-fault k m (line + 2 * k) (after (2 * k) bytes)) e in
+    let h = good-auction n k m (line + 2 * k) (after (2 * k) bytes) a b c d (omega arith) (g .1) in
+    record {
+      n-least = a;
+      n-most = b;
+      k-least = c;
+      k-most = omega arith;
+      few = omega (arith, length-tables k m (after (2 * k) bytes));
+      tables = (good-table k line bytes (g .0), h .tables);
+    }
+
+-- ---- an accepted plan
+
+pub record Accepted (bytes : List ℕ) (p : Plan) : Type 0 where
+  -- "tables free of faults 6 and 7", and every count in its range
+  pub an-auction : IsAuction (auction p)
+  pub few-prices : p .k ≤ 256
+  -- the sections, read again
+  pub seeds : p .seeds ≡ seeds-of (p .n) bytes
+  pub prices : p .prices ≡ prices-of (p .n) (p .k) bytes
+  pub bids : p .bids ≡ tables (p .k) (length (p .bids)) (after (p .n + p .k + 3) bytes)
+
+one : (bytes : List ℕ) → rest bytes ≡ after 1 bytes
+one bytes = ap (λ (j : ℕ). drop j bytes) (sym (bytes-one bytes))
+
+pub accepted-plan : (bytes : List ℕ) (p : Plan) → read (lines bytes) ≡ accepted p → Accepted bytes p
+accepted-plan bytes p e =
+    let a = n-read bytes p e in
+    let n = a .n in
+    let b2 = after n (rest bytes) in
+    let b = k-read n (numbers n (rest bytes)) b2 p (a .next) in
+    let k = b .k in
+    let b3 = after k (rest b2) in
+    let c = m-read n (numbers n (rest bytes)) k (numbers k (rest b2)) b3 p (b .next) in
+    let m = c .m in
+    let e2 : b2 ≡ after (1 + n) bytes = ap (after n) (one bytes) ∙ after-add 1 n bytes in
+    let e3 : rest b2 ≡ after (1 + n + 1) bytes = ap rest e2 ∙ rest-after (1 + n) bytes in
+    let e4 : b3 ≡ after (1 + n + 1 + k) bytes = ap (after k) e3 ∙ after-add (1 + n + 1) k bytes in
+    let e5 : rest b3 ≡ after (1 + n + 1 + k + 1) bytes = ap rest e4 ∙ rest-after (1 + n + 1 + k) bytes in
+    let i2 : 1 + n + 1 ≡ n + 2 = omega arith in
+    let i3 : 1 + n + 1 + k + 1 ≡ n + k + 3 = omega arith in
+    let l : length (tables k m (rest b3)) ≡ m = length-tables k m (rest b3) in
+    subst (Accepted bytes) (sym (c .plan)) (record {
+      an-auction = good-auction n k m (n + k + 4) (rest b3) (a .least) (a .most) (b .least) (b .most) (c .few) (c .sound-bids);
+      few-prices = b .most;
+      seeds = ap (numbers n) (one bytes);
+      prices = ap (numbers k) (e3 ∙ ap (λ (j : ℕ). after j bytes) i2);
+      bids = ap₂ (tables k) (sym l) (e5 ∙ ap (λ (j : ℕ). after j bytes) i3);
+    })
+
+-- ---- what `judge` found
+
+-- a good answer is the shape of an accepted plan
+pub judged-good : (bytes : List ℕ) (r : Reading) (shape : Shape) → as-judged bytes r ≡ Good shape
+    → (p : Plan) × (r ≡ accepted p) × (shape ≡ shape-of bytes p)
+unfolding as-judged
+judged-good bytes (faulty number line) shape e = absurd (let z : _≡_ {A = ℕ} 0 1 = cc in omega arith)
+judged-good bytes (accepted p) shape e = (p, refl, good e)
+  where
+    good : {s t : Shape} → Good s ≡ Good t → t ≡ s
+    good e = cc
+
+-- a fault is what is printed
+pub judged-faulty : (bytes : List ℕ) (number line : ℕ) → judged-as bytes ≡ Faulty number line → listing bytes ≡ refused-line number line
+unfolding as-judged printed
+judged-faulty bytes number line e = by (read (lines bytes)) e
+  where
+    by : (r : Reading) → as-judged bytes r ≡ Faulty number line → printed r ≡ refused-line number line
+    by (faulty a b) e = ap₂ refused-line (same e .0) (same e .1)
+      where
+        same : {a b c d : ℕ} → Faulty a b ≡ Faulty c d → (a ≡ c) × (b ≡ d)
+        same e = (cc, cc)
+    by (accepted p) e = absurd (let z : _≡_ {A = ℕ} 0 1 = cc in omega arith)
+
+-- ---- a bid, read again
+
+pub table-at : (k m i : ℕ) (bytes : List ℕ) → i < m → getD (tables k m bytes) i [] ≡ numbers (2 * k) (after (i * (2 * k)) bytes)
+unfolding tables bytes-of
+table-at k zero i bytes h = absurd (omega arith)
+table-at k (suc m) zero bytes h = let e : 0 ≡ 0 * (2 * k) = omega arith in ap (λ (j : ℕ). numbers (2 * k) (after j bytes)) e
+table-at k (suc m) (suc i) bytes h =
+    let e : 2 * k + i * (2 * k) ≡ suc i * (2 * k) = omega arith in
+    table-at k m i (after (2 * k) bytes) (omega arith)
+    ∙ ap (numbers (2 * k)) (after-add (2 * k) (i * (2 * k)) bytes ∙ ap (λ (j : ℕ). after j bytes) e)
+
+-- ---- a right course is told as the listing
+
+same-clears : (answer a b : ℕ) → (0 < answer → a ≡ b) → clears-line answer a ≡ clears-line answer b
+unfolding clears-line
+same-clears zero a b h = refl
+same-clears (suc i) a b h = ap (clears-line (suc i)) (h (omega arith))
+
+pub told-listing : (bytes : List ℕ) (p : Plan) → read (lines bytes) ≡ accepted p
+    → (probes : List (ℕ × ℕ)) (answer : ℕ) → probes ≡ plan-trail p → answer ≡ clearing-answer (auction p)
+    → told probes answer (price-of answer (drop (shape-of bytes p .«prices_at») bytes)) ≡ listing bytes
+unfolding printed
+told-listing bytes p e probes answer f g =
+    let i = clearing-answer (auction p) in
+    let bs = after (p .n + 2) bytes in
+    let w = clearing-within (demand (auction p)) (supply (auction p)) (p .k) in
+    let price : 0 < i → price-of i bs ≡ getD (p .prices) (i - 1) 0 =
+    λ h. sym (ap (λ (v : List ℕ). getD v (i - 1) 0) (accepted-plan bytes p e .prices) ∙ number-at (p .k) (i - 1) bs (omega (arith, w))) in
+    ap₂ (λ (t : List (ℕ × ℕ)) (j : ℕ). told t j (price-of j bs)) f g
+    ∙ ap (λ (l : List ℕ). probe-lines 1 (plan-trail p) ++ (l ++ rounds-line (length (plan-trail p)))) (same-clears i (price-of i bs) (getD (p .prices) (i - 1) 0) price)
+    ∙ sym (ap printed e)

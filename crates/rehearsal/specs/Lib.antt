@@ -1,0 +1,6 @@
+-- The rehearsal's input and listing: what the contracts cite.
+pub mod Lines
+pub mod Plan
+pub mod Judged
+pub mod Text
+pub mod Listing

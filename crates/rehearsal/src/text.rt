@@ -1,0 +1,29 @@
+// Text in a lent buffer: bytes and decimal numbers, one after another.
+ghost use Prim.Native.Nat.{_+_, _≤_};
+ghost use lib.ListN.{length};
+ghost use Rattle.rehearsal.specs.Text.{decimal, Wrote};
+
+// Puts bytes at `at`, and answers where the next ones go.
+pub fn append(out: &mut [u8], at: usize, text: &[u8]) -> usize
+    requires { ⌜ at + length (now text) ≤ length (now out) ⌝ }
+    ensures { λ r. ⌜ Wrote (now (out .entry)) at (now (text .entry)) (now (out .exit)) r ⌝ }
+{
+    let mut next = at;
+    let mut i = 0;
+    while i < text.len() {
+        out[next] = text[i];
+        next += 1;
+        i += 1;
+    }
+    next
+}
+
+// Puts a number in decimal digits, of which there are at most 20.
+pub fn append_number(out: &mut [u8], at: usize, n: u64) -> usize
+    requires { ⌜ at + 20 ≤ length (now out) ⌝ }
+    ensures { λ r. ⌜ Wrote (now (out .entry)) at (decimal n) (now (out .exit)) r × (r ≤ at + 20) ⌝ }
+{
+    let mut digits = [0u8; 20];
+    let many = io::decimal(n, &mut digits);
+    append(out, at, &digits[..many])
+}
