@@ -9,3 +9,9 @@ pub mod Answers
 pub mod Writing
 pub mod Telling
 pub mod Accepted
+pub mod Drawn
+pub mod Parts
+pub mod Holding
+pub mod Dealing
+pub mod Standing
+pub mod Leading

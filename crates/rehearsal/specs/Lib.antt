@@ -4,3 +4,9 @@ pub mod Plan
 pub mod Judged
 pub mod Text
 pub mod Listing
+pub mod Draws
+pub mod Parties
+pub mod Dealt
+pub mod Standing
+pub mod Follows
+pub mod Bidden

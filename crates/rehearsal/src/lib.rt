@@ -1,8 +1,15 @@
 // The rehearsal: a whole auction from a file of numbers, and the listing of its probes.
+mod adding;
 mod course;
+mod draws;
 mod judging;
 mod lines;
 mod numbers;
+mod parties;
+mod probes;
+mod rounds;
+mod searching;
+mod sheets;
 mod table;
 mod text;
 
