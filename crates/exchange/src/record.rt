@@ -9,7 +9,7 @@ use refusal::number;
 pub const WORDS: usize = 10;
 
 // Any ten words are read: the call judges what they say.
-pub fn read(words: &[u64]) -> Party
+pub(crate) fn read(words: &[u64]) -> Party
     requires { ⌜ length (now words) ≡ 10 ⌝ }
     ensures { λ q. ⌜ q ≡ party-of (now (words .entry)) ⌝ }
 {
@@ -44,7 +44,7 @@ fn write(q: Party, words: &mut [u64])
 }
 
 // The record that a call gives is written over the one it was lent, and a refusal is its number.
-pub fn store(reply: Reply, words: &mut [u64]) -> u64
+pub(crate) fn store(reply: Reply, words: &mut [u64]) -> u64
     requires { ⌜ length (now words) ≡ 10 ⌝ }
     ensures { λ r. ⌜ (r ≡ reply-code reply) × (now (words .exit) ≡ reply-record reply (now (words .entry))) ⌝ }
 {

@@ -19,7 +19,7 @@ use search::Bracket;
 use search::step;
 
 // Round 1 gives the first carry, rounds 2 to 32 the next one, round 33 the verdict.
-pub fn after(q: Party, sheet: &[u64], heard: Heard) -> Party
+pub(crate) fn after(q: Party, sheet: &[u64], heard: Heard) -> Party
     requires { ⌜ (sound q ≡ true) × (length (now sheet) ≡ 127) × (every (λ w. ltb w 256) (drop 1 (now sheet)) ≡ true)
         × Possible (q .round) heard ⌝ }
     ensures { λ r. ⌜ r ≡ after q (now (sheet .entry)) heard ⌝ }

@@ -22,7 +22,7 @@ use sharing::all_below;
 pub const P: u64 = (1 << 61) - 1;
 
 // Total demand at the probed index. Indices count from 1.
-pub fn demand_share(q: Party, totals: &[u64]) -> u64
+pub(crate) fn demand_share(q: Party, totals: &[u64]) -> u64
     requires { ⌜ (sound q ≡ true) × (over (bracket q) ≡ false) × (length (now totals) ≡ 2 * q .k) ⌝ }
     ensures { λ r. ⌜ r ≡ demand-share q (now (totals .entry)) ⌝ }
 {
@@ -31,7 +31,7 @@ pub fn demand_share(q: Party, totals: &[u64]) -> u64
 }
 
 // Total supply at the probed index: demand stands first.
-pub fn supply_share(q: Party, totals: &[u64]) -> u64
+pub(crate) fn supply_share(q: Party, totals: &[u64]) -> u64
     requires { ⌜ (sound q ≡ true) × (over (bracket q) ≡ false) × (length (now totals) ≡ 2 * q .k) ⌝ }
     ensures { λ r. ⌜ r ≡ supply-share q (now (totals .entry)) ⌝ }
 {
@@ -40,7 +40,7 @@ pub fn supply_share(q: Party, totals: &[u64]) -> u64
 }
 
 // Round 1 uses two words of the totals, later rounds none. The sheet is judged whole.
-pub fn in_field(q: Party, totals: &[u64], sheet: &[u64]) -> bool
+pub(crate) fn in_field(q: Party, totals: &[u64], sheet: &[u64]) -> bool
     requires { ⌜ (sound q ≡ true) × (over (bracket q) ≡ false) × (length (now totals) ≡ 2 * q .k)
         × (length (now sheet) ≡ 127) ⌝ }
     ensures { λ r. ⌜ r ≡ in-field q (now (totals .entry)) (now (sheet .entry)) ⌝ }
@@ -50,7 +50,7 @@ pub fn in_field(q: Party, totals: &[u64], sheet: &[u64]) -> bool
 }
 
 // The word of the round.
-pub fn message(q: Party, totals: &[u64], sheet: &[u64]) -> u64
+pub(crate) fn message(q: Party, totals: &[u64], sheet: &[u64]) -> u64
     requires { ⌜ (sound q ≡ true) × (over (bracket q) ≡ false) × (length (now totals) ≡ 2 * q .k)
         × (length (now sheet) ≡ 127) × (in-field q (now totals) (now sheet) ≡ true) ⌝ }
     ensures { λ r. ⌜ r ≡ message q (now (totals .entry)) (now (sheet .entry)) ⌝ }

@@ -16,7 +16,7 @@ const LEAST: u64 = (1 << 58) + 2;
 
 const GREATEST: u64 = (1 << 59) + (1 << 33) - 1;
 
-pub fn heard(n: u64, round: u64, messages: &[u64]) -> Heard
+pub(crate) fn heard(n: u64, round: u64, messages: &[u64]) -> Heard
     ensures { λ r. ⌜ r ≡ heard n round (now (messages .entry)) ⌝ }
 {
     if round == 1 {
@@ -60,7 +60,7 @@ fn factors(n: u64, messages: &[u64]) -> Heard
     }
 }
 
-pub fn crooked(heard: Heard) -> bool
+pub(crate) fn crooked(heard: Heard) -> bool
     ensures { λ r. ⌜ r ≡ crooked heard ⌝ }
 {
     match heard {
@@ -71,7 +71,7 @@ pub fn crooked(heard: Heard) -> bool
     }
 }
 
-pub fn wild_sum(heard: Heard) -> bool
+pub(crate) fn wild_sum(heard: Heard) -> bool
     ensures { λ r. ⌜ r ≡ wild-sum heard ⌝ }
 {
     match heard {
@@ -82,7 +82,7 @@ pub fn wild_sum(heard: Heard) -> bool
     }
 }
 
-pub fn split_verdict(heard: Heard) -> bool
+pub(crate) fn split_verdict(heard: Heard) -> bool
     ensures { λ r. ⌜ r ≡ split-verdict heard ⌝ }
 {
     match heard {

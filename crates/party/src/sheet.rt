@@ -9,7 +9,7 @@ ghost use Rattle.party.specs.Say.{current, triple-share};
 use crate::record::Party;
 use fields::BitShare;
 
-pub fn current(q: Party, sheets: &[u64]) -> &[u64]
+pub(crate) fn current(q: Party, sheets: &[u64]) -> &[u64]
     requires { ⌜ 127 * q .probes + 127 ≤ length (now sheets) ⌝ }
     ensures { λ r. ⌜ now r ≡ current q (now (sheets .entry)) ⌝ }
 {
@@ -19,7 +19,7 @@ pub fn current(q: Party, sheets: &[u64]) -> &[u64]
 }
 
 // Every word but the mask's share is one: the share of the mask's bit i stands at i.
-pub fn byte_share(sheet: &[u64], at: u64) -> BitShare
+pub(crate) fn byte_share(sheet: &[u64], at: u64) -> BitShare
     requires { ⌜ (length (now sheet) ≡ 127) × (every (λ w. ltb w 256) (drop 1 (now sheet)) ≡ true)
         × (1 ≤ at) × (at < 127) ⌝ }
     ensures { λ r. ⌜ r .0 ≡ getD (now (sheet .entry)) at 0 ⌝ }
@@ -29,7 +29,7 @@ pub fn byte_share(sheet: &[u64], at: u64) -> BitShare
 }
 
 // Alpha, beta and gamma of round i are 0, 1 and 2.
-pub fn triple_share(sheet: &[u64], i: u64, which: u64) -> BitShare
+pub(crate) fn triple_share(sheet: &[u64], i: u64, which: u64) -> BitShare
     requires { ⌜ (length (now sheet) ≡ 127) × (every (λ w. ltb w 256) (drop 1 (now sheet)) ≡ true)
         × (2 ≤ i) × (i ≤ 32) × (which ≤ 2) ⌝ }
     ensures { λ r. ⌜ r .0 ≡ triple-share (now (sheet .entry)) i which ⌝ }

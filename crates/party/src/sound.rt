@@ -11,21 +11,21 @@ use search::limit;
 const SUMS: u64 = (1 << 59) + (1 << 33);
 
 // Where the search stands.
-pub fn bracket(q: Party) -> Bracket
+pub(crate) fn bracket(q: Party) -> Bracket
     ensures { λ r. ⌜ r ≡ bracket q ⌝ }
 {
     Bracket { lo: q.lo, hi: q.hi }
 }
 
 // One of n parties, and k listed prices.
-pub fn on_list(n: u64, own: u64, k: u64) -> bool
+pub(crate) fn on_list(n: u64, own: u64, k: u64) -> bool
     ensures { λ r. ⌜ r ≡ (party n own && listed k) ⌝ }
 {
     (3 <= n) & (n <= 9) & (1 <= own) & (own <= n) & ((1 <= k) & (k <= 1024))
 }
 
 // Every field is in its range. k + 1 and hi - lo are computed only of a k and an order that allow it.
-pub fn sound(q: Party) -> bool
+pub(crate) fn sound(q: Party) -> bool
     ensures { λ r. ⌜ r ≡ sound q ⌝ }
 {
     if !(on_list(q.n, q.own, q.k) & (q.bids <= 1000) & (q.lo < q.hi)) {

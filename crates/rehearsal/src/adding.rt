@@ -46,7 +46,7 @@ fn add_one(
 }
 
 // The same for all parties.
-pub fn add_all(
+pub(crate) fn add_all(
     n: u64,
     k: u64,
     table: &[u64],
@@ -115,7 +115,7 @@ fn add_next(
 }
 
 // All bids, one after another.
-pub fn add_bids(
+pub(crate) fn add_bids(
     n: u64,
     k: u64,
     bids: u64,

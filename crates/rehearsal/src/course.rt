@@ -17,7 +17,7 @@ pub struct Course {
     pub clearing: u64,
 }
 
-pub fn write_refused(number: u64, line: u64, out: &mut [u8]) -> usize
+pub(crate) fn write_refused(number: u64, line: u64, out: &mut [u8]) -> usize
     requires { ⌜ 55 ≤ length (now out) ⌝ }
     ensures { λ r. ⌜ Wrote (now (out .entry)) 0 (refused-line number line) (now (out .exit)) r ⌝ }
 {
@@ -29,7 +29,7 @@ pub fn write_refused(number: u64, line: u64, out: &mut [u8]) -> usize
 }
 
 // The listing of an accepted input.
-pub fn write_course(input: &[u8], shape: Shape, course: Course, out: &mut [u8]) -> usize
+pub(crate) fn write_course(input: &[u8], shape: Shape, course: Course, out: &mut [u8]) -> usize
     requires { ⌜ (course .probes ≤ 9) × (824 ≤ length (now out)) ⌝ }
     ensures { λ r. ⌜ Wrote (now (out .entry)) 0
         (told (course-trail (course .index) (course .verdict) (course .probes)) (course .clearing)

@@ -13,7 +13,7 @@ pub struct Numbers {
 }
 
 // Fills a slice with the numbers of the lines that begin at `at`, 0 for a misshapen one.
-pub fn read_numbers(input: &[u8], at: usize, into: &mut [u64]) -> Numbers
+pub(crate) fn read_numbers(input: &[u8], at: usize, into: &mut [u64]) -> Numbers
     ensures { λ r. ⌜ (now (into .exit) ≡ numbers (length (now (into .entry))) (drop at (now (input .entry))))
         × (r .next ≡ at + bytes-of (length (now (into .entry))) (drop at (now (input .entry))))
         × (r .sound ≡ sound (length (now (into .entry))) (drop at (now (input .entry)))) ⌝ }

@@ -12,7 +12,7 @@ use party::Said;
 use party::open;
 
 // The record that a call returned or, refused, left.
-pub fn returned(q: Party, reply: Reply) -> Party
+pub(crate) fn returned(q: Party, reply: Reply) -> Party
     ensures { λ r. ⌜ r ≡ returned q reply ⌝ }
 {
     match reply {
@@ -22,7 +22,7 @@ pub fn returned(q: Party, reply: Reply) -> Party
 }
 
 // A refused party would say 0. None is.
-pub fn word(said: Said) -> u64
+pub(crate) fn word(said: Said) -> u64
     ensures { λ r. ⌜ r ≡ word said ⌝ }
 {
     match said {
@@ -50,7 +50,7 @@ fn nobody() -> Party
 }
 
 // Opens the sessions of all parties.
-pub fn open_all(n: u64, k: u64, totals: &mut [u64]) -> [Party; 9]
+pub(crate) fn open_all(n: u64, k: u64, totals: &mut [u64]) -> [Party; 9]
     requires { ⌜ (n ≤ 9) × (k ≤ 256) × (length (now totals) ≡ n * (2 * k)) ⌝ }
     ensures { λ r. ⌜ All n (λ i. (getD r i none ≡ returned none (open-reply n (i + 1) k (part (2 * k) i (now (totals .entry)))))
         × (part (2 * k) i (now (totals .exit)) ≡ open-left n (i + 1) k (part (2 * k) i (now (totals .entry))))) ⌝ }

@@ -8,7 +8,13 @@ use crate::rounds::round;
 use party::Party;
 
 // Rounds 1 to 32, then round 33, in which the verdict is heard.
-pub fn probe(n: u64, k: u64, parties: [Party; 9], totals: &[u64], sheets: &[u64]) -> [Party; 9]
+pub(crate) fn probe(
+    n: u64,
+    k: u64,
+    parties: [Party; 9],
+    totals: &[u64],
+    sheets: &[u64],
+) -> [Party; 9]
     requires { ⌜ (n ≤ 9) × (k ≤ 256) × (length (now totals) ≡ n * (2 * k)) × (length (now sheets) ≡ n * (127 * limit k)) ⌝ }
     ensures { λ r. ⌜ Probes n k parties (now (totals .entry)) (now (sheets .entry)) r ⌝ }
 {

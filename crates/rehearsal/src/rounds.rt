@@ -69,7 +69,13 @@ fn hear_all(
     after
 }
 
-pub fn round(n: u64, k: u64, parties: [Party; 9], totals: &[u64], sheets: &[u64]) -> [Party; 9]
+pub(crate) fn round(
+    n: u64,
+    k: u64,
+    parties: [Party; 9],
+    totals: &[u64],
+    sheets: &[u64],
+) -> [Party; 9]
     requires { ⌜ (n ≤ 9) × (k ≤ 256) × (length (now totals) ≡ n * (2 * k)) × (length (now sheets) ≡ n * (127 * limit k)) ⌝ }
     ensures { λ r. ⌜ All n (λ i. getD r i none ≡ heard-by k parties (now (totals .entry)) (now (sheets .entry)) (all-said n k parties (now (totals .entry)) (now (sheets .entry))) i) ⌝ }
 {

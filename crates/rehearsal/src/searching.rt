@@ -54,7 +54,7 @@ fn price(q: Party) -> u64
 }
 
 // No search takes more than nine probes, so the second test alone ends the loop.
-pub fn search(n: u64, k: u64, parties: [Party; 9], totals: &[u64], sheets: &[u64]) -> Course
+pub(crate) fn search(n: u64, k: u64, parties: [Party; 9], totals: &[u64], sheets: &[u64]) -> Course
     requires { ⌜ (n ≤ 9) × (k ≤ 256) × (length (now totals) ≡ n * (2 * k)) × (length (now sheets) ≡ n * (127 * limit k)) ⌝ }
     ensures { λ r. ⌜ (r .probes ≤ 9) × Searches n k parties (now (totals .entry)) (now (sheets .entry)) r ⌝ }
 {

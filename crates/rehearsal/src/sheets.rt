@@ -82,7 +82,7 @@ fn deal_next(n: u64, state: u64, at: usize, width: usize, sheets: &mut [u64]) ->
 }
 
 // Deals all parties all sheets, as many as a search may take probes.
-pub fn deal_all(n: u64, k: u64, state: u64, sheets: &mut [u64])
+pub(crate) fn deal_all(n: u64, k: u64, state: u64, sheets: &mut [u64])
     requires { ⌜ (3 ≤ n) × (n ≤ 9) × (k ≤ 256) × (length (now sheets) ≡ n * (127 * limit k)) ⌝ }
     ensures { λ r. ⌜ All n (λ i. part (127 * limit k) i (now (sheets .exit)) ≡ sheets-of (i + 1) (all-sheets (threshold n) (limit k) state)) ⌝ }
 {

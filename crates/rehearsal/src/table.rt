@@ -16,7 +16,7 @@ pub enum Fault {
 }
 
 // The first fault of a bid that was read whole, its first amount on the given line.
-pub fn table_fault(table: &[u64], half: usize, line: u64) -> Fault
+pub(crate) fn table_fault(table: &[u64], half: usize, line: u64) -> Fault
     requires { ⌜ (half ≤ length (now table)) × (length (now table) ≤ 512) × (line < 1_000_000) ⌝ }
     ensures { λ r. ⌜ r ≡ table-fault half line (now (table .entry)) ⌝ }
 {
@@ -79,7 +79,7 @@ fn first_fall(supply: &[u64]) -> usize
 
 // How many prices rise, each above the one before it and at most 1,000,000 pence, before the first
 // that does not.
-pub fn rising(prices: &[u64]) -> usize
+pub(crate) fn rising(prices: &[u64]) -> usize
     ensures { λ r. ⌜ r ≡ rising 0 (now (prices .entry)) ⌝ }
 {
     let mut last = 0;
@@ -96,7 +96,7 @@ pub fn rising(prices: &[u64]) -> usize
 }
 
 // The seeds' exclusive or.
-pub fn xor_of(seeds: &[u64]) -> u64
+pub(crate) fn xor_of(seeds: &[u64]) -> u64
     ensures { λ r. ⌜ r ≡ xor-of (now (seeds .entry)) ⌝ }
 {
     let mut xor = 0;

@@ -4,7 +4,7 @@ ghost use lib.ListN.{length};
 ghost use Rattle.rehearsal.specs.Text.{decimal, Wrote};
 
 // Puts bytes at `at`, and answers where the next ones go.
-pub fn append(out: &mut [u8], at: usize, text: &[u8]) -> usize
+pub(crate) fn append(out: &mut [u8], at: usize, text: &[u8]) -> usize
     requires { ⌜ at + length (now text) ≤ length (now out) ⌝ }
     ensures { λ r. ⌜ Wrote (now (out .entry)) at (now (text .entry)) (now (out .exit)) r ⌝ }
 {
@@ -19,7 +19,7 @@ pub fn append(out: &mut [u8], at: usize, text: &[u8]) -> usize
 }
 
 // Puts a number in decimal digits, of which there are at most 20.
-pub fn append_number(out: &mut [u8], at: usize, n: u64) -> usize
+pub(crate) fn append_number(out: &mut [u8], at: usize, n: u64) -> usize
     requires { ⌜ at + 20 ≤ length (now out) ⌝ }
     ensures { λ r. ⌜ Wrote (now (out .entry)) at (decimal n) (now (out .exit)) r × (r ≤ at + 20) ⌝ }
 {
