@@ -8,7 +8,7 @@ const P: u64 = 0x1fff_ffff_ffff_ffff;
 
 const MAX: u64 = 0xffff_ffff_ffff_ffff;
 
-pub fn print() {
+pub(crate) fn print() {
     amounts();
     steps();
     ranges();

@@ -12,7 +12,7 @@ const BYTES_OF_3: usize = 188;
 
 const BYTES_OF_5: usize = 314;
 
-pub fn print() {
+pub(crate) fn print() {
     ranges();
     lengths();
     draws();
@@ -109,7 +109,7 @@ fn of_three(own: u64) {
 }
 
 // Byte i is start + i * step, modulo 256.
-pub fn fill(bytes: &mut [u8], step: u8, start: u8) {
+pub(crate) fn fill(bytes: &mut [u8], step: u8, start: u8) {
     let mut next = start;
     let mut i = 0;
     while i < bytes.len() {

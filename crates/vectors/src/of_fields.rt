@@ -7,7 +7,7 @@ const P: u64 = 0x1fff_ffff_ffff_ffff;
 
 const MAX: u64 = 0xffff_ffff_ffff_ffff;
 
-pub fn print() {
+pub(crate) fn print() {
     line::title(b"FIPS 197 sum, products:");
     line::byte(BitShare(0x57).add(BitShare(0x83)).0);
     product(0x57, 0x83);

@@ -20,7 +20,7 @@ const WORDS_2: [u64; 3] = [49658, 40324, 43438];
 
 const WORDS_33: [u64; 3] = [17, 33, 49];
 
-pub fn print() {
+pub(crate) fn print() {
     accepted();
     records();
     lengths();

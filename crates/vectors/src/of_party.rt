@@ -12,7 +12,7 @@ const P: u64 = 0x1fff_ffff_ffff_ffff;
 // The sums that a record may hold are below it.
 const SUMS: u64 = (1 << 59) + (1 << 33);
 
-pub fn print() {
+pub(crate) fn print() {
     open_accepted();
     open_ranges();
     open_lengths();
@@ -333,7 +333,7 @@ fn answer(q: Party) {
     }
 }
 
-pub fn code(reply: Reply) -> u64 {
+pub(crate) fn code(reply: Reply) -> u64 {
     match reply {
         Reply::Next(_) => 0,
         Reply::Refused(why) => refusal::number(why),
@@ -341,7 +341,7 @@ pub fn code(reply: Reply) -> u64 {
 }
 
 // Its ten numbers.
-pub fn record(reply: Reply) {
+pub(crate) fn record(reply: Reply) {
     match reply {
         Reply::Next(q) => {
             line::number(q.n);

@@ -3,7 +3,7 @@ use crate::line;
 use refusal::Judgement;
 use refusal::Refusal;
 
-pub fn print() {
+pub(crate) fn print() {
     line::title(b"refusals:");
     line::number(refusal::code(Judgement::Accepted));
     code(Refusal::OutOfRange);

@@ -4,7 +4,7 @@ use search::Bracket;
 
 const MAX: u64 = 0xffff_ffff_ffff_ffff;
 
-pub fn print() {
+pub(crate) fn print() {
     line::title(b"probe limits:");
     line::number(search::limit(0));
     line::number(search::limit(1));

@@ -20,7 +20,7 @@ const P: u64 = 0x1fff_ffff_ffff_ffff;
 
 // A table has 8 amounts, and so has a party's book of totals. Four prices take at most 3 probes, so a
 // party has 3 sheets of 127 words, 381 in all. There is room for nine parties.
-pub fn print() {
+pub(crate) fn print() {
     let sample = [30, 20, 15, 0, 0, 0, 0, 0, 0, 0, 0, 0, 5, 15, 18, 40];
     line::title(b"session of 3:");
     session(3, &sample, 2);

@@ -4,7 +4,7 @@ use sharing::Opening;
 
 const P: u64 = 0x1fff_ffff_ffff_ffff;
 
-pub fn print() {
+pub(crate) fn print() {
     line::title(b"shares of 7 with 3, 2:");
     let coins = [3, 2];
     amount_shares(7, &coins, 5);
