@@ -4,26 +4,32 @@ use mathlib.Core.Bool.{_&&_}
 use mathlib.Core.Logic.{_⊎_, inl, inr, ⊎-elim}
 use mathlib.Core.List.{List, [], _++_}
 use Prim.Native.Nat.{ℕ, zero, suc, _+_, _-_, _*_, _≤_, _<_}
+use native.Mathlib.Nat.{mul-le-mul-right}
 use native.Mathlib.Omega.{arith}
 use lib.Dec.{leb, eqb}
 use lib.ListN.{length, drop, getD}
 use borrow.Author.Tests.{leb-true, leb-false, eqb-true, eqb-false}
 use Rattle.sharing.proofs.Terms.{and-left, and-right}
+use Rattle.search.specs.Limit.{limit}
 use Rattle.search.proofs.Clearing.{clearing-within}
-use Rattle.auction.specs.Auction.{GoodTable, IsAuction, demand, supply, clearing-answer}
-use Rattle.rehearsal.specs.declared.table.Fault.{Fault}
-use Rattle.rehearsal.specs.declared.table.Fault.the-variants.{None, At}
-use Rattle.rehearsal.specs.declared.judging.Shape.{Shape}
-use Rattle.rehearsal.specs.declared.judging.Judged.the-variants.{Faulty, Good}
-use Rattle.rehearsal.specs.Lines.{lines, rest, numbers, bytes-of, sound, after}
-use Rattle.rehearsal.specs.Plan.{Plan, Reading, faulty, accepted, read, read-prices, read-bids}
-use Rattle.rehearsal.specs.Judged.{shape-of, as-judged, judged-as, seeds-of, prices-of, price-of, good-prices, tables, bid-fault, bids-fault, or-else}
-use Rattle.rehearsal.specs.Listing.{refused-line, probe-lines, clears-line, rounds-line, told, auction, plan-trail, printed, listing}
-use Rattle.rehearsal.proofs.Again.{bytes-one, after-add, sound-most, length-numbers, number-at}
-use Rattle.rehearsal.proofs.Sections.{line-of, either, good-most}
-use Rattle.rehearsal.proofs.Bids.{torn, whole, length-tables}
-use Rattle.rehearsal.proofs.Tables.{faultless}
-use Rattle.rehearsal.proofs.Answers.{rest-after, n-misshapen, n-range, seeds-torn, seeds-all, k-misshapen, k-range, price-bad, prices-good, m-misshapen, m-range, bids-bad, one-too-many, all-read}
+use Rattle.auction.specs.Auction.{Auction, GoodTable, IsAuction, demand, supply, clearing-answer}
+use Rattle.plan.specs.declared.table.Fault.{Fault}
+use Rattle.plan.specs.declared.table.Fault.the-variants.{None, At}
+use Rattle.plan.specs.declared.judging.Shape.{Shape}
+use Rattle.plan.specs.declared.judging.Judged.the-variants.{Faulty, Good}
+use Rattle.plan.specs.Lines.{lines, rest, numbers, bytes-of, sound, after}
+use Rattle.plan.specs.Plan.{Plan, Reading, faulty, accepted, read, read-prices, read-bids}
+use Rattle.plan.specs.Judged.{shape-of, as-judged, judged-as, seeds-of, prices-of, price-of, good-prices, tables, bid-fault, bids-fault, or-else}
+use Rattle.rehearsal.specs.Listing.{refused-line, probe-lines, clears-line, rounds-line, told, auction, plan-trail, printed, listing, course-trail}
+use Rattle.rehearsal.specs.Bidden.{auction-of}
+use Rattle.rehearsal.specs.Follows.{Follows, Right}
+use Rattle.rehearsal.specs.declared.course.Course.{Course}
+use Rattle.rehearsal.proofs.Parts.{limit-nine}
+use Rattle.plan.proofs.Again.{bytes-one, after-add, sound-most, length-numbers, number-at}
+use Rattle.plan.proofs.Sections.{line-of, either, good-most}
+use Rattle.plan.proofs.Bids.{torn, whole, length-tables}
+use Rattle.plan.proofs.Tables.{faultless}
+use Rattle.plan.proofs.Answers.{rest-after, n-misshapen, n-range, seeds-torn, seeds-all, k-misshapen, k-range, price-bad, prices-good, m-misshapen, m-range, bids-bad, one-too-many, all-read}
 
 -- ---- reading that ends well did so section by section
 
@@ -195,7 +201,7 @@ accepted-plan bytes p e =
 -- ---- what `judge` found
 
 -- a good answer is the shape of an accepted plan
-pub judged-good : (bytes : List ℕ) (r : Reading) (shape : Shape) → as-judged bytes r ≡ Good shape
+judged-good : (bytes : List ℕ) (r : Reading) (shape : Shape) → as-judged bytes r ≡ Good shape
     → (p : Plan) × (r ≡ accepted p) × (shape ≡ shape-of bytes p)
 unfolding as-judged
 judged-good bytes (faulty number line) shape e = absurd (let z : _≡_ {A = ℕ} 0 1 = cc in omega arith)
@@ -203,6 +209,34 @@ judged-good bytes (accepted p) shape e = (p, refl, good e)
   where
     good : {s t : Shape} → Good s ≡ Good t → t ≡ s
     good e = cc
+
+-- what `run` may rely on, and what then is right of its course
+pub record Runs (bytes : List ℕ) (shape : Shape) : Type 0 where
+  pub few-prices : shape .k ≤ 256
+  pub few-bids : shape .bids ≤ 1000
+  pub an-auction : IsAuction (auction-of (shape .n) (shape .k) (shape .bids) (drop (shape .«bids_at») bytes))
+  pub held : shape .n * (2 * shape .k) ≤ 4608
+  pub lent : shape .n * (127 * limit (shape .k)) ≤ 10287
+  pub right : (r : Course) → r .probes ≤ 9 → Follows (auction-of (shape .n) (shape .k) (shape .bids) (drop (shape .«bids_at») bytes)) r → Right bytes r
+
+pub good-runs : (bytes : List ℕ) (shape : Shape) → judged-as bytes ≡ Good shape → Runs bytes shape
+good-runs bytes shape e =
+    let j = judged-good bytes (read (lines bytes)) shape e in
+    let p = j .0 in
+    let A = accepted-plan bytes p (j .1) in
+    let same : auction p ≡ auction-of (p .n) (p .k) (length (p .bids)) (after (p .n + p .k + 3) bytes) =
+    ap (λ (ts : List (List ℕ)). record { n = p .n; k = p .k; bids = ts }) (A .bids) in
+    let h : p .n * (2 * p .k) ≤ 9 * (2 * p .k) = mul-le-mul-right (2 * p .k) (A .an-auction .n-most) in
+    let l : p .n * (127 * limit (p .k)) ≤ 9 * (127 * limit (p .k)) = mul-le-mul-right (127 * limit (p .k)) (A .an-auction .n-most) in
+    subst (Runs bytes) (sym (j .2))
+    (record {
+      few-prices = A .few-prices;
+      few-bids = A .an-auction .few;
+      an-auction = subst IsAuction same (A .an-auction);
+      held = omega (arith, h, A .few-prices);
+      lent = omega (arith, l, limit-nine (p .k) (A .few-prices));
+      right = λ r few F. record { few = few; follows = λ q f. subst (λ (x : Plan). Follows (auction x) r) (same-plan (sym f ∙ j .1)) (subst (λ (x : Auction). Follows x r) (sym same) F) };
+    })
 
 -- a fault is what is printed
 pub judged-faulty : (bytes : List ℕ) (number line : ℕ) → judged-as bytes ≡ Faulty number line → listing bytes ≡ refused-line number line
@@ -234,7 +268,7 @@ unfolding clears-line
 same-clears zero a b h = refl
 same-clears (suc i) a b h = ap (clears-line (suc i)) (h (omega arith))
 
-pub told-listing : (bytes : List ℕ) (p : Plan) → read (lines bytes) ≡ accepted p
+told-listing : (bytes : List ℕ) (p : Plan) → read (lines bytes) ≡ accepted p
     → (probes : List (ℕ × ℕ)) (answer : ℕ) → probes ≡ plan-trail p → answer ≡ clearing-answer (auction p)
     → told probes answer (price-of answer (drop (shape-of bytes p .«prices_at») bytes)) ≡ listing bytes
 unfolding printed
@@ -247,3 +281,13 @@ told-listing bytes p e probes answer f g =
     ap₂ (λ (t : List (ℕ × ℕ)) (j : ℕ). told t j (price-of j bs)) f g
     ∙ ap (λ (l : List ℕ). probe-lines 1 (plan-trail p) ++ (l ++ rounds-line (length (plan-trail p)))) (same-clears i (price-of i bs) (getD (p .prices) (i - 1) 0) price)
     ∙ sym (ap printed e)
+
+pub right-listing : (bytes : List ℕ) (shape : Shape) (c : Course) → judged-as bytes ≡ Good shape → Right bytes c
+    → told (course-trail (c .index) (c .verdict) (c .probes)) (c .clearing) (price-of (c .clearing) (drop (shape .«prices_at») bytes)) ≡ listing bytes
+right-listing bytes shape c e r =
+    let j = judged-good bytes (read (lines bytes)) shape e in
+    let p = j .0 in
+    let F = r .follows p (j .1) in
+    let probes = course-trail (c .index) (c .verdict) (c .probes) in
+    ap (λ (s : Shape). told probes (c .clearing) (price-of (c .clearing) (drop (s .«prices_at») bytes))) (j .2)
+    ∙ told-listing bytes p (j .1) probes (c .clearing) (F .noted) (F .clears)

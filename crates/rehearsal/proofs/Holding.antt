@@ -1,5 +1,5 @@
 -- Opening the sessions and adding a bid, for all parties: the records and totals of an auction's run. Assumes nothing.
-use mathlib.Core.Path.{_≡_, refl, sym, ap, ap₂, _∙_}
+use mathlib.Core.Path.{_≡_, refl, sym, ap, ap₂, subst, _∙_}
 use mathlib.Core.List.{List, _∷_, zip, zipWith}
 use Prim.Native.Nat.{ℕ, suc, _+_, _-_, _*_, _^_, _≤_, _<_}
 use native.Mathlib.Nat.{sub-zero}
@@ -16,19 +16,22 @@ use Rattle.party.specs.declared.record.Party.{Party}
 use Rattle.party.specs.Open.{fresh, open-reply, open-left}
 use Rattle.party.specs.Add.{add-reply, add-left}
 use Rattle.auction.specs.Auction.{Auction, GoodTable, IsAuction}
-use Rattle.auction.specs.Coins.{Coins, flat}
+use Rattle.auction.specs.Coins.{Coins, InRange, flat}
 use Rattle.auction.specs.Told.{Seat, returned, shares-for, added}
 use Rattle.auction.proofs.Closed.{entries, added-polynomials, totals-after, at-party, no-totals, polynomials, fresh-stage, record-at, sheets-at, seat}
 use Rattle.auction.proofs.Judging.{kept-new, returned-next}
 use Rattle.auction.proofs.Totals.{GoodBid, Held, entries-held, added-held, no-totals-held}
 use Rattle.auction.proofs.Bidding.{open-accepted, holding, holding-seat, at-party-zeros, added-holding}
-use Rattle.rehearsal.specs.Draws.{next-coin, later, drawn-coins, groups, bid-coins, after-bids}
-use Rattle.rehearsal.specs.Lines.{numbers, bytes-of, after}
-use Rattle.rehearsal.specs.Judged.{tables}
-use Rattle.rehearsal.specs.Bidden.{auction-of, Holds}
+use Rattle.rehearsal.specs.Draws.{first-state, next-coin, later, drawn-coins, groups, bid-coins, after-bids, all-sheets, auction-coins}
+use Rattle.plan.specs.Lines.{numbers, bytes-of, after}
+use Rattle.plan.specs.Judged.{tables}
+use Rattle.rehearsal.specs.Bidden.{auction-of, Holds, Adds}
 use Rattle.rehearsal.specs.Dealt.{sheets-of}
 use Rattle.rehearsal.specs.Standing.{Stands}
-use Rattle.rehearsal.proofs.Drawn.{Word, groups-length, groups-flat, groups-below, next-coin-below, coin-below}
+use Rattle.rehearsal.specs.Follows.{Follows, Searches}
+use Rattle.rehearsal.specs.declared.course.Course.{Course}
+use Rattle.plan.proofs.Bids.{length-tables}
+use Rattle.rehearsal.proofs.Drawn.{Word, groups-length, groups-flat, groups-below, next-coin-below, coin-below, coins-in-range-of}
 use Rattle.rehearsal.specs.Parties.{none, All, part, shares-of, party-added, totals-added}
 use Rattle.rehearsal.proofs.Parts.{part-length}
 
@@ -178,3 +181,35 @@ unfolding after-bids
 bids-done t k bids i x z e f =
     let n : bids - i ≡ 0 = omega arith in
     ap (λ (m : ℕ). after-bids t k m x) (sym n) ∙ f
+
+-- ---- the whole auction
+
+module _ (n k bids seed : ℕ) (bytes : List ℕ) where
+  abbrev a : Auction
+  a = auction-of n k bids bytes
+
+  abbrev coins : Coins
+  coins = auction-coins n k bids seed
+
+  -- what `collect` leaves
+  pub collected-holds : (state : ℕ) → state ≡ first-state seed → (opened parties : List Party) (fresh totals : List ℕ) → IsAuction a
+      → Adds n k bids bytes state opened fresh parties totals → Holds a 0 (no-totals a) opened fresh → Holds a bids (polynomials a coins) parties totals
+  unfolding polynomials auction-coins
+  collected-holds state e opened parties fresh totals A D H i h =
+      let g = D A H i h in (
+        g .0,
+        g .1
+            ∙ ap (λ (x : ℕ). at-party (i + 1) (totals-after (zip (tables k bids bytes) (bid-coins (threshold n) k bids x)) (no-totals a))) e,
+      )
+
+  -- what `hold` notes
+  pub held-follows : Word seed → (parties : List Party) (totals sheets : List ℕ) (state : ℕ) (r : Course) → IsAuction a
+      → Holds a bids (polynomials a coins) parties totals → state ≡ after-bids (threshold n) k bids (first-state seed)
+      → All n (λ i. part (127 * limit k) i sheets ≡ sheets-of (i + 1) (all-sheets (threshold n) (limit k) state))
+      → Searches n k parties totals sheets r → Follows a r
+  unfolding auction-coins
+  held-follows w parties totals sheets state r A H e D S =
+      let l : length (tables k bids bytes) ≡ bids = length-tables k bids bytes in
+      S (tables k bids bytes) coins A (subst (λ (m : ℕ). InRange a (auction-coins n k m seed)) l (coins-in-range-of a seed w))
+      (start-stands a coins parties totals sheets (subst (λ (m : ℕ). Holds a m (polynomials a coins) parties totals) (sym l) H)
+      (λ i h. D i h ∙ ap (λ (x : ℕ). sheets-of (i + 1) (all-sheets (threshold n) (limit k) x)) e))

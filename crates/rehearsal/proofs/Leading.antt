@@ -1,15 +1,15 @@
 -- Probe after probe: the indices and verdicts that the program notes are those of the price search. Assumes nothing.
 use mathlib.Core.Path.{_≡_, refl, sym, ap, ap₂, _∙_}
 use mathlib.Core.Bool.{Bool, true, false, cond, true≢false}
-use mathlib.Core.List.{List, [], _∷_, _++_, zip, zipWith, append-assoc, append-nil}
-use Prim.Native.Nat.{ℕ, suc, _+_, _-_, _≤_, _<_}
-use native.Mathlib.Nat.{suc-inj, sub-zero, eq-or-lt-of-le}
+use mathlib.Core.List.{List, [], _∷_, _++_, append-assoc, append-nil}
+use Prim.Native.Nat.{ℕ, zero, suc, _+_, _-_, _≤_, _<_}
+use native.Mathlib.Nat.{sub-zero, eq-or-lt-of-le}
 use native.Mathlib.Numerals.{add-one}
 use native.Mathlib.Omega.{arith}
 use mathlib.Core.Logic.{⊎-elim}
 use lib.Dec.{eqb, leb}
-use lib.ListN.{length, take, drop, set, getD}
-use lib.Seq.{length-take-le, take-suc-set, drop-cons}
+use lib.ListN.{length, drop, set, getD}
+use lib.Seq.{getD-set-same, getD-set-other, drop-cons}
 use borrow.Author.Tests.{eq-eqb, ne-eqb}
 use Rattle.verdict.specs.Verdict.{verdict}
 use Rattle.search.specs.declared.Bracket.{Bracket}
@@ -31,31 +31,32 @@ use Rattle.auction.specs.Auction.{Auction, IsAuction, demand, supply, clearing-
 use Rattle.auction.specs.Coins.{Coins, InRange}
 use Rattle.auction.specs.Told.{Seat}
 use Rattle.auction.proofs.Closed.{fresh-stage, record-at, seat}
-use Rattle.auction.proofs.Totals.{length-zip, totals-monotone}
+use Rattle.auction.proofs.Totals.{totals-monotone}
 use Rattle.auction.proofs.Step.{Sane, fresh-sane, sound-at}
 use Rattle.auction.proofs.Round.{Ready, verdict-is}
 use Rattle.rehearsal.specs.declared.course.Course.{Course}
+use Rattle.rehearsal.specs.Listing.{course-trail}
 use Rattle.rehearsal.specs.Follows.{priced, Follows}
 use Rattle.rehearsal.proofs.Parts.{limit-nine}
 use Rattle.rehearsal.specs.Parties.{none}
 use Rattle.rehearsal.specs.Standing.{Stands, verdict-at, Probes, mark}
 
--- one pair more
-zip-more : (xs ys : List ℕ) (x y : ℕ) → length xs ≡ length ys → zip (xs ++ (x ∷ [])) (ys ++ (y ∷ [])) ≡ zip xs ys ++ ((x, y) ∷ [])
-unfolding zip zipWith
-zip-more [] [] x y l = refl
-zip-more [] (b ∷ ys) x y l = absurd (omega arith)
-zip-more (a ∷ xs) [] x y l = absurd (omega arith)
-zip-more (a ∷ xs) (b ∷ ys) x y l = ap (λ (z : List (ℕ × ℕ)). (a, b) ∷ z) (zip-more xs ys x y (suc-inj l))
+-- a later note leaves the earlier ones
+earlier : (index marks : List ℕ) (done at v m : ℕ) → m ≤ done → course-trail (set index done at) (set marks done v) m ≡ course-trail index marks m
+unfolding course-trail
+earlier index marks done at v zero h = refl
+earlier index marks done at v (suc m) h =
+    let apart : m ≡ done → ⊥ = λ e. omega arith in
+    ap₂ _++_ (earlier index marks done at v m (omega arith))
+    (ap₂ (λ (x y : ℕ). (x, y) ∷ []) (getD-set-other index done m at 0 apart) (getD-set-other marks done m v 0 apart))
 
 noted-more : (index marks : List ℕ) (done at v : ℕ) → length index ≡ 9 → length marks ≡ 9 → done < 9
-    → zip (take (done + 1) (set index done at)) (take (done + 1) (set marks done v)) ≡ zip (take done index) (take done marks) ++ ((at, v) ∷ [])
+    → course-trail (set index done at) (set marks done v) (done + 1) ≡ course-trail index marks done ++ ((at, v) ∷ [])
+unfolding course-trail
 noted-more index marks done at v li lm h =
-    ap₂ (λ (x y : List ℕ). zip x y)
-    (ap (λ (z : ℕ). take z (set index done at)) (add-one done) ∙ take-suc-set index done at (omega arith))
-    (ap (λ (z : ℕ). take z (set marks done v)) (add-one done) ∙ take-suc-set marks done v (omega arith))
-    ∙ zip-more (take done index) (take done marks) at v
-    (length-take-le done index (omega arith) ∙ sym (length-take-le done marks (omega arith)))
+    ap (course-trail (set index done at) (set marks done v)) (add-one done)
+    ∙ ap₂ _++_ (earlier index marks done at v done (omega arith))
+    (ap₂ (λ (x y : ℕ). (x, y) ∷ []) (getD-set-same index done at 0 (omega arith)) (getD-set-same marks done v 0 (omega arith)))
 
 -- the verdict is read off the bracket
 mark-of : (b : Bracket) (d s : ℕ) → b .lo < middle b → mark (step b (verdict d s) .lo) (middle b) ≡ verdict d s
@@ -74,7 +75,7 @@ pub record Led (a : Auction) (c : Coins) (now : List Party) (totals sheets index
   pub at : Bracket
   pub stands : Stands a c (fresh-stage at done) now totals sheets
   pub encloses : Encloses (covered (demand a) (supply a)) (a .k) done at
-  pub noted : zip (take done index) (take done marks) ++ trail (promise (demand a) (supply a)) (limit (a .k) - done) at
+  pub noted : course-trail index marks done ++ trail (promise (demand a) (supply a)) (limit (a .k) - done) at
       ≡ trail (promise (demand a) (supply a)) (limit (a .k)) (start (a .k))
 
 module _ (n k : ℕ) (bids : List (List ℕ)) (c : Coins) where
@@ -143,7 +144,7 @@ module _ (n k : ℕ) (bids : List (List ℕ)) (c : Coins) where
           let ib : i ≡ middle b = ei ∙ ap middle (first-bracket b done now (L .stands)) in
           let vb : mv ≡ v = em ∙ ap₂ mark lo-after ib ∙ mark-is in
           let q : limit k - done ≡ suc (limit k - (done + 1)) = omega (arith, few) in
-          let r : List (ℕ × ℕ) = zip (take done index) (take done marks) in
+          let r : List (ℕ × ℕ) = course-trail index marks done in
           record {
             at = step b v;
             stands = rw (add-one done) later;
@@ -163,10 +164,10 @@ module _ (n k : ℕ) (bids : List (List ℕ)) (c : Coins) where
 
     -- at the end
     module _ (now : List Party) (index marks : List ℕ) (done : ℕ) (L : Led a c now totals sheets index marks done) (ended : over (L .at) ≡ true) where
-      pub noted-all : zip (take done index) (take done marks) ≡ trail (promise (demand a) (supply a)) (limit k) (start k)
+      pub noted-all : course-trail index marks done ≡ trail (promise (demand a) (supply a)) (limit k) (start k)
       noted-all =
           sym (append-nil _)
-          ∙ ap (λ (z : List (ℕ × ℕ)). zip (take done index) (take done marks) ++ z)
+          ∙ ap (λ (z : List (ℕ × ℕ)). course-trail index marks done ++ z)
           (sym (trail-over (promise (demand a) (supply a)) (limit k - done) (L .at) ended))
           ∙ L .noted
 
@@ -197,21 +198,15 @@ module _ (n k : ℕ) (bids : List (List ℕ)) (c : Coins) where
           ∙ lo-clears
 
       pub follows : (r : Course) → r .probes ≡ done → r .index ≡ index → r .verdict ≡ marks → r .clearing ≡ priced (answer-reply (getD now 0 none))
-          → done ≤ 9 → length index ≡ 9 → length marks ≡ 9 → Follows a r
-      follows r ep ei em ec h li lm =
-          let e : zip (take (r .probes) (r .index)) (take (r .probes) (r .verdict)) ≡ zip (take done index) (take done marks) = cc in
-          let lx : length (take done index) ≡ done = length-take-le done index (omega arith) in
-          let ly : length (take done marks) ≡ done = length-take-le done marks (omega arith) in
-          record {
-            noted = e ∙ noted-all;
-            many = ep ∙ sym (length-zip (take done index) (take done marks) (ly ∙ sym lx) ∙ lx) ∙ ap length noted-all;
-            clears = ec ∙ price-clears;
-          }
+          → Follows a r
+      follows r ep ei em ec =
+          let e : course-trail (r .index) (r .verdict) (r .probes) ≡ course-trail index marks done = cc in
+          record { noted = e ∙ noted-all; clears = ec ∙ price-clears }
 
     -- before the first probe
     pub led-start : (parties : List Party) (index marks : List ℕ) → Stands a c (fresh-stage (start k) 0) parties totals sheets
         → Led a c parties totals sheets index marks 0
-    unfolding zip zipWith
+    unfolding course-trail
     led-start parties index marks H =
         record {
           at = start k;

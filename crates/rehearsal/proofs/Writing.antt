@@ -13,7 +13,7 @@ use borrow.Author.Tests.{lt-ltb, le-ltb, leb-true, leb-false}
 use mir.Val.{Fits}
 use mir.Syntax.{w64}
 use Rattle.io.specs.Digits.{glyph, digits, Fewest}
-use Rattle.rehearsal.proofs.Sections.{either}
+use Rattle.plan.proofs.Sections.{either}
 use Rattle.rehearsal.specs.Text.{spelled, decimal, put, Wrote}
 
 -- ---- one piece after another

@@ -9,7 +9,7 @@ use Rattle.auction.specs.Auction.{Auction, IsAuction}
 use Rattle.auction.proofs.Closed.{totals-after, at-party, no-totals}
 use Rattle.auction.proofs.Bidding.{holding}
 use Rattle.rehearsal.specs.Draws.{bid-coins}
-use Rattle.rehearsal.specs.Judged.{tables}
+use Rattle.plan.specs.Judged.{tables}
 use Rattle.rehearsal.specs.Parties.{none, All, part}
 
 -- m bids are held, with the polynomials fs behind the totals

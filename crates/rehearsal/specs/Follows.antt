@@ -1,8 +1,7 @@
 -- What is noted of a run, and what it has to be. Assumes nothing.
 use mathlib.Core.Path.{_≡_}
-use mathlib.Core.List.{List, zip}
-use Prim.Native.Nat.{ℕ}
-use lib.ListN.{length, take}
+use mathlib.Core.List.{List}
+use Prim.Native.Nat.{ℕ, _≤_}
 use Rattle.search.specs.Bracket.{start}
 use Rattle.search.specs.Limit.{limit}
 use Rattle.search.specs.Search.{promise, trail}
@@ -13,6 +12,9 @@ use Rattle.auction.specs.Auction.{Auction, IsAuction, demand, supply, clearing-
 use Rattle.auction.specs.Coins.{Coins, InRange}
 use Rattle.auction.proofs.Closed.{fresh-stage}
 use Rattle.rehearsal.specs.declared.course.Course.{Course}
+use Rattle.plan.specs.Lines.{lines}
+use Rattle.plan.specs.Plan.{Plan, accepted, read}
+use Rattle.rehearsal.specs.Listing.{auction, course-trail}
 use Rattle.rehearsal.specs.Standing.{Stands}
 
 abbrev pub priced : Answer → ℕ
@@ -21,8 +23,7 @@ priced (Refused why) = 0
 
 -- the probes of the price search, and its answer
 pub record Follows (a : Auction) (r : Course) : Type 0 where
-  pub noted : zip (take (r .probes) (r .index)) (take (r .probes) (r .verdict)) ≡ trail (promise (demand a) (supply a)) (limit (a .k)) (start (a .k))
-  pub many : r .probes ≡ length (trail (promise (demand a) (supply a)) (limit (a .k)) (start (a .k)))
+  pub noted : course-trail (r .index) (r .verdict) (r .probes) ≡ trail (promise (demand a) (supply a)) (limit (a .k)) (start (a .k))
   pub clears : r .clearing ≡ clearing-answer a
 
 -- parties that stand at the start of an auction, whatever its coins
@@ -30,3 +31,8 @@ abbrev pub Searches : (n k : ℕ) → List Party → (totals sheets : List ℕ) 
 Searches n k parties totals sheets r =
     (bids : List (List ℕ)) (c : Coins) → IsAuction (record { n = n; k = k; bids = bids }) → InRange (record { n = n; k = k; bids = bids }) c
     → Stands (record { n = n; k = k; bids = bids }) c (fresh-stage (start k) 0) parties totals sheets → Follows (record { n = n; k = k; bids = bids }) r
+
+-- what is noted of the run of an accepted input
+pub record Right (bytes : List ℕ) (r : Course) : Type 0 where
+  pub few : r .probes ≤ 9
+  pub follows : (p : Plan) → read (lines bytes) ≡ accepted p → Follows (auction p) r

@@ -1,7 +1,4 @@
--- The rehearsal's input and listing: what the contracts cite.
-pub mod Lines
-pub mod Plan
-pub mod Judged
+-- The rehearsal's listing, and the auction behind it: what the contracts cite.
 pub mod Text
 pub mod Listing
 pub mod Draws

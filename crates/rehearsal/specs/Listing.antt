@@ -6,8 +6,8 @@ use Rattle.search.specs.Bracket.{start}
 use Rattle.search.specs.Limit.{limit}
 use Rattle.search.specs.Search.{promise, trail}
 use Rattle.auction.specs.Auction.{Auction, demand, supply, clearing-answer}
-use Rattle.rehearsal.specs.Lines.{lines}
-use Rattle.rehearsal.specs.Plan.{Plan, Reading, faulty, accepted, read}
+use Rattle.plan.specs.Lines.{lines}
+use Rattle.plan.specs.Plan.{Plan, Reading, faulty, accepted, read}
 use Rattle.rehearsal.specs.Text.{decimal}
 
 abbrev newline : List ℕ

@@ -7,14 +7,14 @@ ghost use Rattle.party.specs.Add.{add-reply, add-left};
 ghost use Rattle.sharing.specs.Scheme.{threshold};
 ghost use Rattle.rehearsal.specs.Bidden.{Adds};
 ghost use Rattle.rehearsal.specs.Draws.{next-coin, later, drawn-coins, after-bids};
-ghost use Rattle.rehearsal.specs.Lines.{numbers, bytes-of};
+ghost use Rattle.plan.specs.Lines.{numbers, bytes-of};
 ghost use Rattle.rehearsal.specs.Parties.{none, All, part, shares-of, party-added, totals-added};
 use crate::draws::draw_coins;
-use crate::numbers::read_table;
 use crate::parties::returned;
 use bid::split;
 use party::Party;
 use party::add;
+use plan::read_table;
 use sharing::threshold;
 
 // Room for a party's shares.

@@ -3,11 +3,11 @@ ghost use Prim.Native.Nat.{_+_, _≤_};
 ghost use lib.ListN.{length, drop};
 ghost use Rattle.rehearsal.specs.Text.{Wrote};
 ghost use Rattle.rehearsal.specs.Listing.{refused-line, probe-line, probe-lines, clears-line, rounds-line, course-trail, told};
-ghost use Rattle.rehearsal.specs.Judged.{price-of};
-use crate::judging::Shape;
-use crate::numbers::price_at;
+ghost use Rattle.plan.specs.Judged.{price-of};
 use crate::text::append;
 use crate::text::append_number;
+use plan::Shape;
+use plan::price_at;
 
 // How the search went: so many probes, each with its index and its verdict, and the answer.
 pub struct Course {

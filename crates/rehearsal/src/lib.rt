@@ -2,23 +2,13 @@
 mod adding;
 mod course;
 mod draws;
-mod judging;
-mod lines;
-mod numbers;
 mod parties;
 mod probes;
+mod rehearsing;
 mod rounds;
+mod running;
 mod searching;
 mod sheets;
-mod table;
 mod text;
 
-pub use course::Course;
-pub use judging::Judged;
-pub use judging::Shape;
-pub use judging::judge;
-pub use lines::Line;
-pub use lines::LineRead;
-pub use lines::read_line;
-pub use numbers::price_at;
-pub use numbers::read_table;
+pub use rehearsing::rehearse;

@@ -119,7 +119,7 @@ returns c =
           follows (a .n) (a .k) bids d A C (a .totals .now) (a .sheets .now) (l .here) (l .index) (l .verdict) (l .done) L
           (led-over (a .n) (a .k) bids d A C (a .totals .now) (a .sheets .now) (l .here) (l .index) (l .verdict) (l .done) L (s .pre .1)
           (λ e. ltb-false (l .done) 9 (stops (ltb (l .done) 9) (l .more) (c .before .before .loop-test .left) (l .inv .3 ∙ ap not e))))
-          _ refl refl refl (c .price .ensures) (l .inv .0) (l .inv .1) (l .inv .2),
+          _ refl refl refl (c .price .ensures),
     )
 
 pub search-spec : {M : Type 1} → statement M

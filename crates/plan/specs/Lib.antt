@@ -1,0 +1,4 @@
+-- The rehearsal's input: what the contracts cite.
+pub mod Lines
+pub mod Plan
+pub mod Judged

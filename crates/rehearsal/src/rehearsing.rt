@@ -1,0 +1,20 @@
+// From the bytes of the input to the bytes of the listing.
+ghost use Rattle.rehearsal.specs.Text.{Wrote};
+ghost use Rattle.rehearsal.specs.Listing.{listing};
+use crate::course::write_course;
+use crate::course::write_refused;
+use crate::running::run;
+use plan::Judged;
+use plan::judge;
+
+// Judges the input, runs its auction, and writes the listing at the start of a buffer that is lent
+// for it. No listing is longer than 824 bytes. The answer is how long it is.
+pub fn rehearse(input: &[u8], out: &mut [u8; 1024]) -> usize
+    ensures { λ r. ⌜ Wrote (now (out .entry)) 0 (listing (now (input .entry))) (now (out .exit)) r ⌝ }
+{
+    let judged = judge(input);
+    match judged {
+        Judged::Faulty(number, line) => write_refused(number, line, out),
+        Judged::Good(shape) => write_course(input, shape, run(input, shape), out),
+    }
+}

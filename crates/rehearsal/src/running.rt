@@ -1,0 +1,96 @@
+// The auction of an accepted input, by the calls alone.
+ghost use mathlib.Core.Path.{_≡_};
+ghost use Prim.Native.Nat.{_*_, _≤_};
+ghost use lib.ListN.{length, drop};
+ghost use Rattle.search.specs.Limit.{limit};
+ghost use Rattle.sharing.specs.Scheme.{threshold};
+ghost use Rattle.auction.specs.Auction.{IsAuction};
+ghost use Rattle.auction.proofs.Closed.{polynomials};
+ghost use Rattle.plan.specs.declared.judging.Judged.the-variants.{Good};
+ghost use Rattle.plan.specs.Judged.{judged-as};
+ghost use Rattle.rehearsal.specs.Draws.{first-state, after-bids, auction-coins};
+ghost use Rattle.rehearsal.specs.Bidden.{auction-of, Holds};
+ghost use Rattle.rehearsal.specs.Follows.{Follows, Right};
+use crate::adding::Added;
+use crate::adding::add_bids;
+use crate::course::Course;
+use crate::draws::first_state;
+use crate::parties::open_all;
+use crate::searching::search;
+use crate::sheets::deal_all;
+use party::Party;
+use plan::Shape;
+use search::limit;
+
+// Opens the sessions, and adds the bids that begin at `at`.
+fn collect(
+    n: u64,
+    seed: u64,
+    k: u64,
+    bids: u64,
+    input: &[u8],
+    at: usize,
+    totals: &mut [u64],
+) -> Added
+    requires { ⌜ (k ≤ 256) × (bids ≤ 1000) × IsAuction (auction-of n k bids (drop at (now input))) × (length (now totals) ≡ n * (2 * k)) ⌝ }
+    ensures { λ r. ⌜ (r .state ≡ after-bids (threshold n) k bids (first-state seed))
+        × Holds (auction-of n k bids (drop at (now (input .entry)))) bids
+        (polynomials (auction-of n k bids (drop at (now (input .entry)))) (auction-coins n k bids seed)) (r .parties) (now (totals .exit)) ⌝ }
+{
+    let parties = open_all(n, k, totals);
+    add_bids(n, k, bids, input, at, first_state(seed), parties, totals)
+}
+
+// The auction, in slices lent for the parties' totals and sheets.
+fn hold(
+    n: u64,
+    seed: u64,
+    k: u64,
+    bids: u64,
+    input: &[u8],
+    at: usize,
+    totals: &mut [u64],
+    sheets: &mut [u64],
+) -> Course
+    requires { ⌜ (k ≤ 256) × (bids ≤ 1000) × IsAuction (auction-of n k bids (drop at (now input)))
+        × (length (now totals) ≡ n * (2 * k)) × (length (now sheets) ≡ n * (127 * limit k)) ⌝ }
+    ensures { λ r. ⌜ (r .probes ≤ 9) × Follows (auction-of n k bids (drop at (now (input .entry)))) r ⌝ }
+{
+    let added = collect(n, seed, k, bids, input, at, totals);
+    let parties = added.parties;
+    deal_all(n, k, added.state, sheets);
+    search(n, k, parties, &totals[..], &sheets[..])
+}
+
+// Room for the totals of nine parties.
+fn no_totals() -> [u64; 4608] {
+    [0u64; 4608]
+}
+
+// Room for nine sheets of each of nine parties.
+fn no_sheets() -> [u64; 10287] {
+    [0u64; 10287]
+}
+
+// The auction of an input that `judge` found good.
+pub(crate) fn run(input: &[u8], shape: Shape) -> Course
+    requires { ⌜ judged-as (now input) ≡ Good shape ⌝ }
+    ensures { λ r. ⌜ Right (now (input .entry)) r ⌝ }
+{
+    let n = shape.n;
+    let k = shape.k;
+    let held = n as usize * (2 * k as usize);
+    let lent = n as usize * (127 * limit(k) as usize);
+    let mut totals = no_totals();
+    let mut sheets = no_sheets();
+    hold(
+        n,
+        shape.seed,
+        k,
+        shape.bids,
+        input,
+        shape.bids_at,
+        &mut totals[..held],
+        &mut sheets[..lent],
+    )
+}

@@ -1,0 +1,57 @@
+-- `main` is safe and ends. Assumes nothing.
+use mathlib.Core.Path.{sym}
+use lib.Seq.{length-take-le}
+use native.Mathlib.Omega.{arith}
+use Rattle.rehearsal.proofs.Writing.{length-wrote}
+use borrow.Author.Needs.{needs}
+use Rattle.rehearse.proofs.main.Statement.{statement}
+use Rattle.rehearse.proofs.main.Tie as tie
+
+input-room-requires : tie.Need-input-room-requires
+input-room-requires c κs = search needs
+
+slice-aggregate-read-full : tie.Need-slice-aggregate-read-full
+slice-aggregate-read-full c = search needs
+
+read-full-requires : tie.Need-read-full-requires
+read-full-requires c κs = search needs
+
+listing-room-requires : tie.Need-listing-room-requires
+listing-room-requires c κs = search needs
+
+array-share-prefix-input : tie.Need-array-share-prefix-input
+array-share-prefix-input c = search needs
+
+slice-aggregate-rehearse : tie.Need-slice-aggregate-rehearse
+slice-aggregate-rehearse c = search needs
+
+rehearse-requires : tie.Need-rehearse-requires
+rehearse-requires c κs = search needs
+
+array-share-prefix-out : tie.Need-array-share-prefix-out
+array-share-prefix-out c = omega (arith, length-wrote (c .rehearse .ensures), c .rehearse .ensures .inside)
+
+slice-aggregate-write-all : tie.Need-slice-aggregate-write-all
+slice-aggregate-write-all c = sym (length-take-le _ _ (array-share-prefix-out (c .before)))
+
+write-all-requires : tie.Need-write-all-requires
+write-all-requires c κs = search needs
+
+returns : tie.Need-returns
+returns c = search needs
+
+pub main-spec : {M : Type 1} → statement M
+main-spec =
+    tie.close
+    (tie.spec
+    input-room-requires
+    slice-aggregate-read-full
+    read-full-requires
+    listing-room-requires
+    array-share-prefix-input
+    slice-aggregate-rehearse
+    rehearse-requires
+    array-share-prefix-out
+    slice-aggregate-write-all
+    write-all-requires
+    returns)
