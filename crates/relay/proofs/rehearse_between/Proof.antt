@@ -1,11 +1,11 @@
--- `main` is safe and ends. Assumes nothing.
+-- `rehearse_between` is safe and ends. Assumes nothing.
 use mathlib.Core.Path.{sym}
 use lib.Seq.{length-take-le}
 use native.Mathlib.Omega.{arith}
 use Rattle.rehearsal.proofs.Writing.{length-wrote}
 use borrow.Author.Needs.{needs}
-use Rattle.rehearse.proofs.main.Statement.{statement}
-use Rattle.rehearse.proofs.main.Tie as tie
+use Rattle.relay.proofs.rehearse_between.Statement.{statement}
+use Rattle.relay.proofs.rehearse_between.Tie as tie
 
 input-room-requires : tie.Need-input-room-requires
 input-room-requires c κs = search needs
@@ -40,8 +40,8 @@ write-all-requires c κs = search needs
 returns : tie.Need-returns
 returns c = search needs
 
-pub main-spec : {M : Type 1} → statement M
-main-spec =
+pub rehearse-between-spec : {M : Type 1} → statement M
+rehearse-between-spec =
     tie.close
     (tie.spec
     input-room-requires

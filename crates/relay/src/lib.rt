@@ -1,0 +1,18 @@
+// The rehearsal of what one descriptor gives, written to another.
+
+// Every input that is accepted fits. A longer one is refused for what does.
+fn input_room() -> [u8; 4194304] {
+    [0u8; 4194304]
+}
+
+fn listing_room() -> [u8; 1024] {
+    [0u8; 1024]
+}
+
+pub fn rehearse_between(from: i32, to: i32) {
+    let mut input = input_room();
+    let got = io::read_full(from, &mut input);
+    let mut out = listing_room();
+    let long = rehearsal::rehearse(&input[..got], &mut out);
+    io::write_all(to, &out[..long]);
+}
