@@ -250,17 +250,6 @@ judged-faulty bytes number line e = by (read (lines bytes)) e
         same e = (cc, cc)
     by (accepted p) e = absurd (let z : _≡_ {A = ℕ} 0 1 = cc in omega arith)
 
--- ---- a bid, read again
-
-pub table-at : (k m i : ℕ) (bytes : List ℕ) → i < m → getD (tables k m bytes) i [] ≡ numbers (2 * k) (after (i * (2 * k)) bytes)
-unfolding tables bytes-of
-table-at k zero i bytes h = absurd (omega arith)
-table-at k (suc m) zero bytes h = let e : 0 ≡ 0 * (2 * k) = omega arith in ap (λ (j : ℕ). numbers (2 * k) (after j bytes)) e
-table-at k (suc m) (suc i) bytes h =
-    let e : 2 * k + i * (2 * k) ≡ suc i * (2 * k) = omega arith in
-    table-at k m i (after (2 * k) bytes) (omega arith)
-    ∙ ap (numbers (2 * k)) (after-add (2 * k) (i * (2 * k)) bytes ∙ ap (λ (j : ℕ). after j bytes) e)
-
 -- ---- a right course is told as the listing
 
 same-clears : (answer a b : ℕ) → (0 < answer → a ≡ b) → clears-line answer a ≡ clears-line answer b
@@ -291,3 +280,11 @@ right-listing bytes shape c e r =
     let probes = course-trail (c .index) (c .verdict) (c .probes) in
     ap (λ (s : Shape). told probes (c .clearing) (price-of (c .clearing) (drop (s .«prices_at») bytes))) (j .2)
     ∙ told-listing bytes p (j .1) probes (c .clearing) (F .noted) (F .clears)
+
+-- ---- the seeds
+
+-- inputs that differ in their seeds alone have the same listing, though every share, sheet and word of their auctions differs
+pub seedless : (bytes other : List ℕ) (p : Plan) (seeds : List ℕ) → read (lines bytes) ≡ accepted p
+    → read (lines other) ≡ accepted (record { n = p .n; seeds = seeds; k = p .k; prices = p .prices; bids = p .bids }) → listing other ≡ listing bytes
+unfolding printed
+seedless bytes other p seeds e f = ap printed f ∙ sym (ap printed e)

@@ -1,7 +1,7 @@
 -- The bids of an input, read and added one after another. Assumes nothing.
 use mathlib.Core.Path.{_≡_}
-use mathlib.Core.List.{List, [], _∷_, zip}
-use Prim.Native.Nat.{ℕ, zero, suc, _+_, _*_}
+use mathlib.Core.List.{List, zip}
+use Prim.Native.Nat.{ℕ, _+_, _*_}
 use lib.ListN.{getD}
 use Rattle.sharing.specs.Scheme.{threshold}
 use Rattle.party.specs.declared.record.Party.{Party}

@@ -1,6 +1,7 @@
--- The rehearsal's listing, and the auction behind it: what the contracts cite.
+-- What the contract of `rehearse` says: a buffer that text is put into, and the listing.
 pub mod Text
 pub mod Listing
+-- What the contracts of its steps cite.
 pub mod Draws
 pub mod Parties
 pub mod Dealt

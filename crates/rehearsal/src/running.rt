@@ -18,7 +18,6 @@ use crate::draws::first_state;
 use crate::parties::open_all;
 use crate::searching::search;
 use crate::sheets::deal_all;
-use party::Party;
 use plan::Shape;
 use search::limit;
 

@@ -1,11 +1,8 @@
 -- `collect` meets its contract. Assumes nothing.
 use mathlib.Core.Path.{_≡_, ap, _∙_}
-use Prim.Native.Nat.{ℕ}
 use lib.ListN.{drop}
 use Rattle.sharing.specs.Scheme.{threshold}
-use Rattle.auction.specs.Auction.{Auction}
 use Rattle.rehearsal.specs.Draws.{first-state, after-bids}
-use Rattle.rehearsal.specs.Bidden.{auction-of}
 use Rattle.rehearsal.proofs.Holding.{opened-holds, collected-holds}
 use borrow.Author.Needs.{needs}
 use Rattle.rehearsal.proofs.running.collect.Statement.{statement}
