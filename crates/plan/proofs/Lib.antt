@@ -6,3 +6,4 @@ pub mod Sections
 pub mod Bids
 pub mod Tables
 pub mod Answers
+pub mod Cut

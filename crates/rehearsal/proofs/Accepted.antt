@@ -2,7 +2,7 @@
 use mathlib.Core.Path.{_≡_, refl, sym, ap, ap₂, subst, _∙_}
 use mathlib.Core.Bool.{_&&_}
 use mathlib.Core.Logic.{_⊎_, inl, inr, ⊎-elim}
-use mathlib.Core.List.{List, [], _++_}
+use mathlib.Core.List.{List, _++_}
 use Prim.Native.Nat.{ℕ, zero, suc, _+_, _-_, _*_, _≤_, _<_}
 use native.Mathlib.Nat.{mul-le-mul-right}
 use native.Mathlib.Omega.{arith}
@@ -17,7 +17,7 @@ use Rattle.plan.specs.declared.table.Fault.{Fault}
 use Rattle.plan.specs.declared.table.Fault.the-variants.{None, At}
 use Rattle.plan.specs.declared.judging.Shape.{Shape}
 use Rattle.plan.specs.declared.judging.Judged.the-variants.{Faulty, Good}
-use Rattle.plan.specs.Lines.{lines, rest, numbers, bytes-of, sound, after}
+use Rattle.plan.specs.Lines.{lines, rest, numbers, sound, after}
 use Rattle.plan.specs.Plan.{Plan, Reading, faulty, accepted, read, read-prices, read-bids}
 use Rattle.plan.specs.Judged.{shape-of, as-judged, judged-as, seeds-of, prices-of, price-of, good-prices, tables, bid-fault, bids-fault, or-else}
 use Rattle.rehearsal.specs.Listing.{refused-line, probe-lines, clears-line, rounds-line, told, auction, plan-trail, printed, listing, course-trail}
@@ -280,11 +280,3 @@ right-listing bytes shape c e r =
     let probes = course-trail (c .index) (c .verdict) (c .probes) in
     ap (λ (s : Shape). told probes (c .clearing) (price-of (c .clearing) (drop (s .«prices_at») bytes))) (j .2)
     ∙ told-listing bytes p (j .1) probes (c .clearing) (F .noted) (F .clears)
-
--- ---- the seeds
-
--- inputs that differ in their seeds alone have the same listing, though every share, sheet and word of their auctions differs
-pub seedless : (bytes other : List ℕ) (p : Plan) (seeds : List ℕ) → read (lines bytes) ≡ accepted p
-    → read (lines other) ≡ accepted (record { n = p .n; seeds = seeds; k = p .k; prices = p .prices; bids = p .bids }) → listing other ≡ listing bytes
-unfolding printed
-seedless bytes other p seeds e f = ap printed f ∙ sym (ap printed e)

@@ -2,6 +2,8 @@
 pub mod Writing
 pub mod Telling
 pub mod Accepted
+pub mod Cut
+pub mod Seeds
 pub mod Drawn
 pub mod Parts
 pub mod Holding

@@ -1,6 +1,7 @@
 // The rehearsal of what one descriptor gives, written to another.
 
-// Every input that is accepted fits. A longer one is refused for what does.
+// Every input that is accepted fits. A longer one is refused for what does (`Cut.cut-listing` of
+// crate `rehearsal`).
 fn input_room() -> [u8; 4194304] {
     [0u8; 4194304]
 }
