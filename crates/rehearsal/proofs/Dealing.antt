@@ -17,10 +17,10 @@ use Rattle.auction.specs.Coins.{flat, sheet-words, sheet-bytes}
 use Rattle.auction.proofs.Judging.{kept-new, is-party, is-below}
 use Rattle.auction.proofs.Dealing.{bytes-length, sheet-written}
 use Rattle.auction.proofs.Sheets.{sheet-length}
-use Rattle.rehearsal.specs.Draws.{next, next-coin, later, drawn-coins, drawn-bytes, sheet-coins, after-sheet, all-sheets}
+use Rattle.draws.specs.Draws.{next, next-coin, later, drawn-coins, drawn-bytes, sheet-coins, after-sheet, all-sheets}
 use Rattle.rehearsal.specs.Parties.{sheet-dealt}
 use Rattle.rehearsal.specs.Dealt.{sheet-put, sheets-of}
-use Rattle.rehearsal.proofs.Drawn.{Word, sheet-in-range, sheet-words-drawn, sheet-bytes-drawn}
+use Rattle.draws.proofs.Drawn.{Word, sheet-in-range, sheet-words-drawn, sheet-bytes-drawn}
 
 module _ (n j : ℕ) (h3 : 3 ≤ n) (h9 : n ≤ 9) (h1 : 1 ≤ j) (hn : j ≤ n) where
   module _ (s : probe.Coins) (h : probe.InRange (threshold n) s) (sheet : List ℕ) (l : length sheet ≡ 127) where

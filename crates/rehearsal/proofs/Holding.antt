@@ -22,7 +22,7 @@ use Rattle.auction.proofs.Closed.{entries, added-polynomials, totals-after, at-
 use Rattle.auction.proofs.Judging.{kept-new, returned-next}
 use Rattle.auction.proofs.Totals.{GoodBid, Held, entries-held, added-held, no-totals-held}
 use Rattle.auction.proofs.Bidding.{open-accepted, holding, holding-seat, at-party-zeros, added-holding}
-use Rattle.rehearsal.specs.Draws.{first-state, next-coin, later, drawn-coins, groups, bid-coins, after-bids, all-sheets, auction-coins}
+use Rattle.draws.specs.Draws.{first-state, next-coin, later, drawn-coins, groups, bid-coins, after-bids, all-sheets, auction-coins}
 use Rattle.plan.specs.Lines.{numbers, bytes-of, after}
 use Rattle.plan.specs.Judged.{tables}
 use Rattle.rehearsal.specs.Bidden.{auction-of, Holds, Adds}
@@ -31,7 +31,7 @@ use Rattle.rehearsal.specs.Standing.{Stands}
 use Rattle.rehearsal.specs.Follows.{Follows, Searches}
 use Rattle.rehearsal.specs.declared.course.Course.{Course}
 use Rattle.plan.proofs.Bids.{length-tables}
-use Rattle.rehearsal.proofs.Drawn.{Word, groups-length, groups-flat, groups-below, next-coin-below, coin-below, coins-in-range-of}
+use Rattle.draws.proofs.Drawn.{Word, groups-length, groups-flat, groups-below, next-coin-below, coin-below, coins-in-range-of}
 use Rattle.rehearsal.specs.Parties.{none, All, part, shares-of, party-added, totals-added}
 use Rattle.rehearsal.proofs.Parts.{part-length}
 

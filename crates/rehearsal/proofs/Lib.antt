@@ -4,7 +4,6 @@ pub mod Telling
 pub mod Accepted
 pub mod Cut
 pub mod Seeds
-pub mod Drawn
 pub mod Parts
 pub mod Holding
 pub mod Dealing

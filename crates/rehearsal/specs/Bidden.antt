@@ -8,7 +8,7 @@ use Rattle.party.specs.declared.record.Party.{Party}
 use Rattle.auction.specs.Auction.{Auction, IsAuction}
 use Rattle.auction.proofs.Closed.{totals-after, at-party, no-totals}
 use Rattle.auction.proofs.Bidding.{holding}
-use Rattle.rehearsal.specs.Draws.{bid-coins}
+use Rattle.draws.specs.Draws.{bid-coins}
 use Rattle.plan.specs.Judged.{tables}
 use Rattle.rehearsal.specs.Parties.{none, All, part}
 

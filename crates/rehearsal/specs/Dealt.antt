@@ -4,7 +4,7 @@ use Prim.Native.Nat.{ℕ, _+_}
 use lib.ListN.{take, drop}
 use Rattle.comparison.specs.Probe as probe
 use Rattle.auction.specs.Coins.{flat}
-use Rattle.rehearsal.specs.Draws.{sheet-coins}
+use Rattle.draws.specs.Draws.{sheet-coins}
 
 -- a party's sheets, with the one at a place made of the draws from a state on
 unfoldable pub sheet-put : (t state own at : ℕ) → List ℕ → List ℕ

@@ -2,7 +2,6 @@
 pub mod Text
 pub mod Listing
 -- What the contracts of its steps cite.
-pub mod Draws
 pub mod Parties
 pub mod Dealt
 pub mod Standing

@@ -1,7 +1,6 @@
 // The rehearsal: a whole auction from a file of numbers, and the listing of its probes.
 mod adding;
 mod course;
-mod draws;
 mod parties;
 mod probes;
 mod rehearsing;

@@ -8,16 +8,16 @@ ghost use Rattle.auction.specs.Auction.{IsAuction};
 ghost use Rattle.auction.proofs.Closed.{polynomials};
 ghost use Rattle.plan.specs.declared.judging.Judged.the-variants.{Good};
 ghost use Rattle.plan.specs.Judged.{judged-as};
-ghost use Rattle.rehearsal.specs.Draws.{first-state, after-bids, auction-coins};
+ghost use Rattle.draws.specs.Draws.{first-state, after-bids, auction-coins};
 ghost use Rattle.rehearsal.specs.Bidden.{auction-of, Holds};
 ghost use Rattle.rehearsal.specs.Follows.{Follows, Right};
 use crate::adding::Added;
 use crate::adding::add_bids;
 use crate::course::Course;
-use crate::draws::first_state;
 use crate::parties::open_all;
 use crate::searching::search;
 use crate::sheets::deal_all;
+use draws::first_state;
 use plan::Shape;
 use search::limit;
 

@@ -5,13 +5,13 @@ ghost use Prim.Native.Nat.{_+_, _-_, _*_, _%_, _^_, _≤_};
 ghost use lib.ListN.{length};
 ghost use Rattle.sharing.specs.Scheme.{threshold};
 ghost use Rattle.search.specs.Limit.{limit};
-ghost use Rattle.rehearsal.specs.Draws.{next, next-coin, later, drawn-coins, drawn-bytes, after-sheet, all-sheets};
+ghost use Rattle.draws.specs.Draws.{next, next-coin, later, drawn-coins, drawn-bytes, after-sheet, all-sheets};
 ghost use Rattle.rehearsal.specs.Parties.{All, part, sheet-dealt};
 ghost use Rattle.rehearsal.specs.Dealt.{sheet-put, sheets-of};
-use crate::draws::draw_bytes;
-use crate::draws::draw_coins;
-use crate::draws::next;
 use dealer::deal;
+use draws::draw_bytes;
+use draws::draw_coins;
+use draws::next;
 use search::limit;
 use sharing::threshold;
 

@@ -8,10 +8,10 @@ use lib.ListN.{length, drop}
 use Rattle.sharing.specs.Scheme.{threshold}
 use Rattle.auction.specs.Auction.{IsAuction}
 use Rattle.auction.proofs.Closed.{totals-after, no-totals}
-use Rattle.rehearsal.specs.Draws.{bid-coins, after-bids}
+use Rattle.draws.specs.Draws.{bid-coins, after-bids}
 use Rattle.plan.specs.Judged.{tables}
 use Rattle.rehearsal.specs.Bidden.{auction-of, Holds}
-use Rattle.rehearsal.proofs.Drawn.{Word, coins-word}
+use Rattle.draws.proofs.Drawn.{Word, coins-word}
 use Rattle.rehearsal.proofs.Holding.{Bidding, bidding-start, bidding-more, bidding-end, bids-left, bids-done}
 use borrow.Author.Needs.{needs}
 use Rattle.rehearsal.proofs.adding.add_bids.Statement.{statement}

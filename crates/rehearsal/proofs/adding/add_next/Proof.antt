@@ -7,7 +7,7 @@ use native.Mathlib.Omega.{arith}
 use lib.ListN.{length, take, drop}
 use lib.Seq.{length-take-le}
 use Rattle.sharing.specs.Scheme.{threshold}
-use Rattle.rehearsal.specs.Draws.{next-coin, later, drawn-coins}
+use Rattle.draws.specs.Draws.{next-coin, later, drawn-coins}
 use Rattle.plan.specs.Lines.{numbers, bytes-of}
 use Rattle.rehearsal.specs.Parties.{party-added, totals-added}
 use Rattle.rehearsal.proofs.Parts.{prefix-fits, prefix-is, prefix-count}

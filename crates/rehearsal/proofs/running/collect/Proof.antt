@@ -2,7 +2,7 @@
 use mathlib.Core.Path.{_≡_, ap, _∙_}
 use lib.ListN.{drop}
 use Rattle.sharing.specs.Scheme.{threshold}
-use Rattle.rehearsal.specs.Draws.{first-state, after-bids}
+use Rattle.draws.specs.Draws.{first-state, after-bids}
 use Rattle.rehearsal.proofs.Holding.{opened-holds, collected-holds}
 use borrow.Author.Needs.{needs}
 use Rattle.rehearsal.proofs.running.collect.Statement.{statement}

@@ -7,10 +7,10 @@ use native.Mathlib.Omega.{arith}
 use lib.ListN.{length, take}
 use Rattle.sharing.specs.Scheme.{threshold}
 use Rattle.search.specs.Limit.{limit}
-use Rattle.rehearsal.specs.Draws.{all-sheets}
+use Rattle.draws.specs.Draws.{all-sheets}
 use Rattle.rehearsal.specs.Parties.{All, part}
 use Rattle.rehearsal.specs.Dealt.{sheet-put, sheets-of}
-use Rattle.rehearsal.proofs.Drawn.{Word, after-sheet-word}
+use Rattle.draws.proofs.Drawn.{Word, after-sheet-word}
 use Rattle.rehearsal.proofs.Parts.{part-length, limit-nine}
 use Rattle.rehearsal.proofs.Dealing.{one-sheet, no-sheet}
 use borrow.Author.Needs.{needs}

@@ -6,7 +6,7 @@ use native.Mathlib.Omega.{arith}
 use lib.ListN.{length, take}
 use lib.Seq.{length-take-le}
 use Rattle.sharing.specs.Scheme.{threshold}
-use Rattle.rehearsal.specs.Draws.{next, next-coin, later, drawn-coins, drawn-bytes, after-sheet}
+use Rattle.draws.specs.Draws.{next, next-coin, later, drawn-coins, drawn-bytes, after-sheet}
 use Rattle.rehearsal.specs.Parties.{part}
 use Rattle.rehearsal.proofs.Parts.{part-length, prefix-fits, prefix-is, prefix-count}
 use Rattle.rehearsal.proofs.Dealing.{dealt-put}

@@ -6,7 +6,7 @@ use native.Mathlib.Omega.{arith}
 use lib.ListN.{length, take, drop, set, length-set, length-drop}
 use lib.Seq.{length-take-le, drop-length}
 use borrow.Rule.Slice.PartMut.{putMid}
-use Rattle.rehearsal.specs.Draws.{next, next-coin, later, drawn-coins, drawn-bytes}
+use Rattle.draws.specs.Draws.{next, next-coin, later, drawn-coins, drawn-bytes}
 use borrow.Author.Needs.{needs}
 use Rattle.rehearsal.proofs.sheets.draw_sheet.Statement.{statement}
 use Rattle.rehearsal.proofs.sheets.draw_sheet.Tie as tie

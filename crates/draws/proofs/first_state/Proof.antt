@@ -1,8 +1,8 @@
 -- `first_state` meets its contract. Assumes nothing.
 use borrow.Author.Tests.{eq-eqb, ne-eqb}
-use Rattle.rehearsal.specs.Draws.{first-state}
-use Rattle.rehearsal.proofs.draws.first_state.Statement.{statement}
-use Rattle.rehearsal.proofs.draws.first_state.Tie as tie
+use Rattle.draws.specs.Draws.{first-state}
+use Rattle.draws.proofs.first_state.Statement.{statement}
+use Rattle.draws.proofs.first_state.Tie as tie
 
 returns : tie.Need-returns
 unfolding first-state

@@ -21,7 +21,7 @@ use Rattle.comparison.specs.Probe as probe
 use Rattle.comparison.specs.Probe.{Group, Each, TripleInRange}
 use Rattle.auction.specs.Auction.{Auction}
 use Rattle.auction.specs.Coins.{InRange, flat, sheet-words, triple-bytes, sheet-bytes}
-use Rattle.rehearsal.specs.Draws.{xor-up, xor-down, next, first-state, next-coin, later, drawn, groups, bid-coins, after-bids, triple-coins, triples, sheet-coins, after-sheet, all-sheets, auction-coins}
+use Rattle.draws.specs.Draws.{xor-up, xor-down, next, first-state, next-coin, later, drawn, groups, bid-coins, after-bids, triple-coins, triples, sheet-coins, after-sheet, all-sheets, auction-coins}
 
 -- ---- lists of draws
 

@@ -1,9 +1,9 @@
 -- `next_coin` meets its contract. Assumes nothing.
 use mathlib.Core.Path.{_∙_}
-use Rattle.rehearsal.proofs.Drawn.{next-coin-skips, next-coin-takes}
+use Rattle.draws.proofs.Drawn.{next-coin-skips, next-coin-takes}
 use borrow.Author.Needs.{needs}
-use Rattle.rehearsal.proofs.draws.next_coin.Statement.{statement}
-use Rattle.rehearsal.proofs.draws.next_coin.Tie as tie
+use Rattle.draws.proofs.next_coin.Statement.{statement}
+use Rattle.draws.proofs.next_coin.Tie as tie
 
 next-requires : tie.Need-next-requires
 next-requires c κs = search needs

@@ -2,11 +2,11 @@
 use Prim.Native.Nat.{_-_}
 use native.Mathlib.Omega.{arith}
 use lib.ListN.{length}
-use Rattle.rehearsal.specs.Draws.{next}
-use Rattle.rehearsal.proofs.Drawn.{Filling, filling-start, filling-more, filling-end}
+use Rattle.draws.specs.Draws.{next}
+use Rattle.draws.proofs.Drawn.{Filling, filling-start, filling-more, filling-end}
 use borrow.Author.Needs.{needs}
-use Rattle.rehearsal.proofs.draws.draw_bytes.Statement.{statement}
-use Rattle.rehearsal.proofs.draws.draw_bytes.Tie as tie
+use Rattle.draws.proofs.draw_bytes.Statement.{statement}
+use Rattle.draws.proofs.draw_bytes.Tie as tie
 
 abbrev Inv-loop : tie.InvT-loop
 Inv-loop state bytes₀ last₀ i₀ bytes last i = Filling next 256 (length bytes₀) state bytes i last

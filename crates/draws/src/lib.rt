@@ -2,18 +2,18 @@
 ghost use mathlib.Core.Path.{_≡_};
 ghost use Prim.Native.Nat.{_+_, _^_, _<_};
 ghost use lib.ListN.{length};
-ghost use Rattle.rehearsal.specs.Draws.{next, first-state, next-coin, later, drawn-coins, drawn-bytes};
+ghost use Rattle.draws.specs.Draws.{next, first-state, next-coin, later, drawn-coins, drawn-bytes};
 
 const P: u64 = (1 << 61) - 1;
 
 // Zero would stay zero.
-pub(crate) fn first_state(seed: u64) -> u64
+pub fn first_state(seed: u64) -> u64
     ensures { λ r. ⌜ r ≡ first-state seed ⌝ }
 {
     if seed == 0 { 1 } else { seed }
 }
 
-pub(crate) fn next(state: u64) -> u64
+pub fn next(state: u64) -> u64
     ensures { λ r. ⌜ r ≡ next state ⌝ }
 {
     let a = state ^ (state << 13);
@@ -33,7 +33,7 @@ fn next_coin(state: u64) -> u64
 }
 
 // Fills a slice with coefficients. The answer is the state after them.
-pub(crate) fn draw_coins(state: u64, coins: &mut [u64]) -> u64
+pub fn draw_coins(state: u64, coins: &mut [u64]) -> u64
     ensures { λ r. ⌜ (now (coins .exit) ≡ drawn-coins (length (now (coins .entry))) state)
         × (r ≡ later next-coin (length (now (coins .entry))) state) ⌝ }
 {
@@ -48,7 +48,7 @@ pub(crate) fn draw_coins(state: u64, coins: &mut [u64]) -> u64
 }
 
 // Fills a slice with bytes.
-pub(crate) fn draw_bytes(state: u64, bytes: &mut [u8]) -> u64
+pub fn draw_bytes(state: u64, bytes: &mut [u8]) -> u64
     ensures { λ r. ⌜ (now (bytes .exit) ≡ drawn-bytes (length (now (bytes .entry))) state)
         × (r ≡ later next (length (now (bytes .entry))) state) ⌝ }
 {

@@ -1,8 +1,8 @@
 -- `next` meets its contract. Assumes nothing.
 use mathlib.Core.Path.{refl}
-use Rattle.rehearsal.specs.Draws.{next}
-use Rattle.rehearsal.proofs.draws.next.Statement.{statement}
-use Rattle.rehearsal.proofs.draws.next.Tie as tie
+use Rattle.draws.specs.Draws.{next}
+use Rattle.draws.proofs.next.Statement.{statement}
+use Rattle.draws.proofs.next.Tie as tie
 
 returns : tie.Need-returns
 unfolding next

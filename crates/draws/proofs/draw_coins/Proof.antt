@@ -2,11 +2,11 @@
 use Prim.Native.Nat.{_-_, _^_}
 use native.Mathlib.Omega.{arith}
 use lib.ListN.{length}
-use Rattle.rehearsal.specs.Draws.{next-coin}
-use Rattle.rehearsal.proofs.Drawn.{Filling, filling-start, filling-more, filling-end}
+use Rattle.draws.specs.Draws.{next-coin}
+use Rattle.draws.proofs.Drawn.{Filling, filling-start, filling-more, filling-end}
 use borrow.Author.Needs.{needs}
-use Rattle.rehearsal.proofs.draws.draw_coins.Statement.{statement}
-use Rattle.rehearsal.proofs.draws.draw_coins.Tie as tie
+use Rattle.draws.proofs.draw_coins.Statement.{statement}
+use Rattle.draws.proofs.draw_coins.Tie as tie
 
 abbrev Inv-loop : tie.InvT-loop
 Inv-loop state coins₀ last₀ i₀ coins last i = Filling next-coin (2 ^ 61) (length coins₀) state coins i last

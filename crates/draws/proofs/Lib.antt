@@ -1,0 +1,2 @@
+-- Laws of the draws.
+pub mod Drawn

@@ -1,0 +1,2 @@
+-- The draws: what the contracts cite.
+pub mod Draws
