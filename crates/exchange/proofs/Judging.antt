@@ -6,7 +6,7 @@ use Prim.Native.Nat.{ℕ, _*_}
 use lib.ListN.{length}
 use borrow.Author.Tests.{eq-eqb, ne-eqb}
 use Rattle.refusal.specs.Refusal.{codeOf}
-use Rattle.refusal.specs.Judging.{judged, kept}
+use Rattle.refusal.specs.Judging.{judged, then, kept}
 use Rattle.refusal.specs.declared.Refusal.{Refusal}
 use Rattle.refusal.specs.declared.Refusal.the-variants as refusal
 use Rattle.refusal.specs.declared.Judgement.{Judgement}
@@ -19,7 +19,7 @@ use Rattle.party.specs.declared.record.Answer.the-variants as answer
 use Rattle.party.specs.Record.{next-or}
 use Rattle.party.specs.Open.{open-judgement}
 use Rattle.party.specs.Answer.{answered}
-use Rattle.exchange.specs.Record.{words-of, record-judgement, then, reply-code, reply-record}
+use Rattle.exchange.specs.Record.{words-of, record-judgement, reply-code, reply-record}
 
 -- ---- a record's slice is ten words long, or it is refused
 
@@ -34,28 +34,25 @@ module _ (words : List ℕ) where
 
   -- a call on a record is judged by what the record says
   pub on-record : (j : Judgement) → length words ≡ 10 → then (record-judgement words) j ≡ j
-  unfolding then
   on-record j e = rw (ten e)
 
   pub no-record : (j : Judgement) → (length words ≡ 10 → ⊥) → then (record-judgement words) j ≡ Refused refusal.WrongLength
-  unfolding then
   no-record j e = rw (not-ten e)
 
 -- ---- opening: the ranges, then the lengths
 
 then-accepted : (j next : Judgement) → next ≡ Accepted → then j next ≡ j
-unfolding then
 then-accepted Accepted next e = e
 then-accepted (Refused why) next e = refl
 
 module _ (n own k : ℕ) (totals words : List ℕ) where
   pub off-list : not (party n own && listed k) ≡ true → then (open-judgement n own k totals) (record-judgement words) ≡ Refused refusal.OutOfRange
-  unfolding then open-judgement judged
+  unfolding open-judgement judged
   off-list e = rw e
 
   pub opens-nothing : not (party n own && listed k) ≡ false → (length words ≡ 10 → ⊥)
       → then (open-judgement n own k totals) (record-judgement words) ≡ Refused refusal.WrongLength
-  unfolding then open-judgement judged
+  unfolding open-judgement judged
   opens-nothing e h = split (not (long (2 * k) totals)) refl
     where
       split : (short : Bool) → not (long (2 * k) totals) ≡ short → then (open-judgement n own k totals) (record-judgement words) ≡ Refused refusal.WrongLength

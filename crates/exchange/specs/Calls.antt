@@ -5,7 +5,7 @@ use Prim.Native.Nat.{ℕ, _*_}
 use lib.ListN.{replicate}
 use Rattle.fields.specs.Amount.{amounts}
 use Rattle.refusal.specs.Refusal.{codeOf}
-use Rattle.refusal.specs.Judging.{kept}
+use Rattle.refusal.specs.Judging.{then, kept}
 use Rattle.refusal.specs.declared.Judgement.{Judgement}
 use Rattle.sharing.specs.Linear.{sums}
 use Rattle.bid.specs.Split.{split-judgement}
@@ -16,7 +16,7 @@ use Rattle.party.specs.Add.{add-judgement, counted}
 use Rattle.party.specs.Say.{current, say-judgement, message}
 use Rattle.party.specs.Hear.{heard, hear-judgement, after}
 use Rattle.party.specs.Answer.{answer-judgement}
-use Rattle.exchange.specs.Record.{words-of, party-of, record-judgement, then}
+use Rattle.exchange.specs.Record.{words-of, party-of, record-judgement}
 
 -- ---- opening: the ranges come first, then the lengths
 

@@ -6,7 +6,6 @@ use lib.ListN.{getD}
 use Rattle.refusal.specs.Refusal.{numberOf}
 use Rattle.refusal.specs.Judging.{_⇒_, judged}
 use Rattle.refusal.specs.declared.Judgement.{Judgement}
-use Rattle.refusal.specs.declared.Judgement.the-variants as judgement
 use Rattle.refusal.specs.declared.Refusal.the-variants.{WrongLength}
 use Rattle.sharing.specs.Sizes.{long}
 use Rattle.party.specs.declared.record.Party.{Party}
@@ -34,11 +33,6 @@ party-of words =
 -- a slice of any other length is no record
 unfoldable pub record-judgement : List ℕ → Judgement
 record-judgement words = judged ((not (long 10 words) ⇒ WrongLength) ∷ [])
-
--- a judgement, and another where the first accepts
-unfoldable pub then : Judgement → Judgement → Judgement
-then judgement.Accepted next = next
-then (judgement.Refused why) next = judgement.Refused why
 
 -- a reply as a host gets it: its number, and what is left in the record's slice
 abbrev pub reply-code : Reply → ℕ

@@ -1,8 +1,6 @@
 // The calls, exported for C. Each answers 0, or the refusal's number, and writes what it gives into
 // what it is lent; a refused call changes nothing that is lent. A record is lent as its ten words.
 ghost use mathlib.Core.Path.{_≡_};
-ghost use mathlib.Core.Bool.{_&&_};
-ghost use Rattle.sharing.specs.Sizes.{party, listed};
 ghost use Rattle.bid.specs.Split.{split-left};
 ghost use Rattle.dealer.specs.Deal.{deal-left};
 ghost use Rattle.exchange.specs.Calls.{open-code, open-totals, open-record, split-code, deal-code, add-code, add-totals, add-record, say-code, say-message, hear-code, hear-record, answer-code, answer-index, answer-probes};
@@ -14,6 +12,7 @@ use party::Said;
 use party::add;
 use party::answer;
 use party::hear;
+use party::on_list;
 use party::open;
 use party::say;
 use record::WORDS;
@@ -44,13 +43,6 @@ pub extern "C" fn clockivy_open(
         return number(Refusal::WrongLength);
     }
     store(open(n, own, k, totals), words)
-}
-
-// One of n parties, and k listed prices.
-fn on_list(n: u64, own: u64, k: u64) -> bool
-    ensures { λ r. ⌜ r ≡ (party n own && listed k) ⌝ }
-{
-    (3 <= n) & (n <= 9) & (1 <= own) & (own <= n) & ((1 <= k) & (k <= 1024))
 }
 
 // A party's shares of a bid.

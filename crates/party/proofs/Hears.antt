@@ -7,7 +7,7 @@ use native.Mathlib.Omega.{arith}
 use lib.Dec.{leb, eqb}
 use lib.ListN.{length, getD}
 use borrow.Author.Tests.{not-false, leb-true, ltb-false, eqb-true, le-leb, le-ltb, eq-eqb}
-use Rattle.refusal.specs.Judging.{Test, _⇒_, judged}
+use Rattle.refusal.specs.Judging.{Test, _⇒_, judged, then}
 use Rattle.refusal.specs.declared.Refusal.{Refusal}
 use Rattle.refusal.specs.declared.Refusal.the-variants as refusal
 use Rattle.refusal.specs.declared.Judgement.{Judgement}
@@ -28,11 +28,6 @@ use Rattle.party.proofs.Soundness.{sound-of}
 use Rattle.party.proofs.Laws.{Says, says, say-accepted}
 
 -- ---- hearing is judged as saying is, and then by the messages
-
--- a judgement, and another where the first accepts
-abbrev then : Judgement → Judgement → Judgement
-then Accepted next = next
-then (Refused why) next = Refused why
 
 -- by the tests alone: sound, the three lengths, over, in the field
 both-judged : (s t u m o f : Bool) (tests : List Test) → s && not m ≡ false

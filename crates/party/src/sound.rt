@@ -18,7 +18,7 @@ pub(crate) fn bracket(q: Party) -> Bracket
 }
 
 // One of n parties, and k listed prices.
-pub(crate) fn on_list(n: u64, own: u64, k: u64) -> bool
+pub fn on_list(n: u64, own: u64, k: u64) -> bool
     ensures { λ r. ⌜ r ≡ (party n own && listed k) ⌝ }
 {
     (3 <= n) & (n <= 9) & (1 <= own) & (own <= n) & ((1 <= k) & (k <= 1024))

@@ -15,6 +15,11 @@ unfoldable pub judged : List Test → Judgement
 judged [] = Accepted
 judged ((fault ⇒ why) ∷ tests) = cond fault (Refused why) (judged tests)
 
+-- a judgement, and another where the first accepts
+abbrev pub then : Judgement → Judgement → Judgement
+then Accepted next = next
+then (Refused why) next = Refused why
+
 -- "A refusal returns its number; lent buffers and the record are as before": the new contents where accepted, else the old
 unfoldable pub kept {ℓ} : {A : Type ℓ} → Judgement → A → A → A
 kept Accepted new old = new
