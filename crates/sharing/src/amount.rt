@@ -14,9 +14,6 @@ use fields::AmountShare;
 
 const P: u64 = (1 << 61) - 1;
 
-// Half of a word.
-const HALF: u64 = 1 << 32;
-
 // The weights of n parties stand in row n - 3.
 const WEIGHTS: [[u64; 9]; 7] = [
     [3, P - 3, 1, 0, 0, 0, 0, 0, 0],
@@ -32,9 +29,6 @@ const WEIGHTS: [[u64; 9]; 7] = [
 pub fn share_amount(secret: u64, coins: &[u64], point: u64) -> AmountShare
     ensures { λ r. ⌜ r .0 ≡ value amounts (secret ∷ now (coins .entry)) point ⌝ }
 {
-    if (coins.len() <= 4) & (point <= 9) {
-        return small_share(secret, coins, point);
-    }
     let at = AmountShare(point);
     let mut sum = AmountShare(0);
     let mut i = coins.len();
@@ -44,24 +38,6 @@ pub fn share_amount(secret: u64, coins: &[u64], point: u64) -> AmountShare
         sum = at.mul_add(sum, AmountShare(coin));
     }
     at.mul_add(sum, AmountShare(secret))
-}
-
-// Few coins and a small point, as all parties have: the lower and the upper halves of the coins, taken
-// apart, stay below 2^52 on the way, and the value is reduced once.
-fn small_share(secret: u64, coins: &[u64], point: u64) -> AmountShare
-    requires { ⌜ (length (now coins) ≤ 4) × (point ≤ 9) ⌝ }
-    ensures { λ r. ⌜ r .0 ≡ value amounts (secret ∷ now (coins .entry)) point ⌝ }
-{
-    let mut low: u64 = 0;
-    let mut high: u64 = 0;
-    let mut i = coins.len();
-    while 0 < i {
-        i -= 1;
-        let coin = coins[i];
-        low = (low + coin % HALF) * point;
-        high = (high + coin / HALF) * point;
-    }
-    AmountShare::joined(low + secret % HALF, high + secret / HALF)
 }
 
 // What n words open to: their weighted sum, where the sums of x, x^2, .. times them are 0.

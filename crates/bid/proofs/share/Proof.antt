@@ -1,4 +1,4 @@
--- `small_share` meets its contract: the halves so far are those of the point times the value of the coefficients that were passed.
+-- `share` meets its contract: the halves so far are those of the point times the value of the coefficients that were passed.
 -- Assumes nothing.
 use mathlib.Core.Path.{_≡_, refl, sym, ap, _∙_}
 use Prim.Native.Nat.{ℕ, zero, suc, _+_, _-_, _*_, _/_, _%_, _^_, _≤_, _<_}
@@ -8,10 +8,10 @@ use borrow.Author.Needs.{needs}
 use lib.ListN.{length, drop, getD}
 use Rattle.fields.specs.Amount.{p, amounts}
 use Rattle.fields.proofs.Halves.{plus, times}
 use Rattle.sharing.specs.Polynomial.{value}
 use Rattle.sharing.proofs.Horner.{none, one-more}
-use Rattle.sharing.proofs.amount.small_share.Statement.{statement}
-use Rattle.sharing.proofs.amount.small_share.Tie as tie
+use Rattle.bid.proofs.share.Statement.{statement}
+use Rattle.bid.proofs.share.Tie as tie
 
 -- what the halves are at most, where i coins are left
 abbrev most : ℕ → ℕ
@@ -41,18 +41,18 @@ next (suc (suc (suc (suc zero)))) h k x l m b f s = omega (arith, nine-times (h 
 next (suc (suc (suc (suc (suc i))))) h k x l m b f s = absurd (omega arith)
 
 abbrev Inv-loop : tie.InvT-loop
-Inv-loop secret coins point low₀ high₀ i₀ low high i =
+Inv-loop amount coins own low₀ high₀ i₀ low high i =
     (i ≤ length coins) × (low ≤ most i) × (high ≤ most i)
-    × ((low + 2 ^ 32 * high) % p ≡ amounts .mul point (value amounts (drop i coins) point))
+    × ((low + 2 ^ 32 * high) % p ≡ amounts .mul own (value amounts (drop i coins) own))
 
 abbrev μ-loop : tie.MeasureT-loop
-μ-loop secret coins point low₀ high₀ i₀ low high i = i
+μ-loop amount coins own low₀ high₀ i₀ low high i = i
 
 loop-holds : tie.Need-loop-holds Inv-loop μ-loop
 loop-holds c =
     let a = c .before .args in
-    let start : 0 ≡ amounts .mul (a .point) 0 = omega arith in
-    (omega arith, omega arith, omega arith, start ∙ sym (ap (amounts .mul (a .point)) (none amounts (a .coins .now) (a .point))))
+    let start : 0 ≡ amounts .mul (a .own) 0 = omega arith in
+    (omega arith, omega arith, omega arith, start ∙ sym (ap (amounts .mul (a .own)) (none amounts (a .coins .now) (a .own))))
 
 sub-i : tie.Need-sub-i Inv-loop μ-loop
 sub-i c = search needs
@@ -77,14 +77,14 @@ module _ (c : tie.After-shared-slice-known2 Inv-loop μ-loop) where
   fits : coin < 2 ^ 64
   fits = omega (arith, c .shared-slice-known2 .given (i - 1))
 
-  more : (h k : ℕ) → h ≤ most i → k < 2 ^ 32 → (h + k) * given .args .point ≤ most (i - 1)
+  more : (h k : ℕ) → h ≤ most i → k < 2 ^ 32 → (h + k) * given .args .own ≤ most (i - 1)
   more h k l m =
-      next i h k (given .args .point) (c .before .loop-test .taken) (omega (arith, c .before .before .loop .inv .0, given .pre .0)) l m (given .pre .1)
+      next i h k (given .args .own) (c .before .loop-test .taken) (omega (arith, c .before .before .loop .inv .0, given .pre .0)) l m (given .pre .1)
 
-  low-more : (c .before .before .loop .low + coin % 2 ^ 32) * given .args .point ≤ most (i - 1)
+  low-more : (c .before .before .loop .low + coin % 2 ^ 32) * given .args .own ≤ most (i - 1)
   low-more = more (c .before .before .loop .low) (coin % 2 ^ 32) (c .before .before .loop .inv .1) (omega arith)
 
-  high-more : (c .before .before .loop .high + coin / 2 ^ 32) * given .args .point ≤ most (i - 1)
+  high-more : (c .before .before .loop .high + coin / 2 ^ 32) * given .args .own ≤ most (i - 1)
   high-more = more (c .before .before .loop .high) (coin / 2 ^ 32) (c .before .before .loop .inv .2) (omega (arith, fits))
 
 add-low : tie.Need-add-low Inv-loop μ-loop
@@ -107,11 +107,11 @@ loop-again c =
     let l = c .before .before .loop in
     let a = given c .args in
     let with-coin = plus (l .low) (l .high) _ (l .inv .3) (coin c)
-    ∙ one-more amounts (a .coins .now) (a .point) (l .i) _ (c .before .loop-test .taken) (l .inv .0) refl in (
+    ∙ one-more amounts (a .coins .now) (a .own) (l .i) _ (c .before .loop-test .taken) (l .inv .0) refl in (
       omega arith,
       low-more c,
       high-more c,
-      times (l .low + coin c % 2 ^ 32) (l .high + coin c / 2 ^ 32) _ with-coin (a .point),
+      times (l .low + coin c % 2 ^ 32) (l .high + coin c / 2 ^ 32) _ with-coin (a .own),
     )
 
 add-joined : tie.Need-add-joined Inv-loop μ-loop
@@ -130,10 +130,10 @@ returns c =
     let a = c .before .before .before .before .args in
     let done : l .i ≡ 0 = omega arith in
     c .joined .ensures
-    ∙ plus (l .low) (l .high) _ (l .inv .3 ∙ ap (λ (k : ℕ). amounts .mul (a .point) (value amounts (drop k (a .coins .now)) (a .point))) done) (a .secret)
+    ∙ plus (l .low) (l .high) _ (l .inv .3 ∙ ap (λ (k : ℕ). amounts .mul (a .own) (value amounts (drop k (a .coins .now)) (a .own))) done) (a .amount)
 
-pub small-share-spec : {M : Type 1} → statement M
-small-share-spec =
+pub share-spec : {M : Type 1} → statement M
+share-spec =
     tie.close
     (tie.spec
     Inv-loop
