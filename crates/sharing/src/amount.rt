@@ -14,6 +14,9 @@ use fields::AmountShare;
 
 const P: u64 = (1 << 61) - 1;
 
+// Half of a word.
+const HALF: u64 = 1 << 32;
+
 // The weights of n parties stand in row n - 3.
 const WEIGHTS: [[u64; 9]; 7] = [
     [3, P - 3, 1, 0, 0, 0, 0, 0, 0],
@@ -47,13 +50,13 @@ pub fn open_amount(n: u64, words: &[u64]) -> Opening
     if !readable(n, words, P) {
         return Opening::Inconsistent;
     }
-    let mut terms = weighted(n as usize, words);
-    let secret = total(n as usize, terms);
+    let count = n as usize;
+    let mut terms = weighted(count, words);
+    let secret = total(&terms[..count]);
     let mut left = n - 1 - threshold(n);
     while 0 < left {
-        let next = raised(n as usize, terms);
-        terms = next;
-        if total(n as usize, terms) != 0 {
+        raise(&mut terms[..count]);
+        if total(&terms[..count]) != 0 {
             return Opening::Inconsistent;
         }
         left -= 1;
@@ -78,34 +81,34 @@ fn weighted(n: usize, words: &[u64]) -> [u64; 9]
     terms
 }
 
-// The first n terms, each times its point.
-fn raised(n: usize, terms: [u64; 9]) -> [u64; 9]
-    requires { ⌜ n ≤ 9 ⌝ }
-    ensures { λ r. ⌜ take n r ≡ products amounts (points n) (take n terms) ⌝ }
+// Multiplies each term by its point.
+fn raise(terms: &mut [u64])
+    requires { ⌜ length (now terms) ≤ 9 ⌝ }
+    ensures { λ _. ⌜ now (terms .exit) ≡ products amounts (points (length (now (terms .entry)))) (now (terms .entry)) ⌝ }
 {
-    let mut next = terms;
     let mut point: u64 = 1;
     let mut i = 0;
-    while i < n {
-        let term = next[i];
-        next[i] = AmountShare(point).mul(AmountShare(term)).0;
+    while i < terms.len() {
+        let term = terms[i];
+        terms[i] = AmountShare(point).mul(AmountShare(term)).0;
         point += 1;
         i += 1;
     }
-    next
 }
 
-// The sum of the first n terms.
-fn total(n: usize, terms: [u64; 9]) -> u64
-    requires { ⌜ n ≤ 9 ⌝ }
-    ensures { λ r. ⌜ r ≡ total amounts (take n terms) ⌝ }
+// The sum of the terms, made of their lower and upper halves and reduced once.
+fn total(terms: &[u64]) -> u64
+    requires { ⌜ length (now terms) ≤ 9 ⌝ }
+    ensures { λ r. ⌜ r ≡ total amounts (now (terms .entry)) ⌝ }
 {
-    let mut sum = AmountShare(0);
-    let mut i = n;
+    let mut low: u64 = 0;
+    let mut high: u64 = 0;
+    let mut i = terms.len();
     while 0 < i {
         i -= 1;
         let term = terms[i];
-        sum = AmountShare(term).add(sum);
+        low += term % HALF;
+        high += term / HALF;
     }
-    sum.0
+    AmountShare::joined(low, high).0
 }

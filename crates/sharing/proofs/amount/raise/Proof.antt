@@ -1,0 +1,101 @@
+-- `raise` of amount shares meets its contract: the terms before i are raised, the others are as they were. Assumes nothing.
+use mathlib.Core.Path.{_≡_, refl, sym, ap, ap₂, _∙_}
+use mathlib.Core.List.{List}
+use Prim.Native.Nat.{ℕ, _+_, _-_, _≤_, _<_}
+use native.Mathlib.Omega.{arith}
+use lib.ListN.{length, take, drop, getD, length-set}
+use lib.Seq.{take-all}
+use Rattle.fields.specs.Amount.{amounts}
+use Rattle.sharing.specs.Scheme.{points}
+use Rattle.sharing.specs.Opening.{products}
+use Rattle.sharing.proofs.Terms.{fill, fill-past, same-at, length-from, getD-from, length-products, getD-products}
+use borrow.Author.Needs.{needs}
+use Rattle.sharing.proofs.amount.raise.Statement.{statement}
+use Rattle.sharing.proofs.amount.raise.Tie as tie
+
+abbrev raised : List ℕ → List ℕ
+raised terms = products amounts (points (length terms)) terms
+
+long : (terms : List ℕ) → length (raised terms) ≡ length terms
+long terms = length-products amounts (points (length terms)) terms (length-from 1 (length terms))
+
+raised-at : (terms : List ℕ) (i : ℕ) → i < length terms → getD (raised terms) i 0 ≡ amounts .mul (1 + i) (getD terms i 0)
+raised-at terms i h =
+    getD-products amounts (points (length terms)) terms i (rw (length-from 1 (length terms)) h) h
+    ∙ ap (λ (x : ℕ). amounts .mul x (getD terms i 0)) (getD-from 1 (length terms) i h)
+
+abbrev Inv-loop : tie.InvT-loop
+Inv-loop terms₀ point₀ i₀ terms point i =
+    (i ≤ length terms₀) × (point ≡ 1 + i) × (length terms ≡ length terms₀) × (drop i terms ≡ drop i terms₀) × (take i terms ≡ take i (raised terms₀))
+
+abbrev μ-loop : tie.MeasureT-loop
+μ-loop terms₀ point₀ i₀ terms point i = length terms₀ - i
+
+loop-holds : tie.Need-loop-holds Inv-loop μ-loop
+loop-holds c = (omega arith, refl, refl, refl, refl)
+
+mul-term : tie.Need-mul-term Inv-loop μ-loop
+mul-term c = search needs
+
+slice-read-term : tie.Need-slice-read-term Inv-loop μ-loop
+slice-read-term c = search needs
+
+mul-requires : tie.Need-mul-requires Inv-loop μ-loop
+mul-requires c κs = search needs
+
+mul-terms : tie.Need-mul-terms Inv-loop μ-loop
+mul-terms c = search needs
+
+slice-write-terms : tie.Need-slice-write-terms Inv-loop μ-loop
+slice-write-terms c = search needs
+
+add-point : tie.Need-add-point Inv-loop μ-loop
+add-point c = search needs
+
+add-i : tie.Need-add-i Inv-loop μ-loop
+add-i c = search needs
+
+loop-less : tie.Need-loop-less Inv-loop μ-loop
+loop-less c = search needs
+
+loop-again : tie.Need-loop-again Inv-loop μ-loop
+loop-again c =
+    let l = c .before .before .before .loop in
+    let terms = c .before .before .before .before .before .args .terms .now in
+    let h : l .i < length terms = omega (arith, c .before .before .loop-test .taken) in
+    let value : c .mul .result .0 ≡ amounts .mul (1 + l .i) (getD terms (l .i) 0) =
+    c .mul .ensures ∙ ap₂ (amounts .mul) (l .inv .1) (same-at (l .terms) terms (l .i) (l .inv .3)) in (
+      omega arith,
+      omega arith,
+      simp length-set (l .inv .2),
+      fill-past (l .terms) terms (l .i) (c .mul .result .0) (l .inv .3),
+      fill (l .terms) (raised terms) (l .i) (c .mul .result .0) (omega arith) (rw (long terms) h) (value ∙ sym (raised-at terms (l .i) h)) (l .inv .4),
+    )
+
+same-length : tie.Need-same-length Inv-loop μ-loop
+same-length c = c .before .loop .inv .2
+
+returns : tie.Need-returns Inv-loop μ-loop
+returns c =
+    let l = c .before .loop in
+    let terms = c .before .before .before .args .terms .now in
+    sym (take-all (l .i) (l .terms) (omega arith)) ∙ l .inv .4 ∙ take-all (l .i) (raised terms) (omega (arith, long terms))
+
+pub raise-spec : {M : Type 1} → statement M
+raise-spec =
+    tie.close
+    (tie.spec
+    Inv-loop
+    μ-loop
+    loop-holds
+    mul-term
+    slice-read-term
+    mul-requires
+    mul-terms
+    slice-write-terms
+    add-point
+    add-i
+    loop-less
+    loop-again
+    same-length
+    returns)
