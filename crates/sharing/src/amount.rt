@@ -1,11 +1,11 @@
 // Sharing amounts.
 ghost use mathlib.Core.Path.{_≡_};
-ghost use mathlib.Core.List.{_∷_};
-ghost use Prim.Native.Nat.{_≤_};
-ghost use lib.ListN.{length, take};
+ghost use mathlib.Core.List.{[], _∷_};
+ghost use Prim.Native.Nat.{_-_, _≤_};
+ghost use lib.ListN.{length, take, getD};
 ghost use Rattle.fields.specs.Amount.{amounts};
 ghost use Rattle.sharing.specs.Polynomial.{value};
-ghost use Rattle.sharing.specs.Scheme.{points, weights, amount-scheme};
+ghost use Rattle.sharing.specs.Scheme.{points, weights, amount-rows, amount-scheme};
 ghost use Rattle.sharing.specs.Opening.{products, total, opened};
 use crate::opening::Opening;
 use crate::opening::readable;
@@ -64,12 +64,29 @@ pub fn open_amount(n: u64, words: &[u64]) -> Opening
     Opening::Secret(secret)
 }
 
+// Each arm reads the table at a place that the compiler knows, so no more than one row is written to
+// the stack.
+fn row_of(n: usize) -> [u64; 9]
+    requires { ⌜ (3 ≤ n) × (n ≤ 9) ⌝ }
+    ensures { λ r. ⌜ r ≡ getD amount-rows (n - 3) [] ⌝ }
+{
+    match n {
+        3 => WEIGHTS[0],
+        4 => WEIGHTS[1],
+        5 => WEIGHTS[2],
+        6 => WEIGHTS[3],
+        7 => WEIGHTS[4],
+        8 => WEIGHTS[5],
+        _ => WEIGHTS[6],
+    }
+}
+
 // The first n terms are the words with their weights.
 fn weighted(n: usize, words: &[u64]) -> [u64; 9]
     requires { ⌜ (3 ≤ n) × (n ≤ 9) × (length (now words) ≡ n) ⌝ }
     ensures { λ r. ⌜ take n r ≡ products amounts (weights amount-scheme n) (now (words .entry)) ⌝ }
 {
-    let row = WEIGHTS[n - 3];
+    let row = row_of(n);
     let mut terms = [0u64; 9];
     let mut i = 0;
     while i < n {

@@ -1,6 +1,5 @@
 -- `raise` of amount shares meets its contract: the terms before i are raised, the others are as they were. Assumes nothing.
 use mathlib.Core.Path.{_≡_, refl, sym, ap, ap₂, _∙_}
-use mathlib.Core.List.{List}
 use Prim.Native.Nat.{ℕ, _+_, _-_, _≤_, _<_}
 use native.Mathlib.Omega.{arith}
 use lib.ListN.{length, take, drop, getD, length-set}
@@ -8,25 +7,15 @@ use lib.Seq.{take-all}
 use Rattle.fields.specs.Amount.{amounts}
 use Rattle.sharing.specs.Scheme.{points}
 use Rattle.sharing.specs.Opening.{products}
-use Rattle.sharing.proofs.Terms.{fill, fill-past, same-at, length-from, getD-from, length-products, getD-products}
+use Rattle.sharing.proofs.Terms.{fill, fill-past, same-at, length-raised, getD-raised}
 use borrow.Author.Needs.{needs}
 use Rattle.sharing.proofs.amount.raise.Statement.{statement}
 use Rattle.sharing.proofs.amount.raise.Tie as tie
 
-abbrev raised : List ℕ → List ℕ
-raised terms = products amounts (points (length terms)) terms
-
-long : (terms : List ℕ) → length (raised terms) ≡ length terms
-long terms = length-products amounts (points (length terms)) terms (length-from 1 (length terms))
-
-raised-at : (terms : List ℕ) (i : ℕ) → i < length terms → getD (raised terms) i 0 ≡ amounts .mul (1 + i) (getD terms i 0)
-raised-at terms i h =
-    getD-products amounts (points (length terms)) terms i (rw (length-from 1 (length terms)) h) h
-    ∙ ap (λ (x : ℕ). amounts .mul x (getD terms i 0)) (getD-from 1 (length terms) i h)
-
 abbrev Inv-loop : tie.InvT-loop
 Inv-loop terms₀ point₀ i₀ terms point i =
-    (i ≤ length terms₀) × (point ≡ 1 + i) × (length terms ≡ length terms₀) × (drop i terms ≡ drop i terms₀) × (take i terms ≡ take i (raised terms₀))
+    (i ≤ length terms₀) × (point ≡ 1 + i) × (length terms ≡ length terms₀) × (drop i terms ≡ drop i terms₀)
+    × (take i terms ≡ take i (products amounts (points (length terms₀)) terms₀))
 
 abbrev μ-loop : tie.MeasureT-loop
 μ-loop terms₀ point₀ i₀ terms point i = length terms₀ - i
@@ -69,7 +58,7 @@ loop-again c =
       omega arith,
       simp length-set (l .inv .2),
       fill-past (l .terms) terms (l .i) (c .mul .result .0) (l .inv .3),
-      fill (l .terms) (raised terms) (l .i) (c .mul .result .0) (omega arith) (rw (long terms) h) (value ∙ sym (raised-at terms (l .i) h)) (l .inv .4),
+      fill (l .terms) _ (l .i) (c .mul .result .0) (omega arith) (rw (length-raised amounts terms) h) (value ∙ sym (getD-raised amounts terms (l .i) h)) (l .inv .4),
     )
 
 same-length : tie.Need-same-length Inv-loop μ-loop
@@ -79,7 +68,7 @@ returns : tie.Need-returns Inv-loop μ-loop
 returns c =
     let l = c .before .loop in
     let terms = c .before .before .before .args .terms .now in
-    sym (take-all (l .i) (l .terms) (omega arith)) ∙ l .inv .4 ∙ take-all (l .i) (raised terms) (omega (arith, long terms))
+    sym (take-all (l .i) (l .terms) (omega arith)) ∙ l .inv .4 ∙ take-all (l .i) _ (omega (arith, length-raised amounts terms))
 
 pub raise-spec : {M : Type 1} → statement M
 raise-spec =
