@@ -55,8 +55,7 @@ pub fn open_amount(n: u64, words: &[u64]) -> Opening
     let secret = total(&terms[..count]);
     let mut left = n - 1 - threshold(n);
     while 0 < left {
-        raise(&mut terms[..count]);
-        if total(&terms[..count]) != 0 {
+        if raise(&mut terms[..count]) != 0 {
             return Opening::Inconsistent;
         }
         left -= 1;
@@ -98,19 +97,26 @@ fn weighted(n: usize, words: &[u64]) -> [u64; 9]
     terms
 }
 
-// Multiplies each term by its point.
-fn raise(terms: &mut [u64])
+// Multiplies each term by its point, and gives the sum of what this makes.
+fn raise(terms: &mut [u64]) -> u64
     requires { ⌜ length (now terms) ≤ 9 ⌝ }
-    ensures { λ _. ⌜ now (terms .exit) ≡ products amounts (points (length (now (terms .entry)))) (now (terms .entry)) ⌝ }
+    ensures { λ r. ⌜ (now (terms .exit) ≡ products amounts (points (length (now (terms .entry)))) (now (terms .entry)))
+        × (r ≡ total amounts (now (terms .exit))) ⌝ }
 {
+    let mut low: u64 = 0;
+    let mut high: u64 = 0;
     let mut point: u64 = 1;
     let mut i = 0;
     while i < terms.len() {
         let term = terms[i];
-        terms[i] = AmountShare(point).mul(AmountShare(term)).0;
+        let next = AmountShare(point).mul(AmountShare(term)).0;
+        terms[i] = next;
+        low += next % HALF;
+        high += next / HALF;
         point += 1;
         i += 1;
     }
+    AmountShare::joined(low, high).0
 }
 
 // The sum of the terms, made of their lower and upper halves and reduced once.

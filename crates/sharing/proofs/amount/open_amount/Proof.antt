@@ -9,7 +9,7 @@ use lib.Seq.{take-at, length-take-le}
 use borrow.Author.Tests.{not-true, not-false}
 use Rattle.fields.specs.Amount.{p, amounts}
 use Rattle.sharing.specs.Scheme.{threshold, points, amount-scheme}
-use Rattle.sharing.specs.Opening.{products, readable, opened}
+use Rattle.sharing.specs.Opening.{products, total, readable, opened}
 use Rattle.sharing.specs.declared.opening.Opening.the-variants.{Secret, Inconsistent}
 use Rattle.sharing.proofs.Sums.{Readable, read, vanish, vanish-none, vanish-more, vanish-not, unreadable, begun}
 use borrow.Author.Needs.{needs}
@@ -117,30 +117,21 @@ module _ (c : tie.After-raise Inv-loop μ-loop) where
 
   raised : take (count turn) (left ++ drop (count turn) (terms turn)) ≡ products amounts (points (count turn)) (take (count turn) (terms turn))
   raised =
-      take-at left (drop (count turn) (terms turn)) (count turn) long ∙ c .raise .ensures
+      take-at left (drop (count turn) (terms turn)) (count turn) long ∙ c .raise .ensures .0
       ∙ ap (λ (k : ℕ). products amounts (points k) (take (count turn) (terms turn))) (whole turn)
 
   nine : length (left ++ drop (count turn) (terms turn)) ≡ 9
   nine =
       simp (length-append, length-drop) (omega (arith, long, fit turn, turn .before .loop .inv .0))
 
-  whole₂ : length (take (count turn) (left ++ drop (count turn) (terms turn))) ≡ count turn
-  whole₂ = length-take-le (count turn) (left ++ drop (count turn) (terms turn)) (omega (arith, nine, good (else turn) .most))
-
-array-share-prefix-terms-2 : tie.Need-array-share-prefix-terms-2 Inv-loop μ-loop
-array-share-prefix-terms-2 c = omega (arith, nine (c .before), good (else (turn (c .before))) .most)
-
-slice-aggregate-total-2 : tie.Need-slice-aggregate-total-2 Inv-loop μ-loop
-slice-aggregate-total-2 c = sym (whole₂ (c .before .before))
-
-total-requires-2 : tie.Need-total-requires-2 Inv-loop μ-loop
-total-requires-2 c κs = rw (whole₂ (c .before .before)) (good (else (turn (c .before .before))) .most)
+  sum : c .raise .result ≡ total amounts (take (count turn) (left ++ drop (count turn) (terms turn)))
+  sum = c .raise .ensures .1 ∙ ap (total amounts) (sym (take-at left (drop (count turn) (terms turn)) (count turn) long))
 
 returns-2 : tie.Need-returns-2 Inv-loop μ-loop
 returns-2 c =
-    let r = c .before .before .before .before in
+    let r = c .before .before in
     let l = turn r .before .loop in
-    sym (l .inv .1 ∙ ap (λ (b : Bool). cond b (Secret (turn r .before .before .before .total .result)) Inconsistent) (vanish-not amounts _ (l .left) _ _ (turn r .loop-test .taken) (raised r) (λ e. c .if2 .taken (c .before .total2 .ensures ∙ e))))
+    sym (l .inv .1 ∙ ap (λ (b : Bool). cond b (Secret (turn r .before .before .before .total .result)) Inconsistent) (vanish-not amounts _ (l .left) _ _ (turn r .loop-test .taken) (raised r) (λ e. c .if2 .taken (sum r ∙ e))))
 
 sub-left-3 : tie.Need-sub-left-3 Inv-loop μ-loop
 sub-left-3 c = search needs
@@ -150,10 +141,10 @@ loop-less c = search needs
 
 loop-again : tie.Need-loop-again Inv-loop μ-loop
 loop-again c =
-    let r = c .before .before .before .before in
+    let r = c .before .before in
     let l = turn r .before .loop in (
       nine r,
-      l .inv .1 ∙ ap (λ (b : Bool). cond b (Secret (turn r .before .before .before .total .result)) Inconsistent) (vanish-more amounts _ (l .left) _ _ (turn r .loop-test .taken) (raised r) (sym (c .before .total2 .ensures) ∙ c .if2 .left)),
+      l .inv .1 ∙ ap (λ (b : Bool). cond b (Secret (turn r .before .before .before .total .result)) Inconsistent) (vanish-more amounts _ (l .left) _ _ (turn r .loop-test .taken) (raised r) (sym (sum r) ∙ c .if2 .left)),
     )
 
 returns-3 : tie.Need-returns-3 Inv-loop μ-loop
@@ -180,9 +171,6 @@ open-amount-spec =
     array-borrow-prefix-terms
     slice-aggregate-raise
     raise-requires
-    array-share-prefix-terms-2
-    slice-aggregate-total-2
-    total-requires-2
     returns-2
     sub-left-3
     loop-less
