@@ -16,6 +16,75 @@ const POINTS: usize = 10;
 /// 1 to t + 1 are weighted to give the value at x.
 type Weights<T> = [[[T; MAX_T + 1]; POINTS]; MAX_T + 1];
 
+/// What both fields do with polynomials, in a module that has `add`, `sub`,
+/// `mul` and `inverse` on its words.
+macro_rules! polynomials {
+    ($word:ty) => {
+        /// The value at `point` of the polynomial that starts with `secret`.
+        pub fn share(secret: $word, coefficients: &[$word], point: $word) -> $word {
+            let mut value = 0;
+            for &coefficient in coefficients.iter().rev() {
+                value = mul(add(value, coefficient), point);
+            }
+            add(value, secret)
+        }
+
+        /// The value at 0 of the polynomial of degree at most `t` through the
+        /// words at points 1, 2, ..
+        pub fn open(words: &[$word], t: usize) -> Option<$word> {
+            for place in t + 1..words.len() {
+                if value_at(place + 1, words, t) != words[place] {
+                    return None;
+                }
+            }
+            Some(value_at(0, words, t))
+        }
+
+        fn value_at(x: usize, words: &[$word], t: usize) -> $word {
+            let mut value = 0;
+            for j in 0..=t {
+                value = add(value, mul(WEIGHTS[t][x][j], words[j]));
+            }
+            value
+        }
+
+        static WEIGHTS: Weights<$word> = weights();
+
+        const fn weights() -> Weights<$word> {
+            let mut weights = [[[0; MAX_T + 1]; POINTS]; MAX_T + 1];
+            let mut t = 0;
+            while t <= MAX_T {
+                let mut x = 0;
+                while x < POINTS {
+                    let mut j = 0;
+                    while j <= t {
+                        weights[t][x][j] = weight(t, x as $word, j as $word + 1);
+                        j += 1;
+                    }
+                    x += 1;
+                }
+                t += 1;
+            }
+            weights
+        }
+
+        /// The product of (x - m) / (j - m) over the other points m up to t + 1.
+        const fn weight(t: usize, x: $word, j: $word) -> $word {
+            let mut above = 1;
+            let mut below = 1;
+            let mut m = 1;
+            while m <= t as $word + 1 {
+                if m != j {
+                    above = mul(above, sub(x, m));
+                    below = mul(below, sub(j, m));
+                }
+                m += 1;
+            }
+            mul(above, inverse(below))
+        }
+    };
+}
+
 /// Whole numbers modulo the prime 2^61 - 1. Arguments are below the prime.
 pub mod amount {
     use super::{Weights, MAX_T, POINTS};
@@ -67,77 +136,21 @@ pub mod amount {
         power
     }
 
-    /// The value at `point` of the polynomial that starts with `secret`.
-    pub fn share(secret: u64, coefficients: &[u64], point: u64) -> u64 {
-        let mut value = 0;
-        for &coefficient in coefficients.iter().rev() {
-            value = mul(add(value, coefficient), point);
-        }
-        add(value, secret)
-    }
-
-    /// The value at 0 of the polynomial of degree at most `t` through the
-    /// words at points 1, 2, ..
-    pub fn open(words: &[u64], t: usize) -> Option<u64> {
-        for place in t + 1..words.len() {
-            if value_at(place + 1, words, t) != words[place] {
-                return None;
-            }
-        }
-        Some(value_at(0, words, t))
-    }
-
-    fn value_at(x: usize, words: &[u64], t: usize) -> u64 {
-        let mut value = 0;
-        for j in 0..=t {
-            value = add(value, mul(WEIGHTS[t][x][j], words[j]));
-        }
-        value
-    }
-
-    static WEIGHTS: Weights<u64> = weights();
-
-    const fn weights() -> Weights<u64> {
-        let mut weights = [[[0; MAX_T + 1]; POINTS]; MAX_T + 1];
-        let mut t = 0;
-        while t <= MAX_T {
-            let mut x = 0;
-            while x < POINTS {
-                let mut j = 0;
-                while j <= t {
-                    weights[t][x][j] = weight(t, x as u64, j as u64 + 1);
-                    j += 1;
-                }
-                x += 1;
-            }
-            t += 1;
-        }
-        weights
-    }
-
-    /// The product of (x - m) / (j - m) over the other points m up to t + 1.
-    const fn weight(t: usize, x: u64, j: u64) -> u64 {
-        let mut above = 1;
-        let mut below = 1;
-        let mut m = 1;
-        while m <= t as u64 + 1 {
-            if m != j {
-                above = mul(above, sub(x, m));
-                below = mul(below, sub(j, m));
-            }
-            m += 1;
-        }
-        mul(above, inverse(below))
-    }
+    polynomials!(u64);
 }
 
 /// Bytes: adding is exclusive or, multiplying is modulo the polynomial 11Bh.
 pub mod byte {
     use super::{Weights, MAX_T, POINTS};
 
-    /// The sum, which is the difference too.
+    /// The sum.
     pub const fn add(a: u8, b: u8) -> u8 {
         a ^ b
+    }
+
+    /// The difference: every byte is its own negative.
+    pub const fn sub(a: u8, b: u8) -> u8 {
+        add(a, b)
     }
 
     /// The product, by shift and exclusive or.
@@ -170,68 +183,7 @@ pub mod byte {
         power
     }
 
-    /// The value at `point` of the polynomial that starts with `secret`.
-    pub fn share(secret: u8, coefficients: &[u8], point: u8) -> u8 {
-        let mut value = 0;
-        for &coefficient in coefficients.iter().rev() {
-            value = mul(add(value, coefficient), point);
-        }
-        add(value, secret)
-    }
-
-    /// The value at 0 of the polynomial of degree at most `t` through the
-    /// words at points 1, 2, ..
-    pub fn open(words: &[u8], t: usize) -> Option<u8> {
-        for place in t + 1..words.len() {
-            if value_at(place + 1, words, t) != words[place] {
-                return None;
-            }
-        }
-        Some(value_at(0, words, t))
-    }
-
-    fn value_at(x: usize, words: &[u8], t: usize) -> u8 {
-        let mut value = 0;
-        for j in 0..=t {
-            value = add(value, mul(WEIGHTS[t][x][j], words[j]));
-        }
-        value
-    }
-
-    static WEIGHTS: Weights<u8> = weights();
-
-    const fn weights() -> Weights<u8> {
-        let mut weights = [[[0; MAX_T + 1]; POINTS]; MAX_T + 1];
-        let mut t = 0;
-        while t <= MAX_T {
-            let mut x = 0;
-            while x < POINTS {
-                let mut j = 0;
-                while j <= t {
-                    weights[t][x][j] = weight(t, x as u8, j as u8 + 1);
-                    j += 1;
-                }
-                x += 1;
-            }
-            t += 1;
-        }
-        weights
-    }
-
-    /// The product of (x - m) / (j - m) over the other points m up to t + 1.
-    const fn weight(t: usize, x: u8, j: u8) -> u8 {
-        let mut above = 1;
-        let mut below = 1;
-        let mut m = 1;
-        while m <= t as u8 + 1 {
-            if m != j {
-                above = mul(above, add(x, m));
-                below = mul(below, add(j, m));
-            }
-            m += 1;
-        }
-        mul(above, inverse(below))
-    }
+    polynomials!(u8);
 }
 
 #[cfg(test)]
