@@ -1,16 +1,22 @@
 // Splitting a bid among the parties (the paper's desk): one party's share of every amount.
 ghost use mathlib.Core.Path.{_≡_};
-ghost use Prim.Native.Nat.{_*_};
+ghost use mathlib.Core.List.{_∷_};
+ghost use Prim.Native.Nat.{_*_, _≤_};
 ghost use lib.ListN.{length};
+ghost use Rattle.fields.specs.Amount.{amounts};
+ghost use Rattle.sharing.specs.Polynomial.{value};
 ghost use Rattle.bid.specs.Table.{never-rising, never-falling};
 ghost use Rattle.bid.specs.Split.{split-judgement, bid-shares, split-left};
+use fields::AmountShare;
 use refusal::Judgement;
 use refusal::Refusal;
 use sharing::all_below;
-use sharing::share_amount;
 use sharing::threshold;
 
 const P: u64 = (1 << 61) - 1;
+
+// Half of a word.
+const HALF: u64 = 1 << 32;
 
 // Amounts are tenths of an hour, and no amount is larger.
 const MOST: u64 = 4_194_303;
@@ -88,7 +94,8 @@ fn never_falling(supply: &[u64]) -> bool
 
 // Each amount takes the next t coins.
 fn write(t: usize, own: u64, table: &[u64], coins: &[u64], shares: &mut [u64])
-    requires { ⌜ (length (now coins) ≡ length (now table) * t) × (length (now shares) ≡ length (now table)) ⌝ }
+    requires { ⌜ (length (now coins) ≡ length (now table) * t) × (length (now shares) ≡ length (now table))
+        × (t ≤ 4) × (own ≤ 9) ⌝ }
     ensures { λ _. ⌜ now (shares .exit) ≡ bid-shares t own (now (table .entry)) (now (coins .entry)) ⌝ }
 {
     let mut at = 0;
@@ -96,8 +103,26 @@ fn write(t: usize, own: u64, table: &[u64], coins: &[u64], shares: &mut [u64])
     while i < table.len() {
         let amount = table[i];
         let next = at + t;
-        shares[i] = share_amount(amount, &coins[at..next], own).0;
+        shares[i] = share(amount, &coins[at..next], own);
         at = next;
         i += 1;
     }
+}
+
+// Most of an auction's time goes here. There are few coins and the point is small, so the lower and the
+// upper halves of the coins, taken apart, need no reduction on the way.
+fn share(amount: u64, coins: &[u64], own: u64) -> u64
+    requires { ⌜ (length (now coins) ≤ 4) × (own ≤ 9) ⌝ }
+    ensures { λ r. ⌜ r ≡ value amounts (amount ∷ now (coins .entry)) own ⌝ }
+{
+    let mut low: u64 = 0;
+    let mut high: u64 = 0;
+    let mut i = coins.len();
+    while 0 < i {
+        i -= 1;
+        let coin = coins[i];
+        low = (low + coin % HALF) * own;
+        high = (high + coin / HALF) * own;
+    }
+    AmountShare::joined(low + amount % HALF, high + amount / HALF).0
 }

@@ -1,8 +1,9 @@
--- Laws of the two fields. Other crates cite Ring, Below, Test and Fields.
+-- Laws of the two fields. Other crates cite Ring, Below, Test, Fields and Halves.
 pub mod Test
 pub mod Ring
 pub mod Below
 pub mod Fields
+pub mod Halves
 mod Fold
 mod Wide
 mod Xor

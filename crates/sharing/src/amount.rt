@@ -1,11 +1,11 @@
 // Sharing amounts.
 ghost use mathlib.Core.Path.{_≡_};
-ghost use mathlib.Core.List.{_∷_};
-ghost use Prim.Native.Nat.{_≤_};
-ghost use lib.ListN.{length, take};
+ghost use mathlib.Core.List.{[], _∷_};
+ghost use Prim.Native.Nat.{_-_, _≤_};
+ghost use lib.ListN.{length, take, getD};
 ghost use Rattle.fields.specs.Amount.{amounts};
 ghost use Rattle.sharing.specs.Polynomial.{value};
-ghost use Rattle.sharing.specs.Scheme.{points, weights, amount-scheme};
+ghost use Rattle.sharing.specs.Scheme.{points, weights, amount-rows, amount-scheme};
 ghost use Rattle.sharing.specs.Opening.{products, total, opened};
 use crate::opening::Opening;
 use crate::opening::readable;
@@ -13,6 +13,9 @@ use crate::opening::threshold;
 use fields::AmountShare;
 
 const P: u64 = (1 << 61) - 1;
+
+// Half of a word.
+const HALF: u64 = 1 << 32;
 
 // The weights of n parties stand in row n - 3.
 const WEIGHTS: [[u64; 9]; 7] = [
@@ -47,13 +50,12 @@ pub fn open_amount(n: u64, words: &[u64]) -> Opening
     if !readable(n, words, P) {
         return Opening::Inconsistent;
     }
-    let mut terms = weighted(n as usize, words);
-    let secret = total(n as usize, terms);
+    let count = n as usize;
+    let mut terms = weighted(count, words);
+    let secret = total(&terms[..count]);
     let mut left = n - 1 - threshold(n);
     while 0 < left {
-        let next = raised(n as usize, terms);
-        terms = next;
-        if total(n as usize, terms) != 0 {
+        if raise(&mut terms[..count]) != 0 {
             return Opening::Inconsistent;
         }
         left -= 1;
@@ -61,12 +63,29 @@ pub fn open_amount(n: u64, words: &[u64]) -> Opening
     Opening::Secret(secret)
 }
 
+// Each arm reads the table at a place that the compiler knows, so no more than one row is written to
+// the stack.
+fn row_of(n: usize) -> [u64; 9]
+    requires { ⌜ (3 ≤ n) × (n ≤ 9) ⌝ }
+    ensures { λ r. ⌜ r ≡ getD amount-rows (n - 3) [] ⌝ }
+{
+    match n {
+        3 => WEIGHTS[0],
+        4 => WEIGHTS[1],
+        5 => WEIGHTS[2],
+        6 => WEIGHTS[3],
+        7 => WEIGHTS[4],
+        8 => WEIGHTS[5],
+        _ => WEIGHTS[6],
+    }
+}
+
 // The first n terms are the words with their weights.
 fn weighted(n: usize, words: &[u64]) -> [u64; 9]
     requires { ⌜ (3 ≤ n) × (n ≤ 9) × (length (now words) ≡ n) ⌝ }
     ensures { λ r. ⌜ take n r ≡ products amounts (weights amount-scheme n) (now (words .entry)) ⌝ }
 {
-    let row = WEIGHTS[n - 3];
+    let row = row_of(n);
     let mut terms = [0u64; 9];
     let mut i = 0;
     while i < n {
@@ -78,34 +97,41 @@ fn weighted(n: usize, words: &[u64]) -> [u64; 9]
     terms
 }
 
-// The first n terms, each times its point.
-fn raised(n: usize, terms: [u64; 9]) -> [u64; 9]
-    requires { ⌜ n ≤ 9 ⌝ }
-    ensures { λ r. ⌜ take n r ≡ products amounts (points n) (take n terms) ⌝ }
+// Multiplies each term by its point, and gives the sum of what this makes.
+fn raise(terms: &mut [u64]) -> u64
+    requires { ⌜ length (now terms) ≤ 9 ⌝ }
+    ensures { λ r. ⌜ (now (terms .exit) ≡ products amounts (points (length (now (terms .entry)))) (now (terms .entry)))
+        × (r ≡ total amounts (now (terms .exit))) ⌝ }
 {
-    let mut next = terms;
+    let mut low: u64 = 0;
+    let mut high: u64 = 0;
     let mut point: u64 = 1;
     let mut i = 0;
-    while i < n {
-        let term = next[i];
-        next[i] = AmountShare(point).mul(AmountShare(term)).0;
+    while i < terms.len() {
+        let term = terms[i];
+        let next = AmountShare(point).mul(AmountShare(term)).0;
+        terms[i] = next;
+        low += next % HALF;
+        high += next / HALF;
         point += 1;
         i += 1;
     }
-    next
+    AmountShare::joined(low, high).0
 }
 
-// The sum of the first n terms.
-fn total(n: usize, terms: [u64; 9]) -> u64
-    requires { ⌜ n ≤ 9 ⌝ }
-    ensures { λ r. ⌜ r ≡ total amounts (take n terms) ⌝ }
+// The sum of the terms, made of their lower and upper halves and reduced once.
+fn total(terms: &[u64]) -> u64
+    requires { ⌜ length (now terms) ≤ 9 ⌝ }
+    ensures { λ r. ⌜ r ≡ total amounts (now (terms .entry)) ⌝ }
 {
-    let mut sum = AmountShare(0);
-    let mut i = n;
+    let mut low: u64 = 0;
+    let mut high: u64 = 0;
+    let mut i = terms.len();
     while 0 < i {
         i -= 1;
         let term = terms[i];
-        sum = AmountShare(term).add(sum);
+        low += term % HALF;
+        high += term / HALF;
     }
-    sum.0
+    AmountShare::joined(low, high).0
 }

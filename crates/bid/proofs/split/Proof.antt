@@ -2,6 +2,7 @@
 use mathlib.Core.Path.{_≡_, sym, ap, _∙_}
 use mathlib.Core.List.{List}
 use Prim.Native.Nat.{ℕ}
+use native.Mathlib.Omega.{arith}
 use Rattle.refusal.specs.declared.Judgement.the-variants.{Accepted}
 use Rattle.sharing.specs.Scheme.{threshold}
 use Rattle.bid.specs.Split.{split-judgement, bid-shares, split-left}
@@ -39,7 +40,7 @@ write-requires : tie.Need-write-requires
 write-requires c κs =
     let h = splits _ _ _ _ _ _ (yes (c .before .before)) in
     let t = c .before .threshold .ensures in
-    (h .coins-long ∙ cc, h .shares-long ∙ sym (h .table-long))
+    (h .coins-long ∙ cc, h .shares-long ∙ sym (h .table-long), omega (arith, h .party .parties-most), omega (arith, h .party .parties-most, h .party .own-most))
 
 enum-told-2 : tie.Need-enum-told-2
 enum-told-2 c = search needs

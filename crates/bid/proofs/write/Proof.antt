@@ -4,7 +4,7 @@ use mathlib.Core.List.{List, _∷_}
 use Prim.Native.Nat.{ℕ, _+_, _-_, _*_, _≤_, _<_}
 use native.Mathlib.Nat.{zero-mul, mul-le-mul-right}
 use native.Mathlib.Omega.{arith}
-use lib.ListN.{length, take, drop, length-set}
+use lib.ListN.{length, take, drop, length-set, length-take}
 use lib.Seq.{take-all}
 use Rattle.fields.specs.Amount.{amounts}
 use Rattle.sharing.specs.Polynomial.{value}
@@ -52,20 +52,22 @@ shared-slice-read-amount c = search needs
 add-next : tie.Need-add-next Inv-loop μ-loop
 add-next c = omega (arith, fits (c .before), c .before .before .before .before .before .before .good)
 
-mul-share-amount : tie.Need-mul-share-amount Inv-loop μ-loop
-mul-share-amount c = omega (arith, fits (c .before), c .before .before .before .before .before .before .good)
+mul-share : tie.Need-mul-share Inv-loop μ-loop
+mul-share c = omega (arith, fits (c .before), c .before .before .before .before .before .before .good)
 
-sub-share-amount : tie.Need-sub-share-amount Inv-loop μ-loop
-sub-share-amount c = search needs
+sub-share : tie.Need-sub-share Inv-loop μ-loop
+sub-share c = search needs
 
-part-share-amount-start : tie.Need-part-share-amount-start Inv-loop μ-loop
-part-share-amount-start c = search needs
+part-share-start : tie.Need-part-share-start Inv-loop μ-loop
+part-share-start c = search needs
 
-part-share-amount-end : tie.Need-part-share-amount-end Inv-loop μ-loop
-part-share-amount-end c = fits (c .before)
+part-share-end : tie.Need-part-share-end Inv-loop μ-loop
+part-share-end c = fits (c .before)
 
-share-amount-requires : tie.Need-share-amount-requires Inv-loop μ-loop
-share-amount-requires c κs = search needs
+share-requires : tie.Need-share-requires Inv-loop μ-loop
+share-requires c κs =
+    let s = c .before .before .before .before .before .before .before in
+    (simp length-take (omega (arith, s .pre .2)), s .pre .3)
 
 mul-shares : tie.Need-mul-shares Inv-loop μ-loop
 mul-shares c = search needs
@@ -88,9 +90,9 @@ loop-again c =
       omega arith,
       omega arith,
       simp length-set (l .inv .2),
-      fill (l .shares) (bid-shares (a .t) (a .own) (a .table .now) (a .coins .now)) (l .i) (c .share-amount .result .0) (omega (arith, s .pre))
+      fill (l .shares) (bid-shares (a .t) (a .own) (a .table .now) (a .coins .now)) (l .i) (c .share .result) (omega (arith, s .pre))
           (rw length-shares h)
-          (c .share-amount .ensures ∙ taken (a .coins .now) (a .t) (l .at) (l .i) (a .own) _ (l .inv .1)
+          (c .share .ensures ∙ taken (a .coins .now) (a .t) (l .at) (l .i) (a .own) _ (l .inv .1)
           ∙ sym (entry (a .t) (a .own) (a .table .now) (a .coins .now) (l .i) h))
           (l .inv .3),
     )
@@ -116,11 +118,11 @@ write-spec =
     mul-amount
     shared-slice-read-amount
     add-next
-    mul-share-amount
-    sub-share-amount
-    part-share-amount-start
-    part-share-amount-end
-    share-amount-requires
+    mul-share
+    sub-share
+    part-share-start
+    part-share-end
+    share-requires
     mul-shares
     slice-write-shares
     add-i

@@ -1,13 +1,15 @@
 -- `open_amount` meets its contract: the words open to the first sum, where the sums that are left are 0. Assumes nothing.
 use mathlib.Core.Path.{_≡_, sym, ap, _∙_}
 use mathlib.Core.Bool.{Bool, true, cond}
-use Prim.Native.Nat.{ℕ, _-_}
+use Prim.Native.Nat.{ℕ, _-_, _≤_}
 use native.Mathlib.Omega.{arith}
-use lib.ListN.{take}
+use mathlib.Core.List.{List, _++_}
+use lib.ListN.{length, take, drop, length-append, length-drop}
+use lib.Seq.{take-at, length-take-le}
 use borrow.Author.Tests.{not-true, not-false}
 use Rattle.fields.specs.Amount.{p, amounts}
 use Rattle.sharing.specs.Scheme.{threshold, points, amount-scheme}
-use Rattle.sharing.specs.Opening.{readable, opened}
+use Rattle.sharing.specs.Opening.{products, total, readable, opened}
 use Rattle.sharing.specs.declared.opening.Opening.the-variants.{Secret, Inconsistent}
 use Rattle.sharing.proofs.Sums.{Readable, read, vanish, vanish-none, vanish-more, vanish-not, unreadable, begun}
 use borrow.Author.Needs.{needs}
@@ -15,11 +17,11 @@ use Rattle.sharing.proofs.amount.open_amount.Statement.{statement}
 use Rattle.sharing.proofs.amount.open_amount.Tie as tie
 
 abbrev Inv-loop : tie.InvT-loop
-Inv-loop n words terms₀ secret left₀ terms left =
-    opened amount-scheme n words ≡ cond (vanish amounts (points n) left (take n terms)) (Secret secret) Inconsistent
+Inv-loop n words count terms₀ secret left₀ terms left =
+    (length terms ≡ 9) × (opened amount-scheme n words ≡ cond (vanish amounts (points n) left (take n terms)) (Secret secret) Inconsistent)
 
 abbrev μ-loop : tie.MeasureT-loop
-μ-loop n words terms₀ secret left₀ terms left = left
+μ-loop n words count terms₀ secret left₀ terms left = left
 
 -- the words were found readable
 passed : (c : tie.Else1 Inv-loop μ-loop) → readable p (c .before .before .before .args .n) (c .before .before .before .args .words .now) ≡ true
@@ -37,11 +39,28 @@ returns c = sym (unreadable amount-scheme _ _ (sym (c .before .readable .ensures
 weighted-requires : tie.Need-weighted-requires Inv-loop μ-loop
 weighted-requires c κs = (good c .least, good c .most, good c .long)
 
+-- the n terms are there at first
+module _ (c : tie.After-weighted Inv-loop μ-loop) where
+  abbrev count₀ : ℕ
+  count₀ = c .before .before .before .before .args .n
+
+  fit₀ : count₀ ≤ length (c .weighted .result)
+  fit₀ = omega (arith, c .weighted .ok, good (c .before) .most)
+
+  whole₀ : length (take count₀ (c .weighted .result)) ≡ count₀
+  whole₀ = length-take-le count₀ (c .weighted .result) fit₀
+
+array-share-prefix-terms : tie.Need-array-share-prefix-terms Inv-loop μ-loop
+array-share-prefix-terms c = fit₀ c
+
+slice-aggregate-total : tie.Need-slice-aggregate-total Inv-loop μ-loop
+slice-aggregate-total c = sym (whole₀ (c .before))
+
 total-requires : tie.Need-total-requires Inv-loop μ-loop
-total-requires c κs = good (c .before) .most
+total-requires c κs = rw (whole₀ (c .before)) (good (c .before .before) .most)
 
 sub-left : tie.Need-sub-left Inv-loop μ-loop
-sub-left c = omega (arith, good (c .before .before) .least)
+sub-left c = omega (arith, good (c .before .before .before) .least)
 
 threshold-requires : tie.Need-threshold-requires Inv-loop μ-loop
 threshold-requires c κs = search needs
@@ -51,20 +70,68 @@ sub-left-2 c = omega (arith, c .threshold .ensures)
 
 loop-holds : tie.Need-loop-holds Inv-loop μ-loop
 loop-holds c =
-    let e = c .before .before .before in
-    begun amount-scheme _ _ _ _ (passed e) (good e .least) (c .before .before .weighted .ensures) (c .before .total .ensures)
-    ∙ ap (λ (k : ℕ). cond (vanish amounts (points (e .before .before .before .args .n)) (e .before .before .before .args .n - 1 - k) (take (e .before .before .before .args .n) (c .before .before .weighted .result))) (Secret (c .before .total .result)) Inconsistent) (sym (c .threshold .ensures))
+    let e = c .before .before .before .before in
+    let w = c .before .before .before .weighted in
+    let n = e .before .before .before .args .n in (
+      omega (arith, w .ok),
+      begun amount-scheme _ _ _ _ (passed e) (good e .least) (w .ensures) (c .before .total .ensures)
+          ∙ ap (λ (k : ℕ). cond (vanish amounts (points n) (n - 1 - k) (take n (w .result))) (Secret (c .before .total .result)) Inconsistent) (sym (c .threshold .ensures)),
+    )
 
-raised-requires : tie.Need-raised-requires Inv-loop μ-loop
-raised-requires c κs = good (c .before .before .before .before .before) .most
+-- and in each turn
+module _ (c : tie.In-loop Inv-loop μ-loop) where
+  abbrev else : tie.Else1 Inv-loop μ-loop
+  else = c .before .before .before .before .before .before
 
-total-requires-2 : tie.Need-total-requires-2 Inv-loop μ-loop
-total-requires-2 c κs = good (c .before .before .before .before .before .before) .most
+  abbrev count : ℕ
+  count = else .before .before .before .args .n
+
+  abbrev terms : List ℕ
+  terms = c .before .loop .terms
+
+  fit : count ≤ length terms
+  fit = omega (arith, c .before .loop .inv .0, good else .most)
+
+  whole : length (take count terms) ≡ count
+  whole = length-take-le count terms fit
+
+array-borrow-prefix-terms : tie.Need-array-borrow-prefix-terms Inv-loop μ-loop
+array-borrow-prefix-terms c = fit c
+
+slice-aggregate-raise : tie.Need-slice-aggregate-raise Inv-loop μ-loop
+slice-aggregate-raise c = sym (whole (c .before))
+
+raise-requires : tie.Need-raise-requires Inv-loop μ-loop
+raise-requires c κs = rw (whole (c .before)) (good (else (c .before)) .most)
+
+-- what raising leaves
+module _ (c : tie.After-raise Inv-loop μ-loop) where
+  abbrev turn : tie.In-loop Inv-loop μ-loop
+  turn = c .before .before
+
+  abbrev left : List ℕ
+  left = c .raise .last .0
+
+  long : length left ≡ count turn
+  long = c .raise .kept .0 ∙ whole turn
+
+  raised : take (count turn) (left ++ drop (count turn) (terms turn)) ≡ products amounts (points (count turn)) (take (count turn) (terms turn))
+  raised =
+      take-at left (drop (count turn) (terms turn)) (count turn) long ∙ c .raise .ensures .0
+      ∙ ap (λ (k : ℕ). products amounts (points k) (take (count turn) (terms turn))) (whole turn)
+
+  nine : length (left ++ drop (count turn) (terms turn)) ≡ 9
+  nine =
+      simp (length-append, length-drop) (omega (arith, long, fit turn, turn .before .loop .inv .0))
+
+  sum : c .raise .result ≡ total amounts (take (count turn) (left ++ drop (count turn) (terms turn)))
+  sum = c .raise .ensures .1 ∙ ap (total amounts) (sym (take-at left (drop (count turn) (terms turn)) (count turn) long))
 
 returns-2 : tie.Need-returns-2 Inv-loop μ-loop
 returns-2 c =
-    let l = c .before .before .before .before .loop in
-    sym (l .inv ∙ ap (λ (b : Bool). cond b (Secret (c .before .before .before .before .before .before .total .result)) Inconsistent) (vanish-not amounts _ (l .left) _ _ (c .before .before .before .loop-test .taken) (c .before .before .raised .ensures) (λ e. c .if2 .taken (c .before .total2 .ensures ∙ e))))
+    let r = c .before .before in
+    let l = turn r .before .loop in
+    sym (l .inv .1 ∙ ap (λ (b : Bool). cond b (Secret (turn r .before .before .before .total .result)) Inconsistent) (vanish-not amounts _ (l .left) _ _ (turn r .loop-test .taken) (raised r) (λ e. c .if2 .taken (sum r ∙ e))))
 
 sub-left-3 : tie.Need-sub-left-3 Inv-loop μ-loop
 sub-left-3 c = search needs
@@ -74,13 +141,16 @@ loop-less c = search needs
 
 loop-again : tie.Need-loop-again Inv-loop μ-loop
 loop-again c =
-    let l = c .before .before .before .before .loop in
-    l .inv ∙ ap (λ (b : Bool). cond b (Secret (c .before .before .before .before .before .before .total .result)) Inconsistent) (vanish-more amounts _ (l .left) _ _ (c .before .before .before .loop-test .taken) (c .before .before .raised .ensures) (sym (c .before .total2 .ensures) ∙ c .if2 .left))
+    let r = c .before .before in
+    let l = turn r .before .loop in (
+      nine r,
+      l .inv .1 ∙ ap (λ (b : Bool). cond b (Secret (turn r .before .before .before .total .result)) Inconsistent) (vanish-more amounts _ (l .left) _ _ (turn r .loop-test .taken) (raised r) (sym (sum r) ∙ c .if2 .left)),
+    )
 
 returns-3 : tie.Need-returns-3 Inv-loop μ-loop
 returns-3 c =
     let l = c .before .loop in
-    sym (l .inv ∙ ap (λ (b : Bool). cond b (Secret (c .before .before .before .total .result)) Inconsistent) (vanish-none amounts _ (l .left) _ (omega arith)))
+    sym (l .inv .1 ∙ ap (λ (b : Bool). cond b (Secret (c .before .before .before .total .result)) Inconsistent) (vanish-none amounts _ (l .left) _ (omega arith)))
 
 pub open-amount-spec : {M : Type 1} → statement M
 open-amount-spec =
@@ -91,13 +161,16 @@ open-amount-spec =
     readable-requires
     returns
     weighted-requires
+    array-share-prefix-terms
+    slice-aggregate-total
     total-requires
     sub-left
     threshold-requires
     sub-left-2
     loop-holds
-    raised-requires
-    total-requires-2
+    array-borrow-prefix-terms
+    slice-aggregate-raise
+    raise-requires
     returns-2
     sub-left-3
     loop-less
