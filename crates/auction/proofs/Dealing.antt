@@ -14,10 +14,10 @@ use Rattle.refusal.specs.declared.Judgement.the-variants.{Accepted}
 use Rattle.sharing.specs.Lists.{from}
 use Rattle.sharing.specs.Polynomial.{value, share-each}
 use Rattle.sharing.specs.Scheme.{threshold}
-use Rattle.comparison.specs.Rounds as rounds
 use Rattle.comparison.specs.Probe as probe
 use Rattle.comparison.specs.Probe.{Each, Group, TripleCoins, TripleInRange, bit-polynomials, triple-polynomials, triple-words}
-use Rattle.dealer.specs.Deal.{deal-judgement, byte-shares, bit, triple, triples, preprocessing, deal-left}
+use Rattle.fields.specs.Bits.{bit}
+use Rattle.dealer.specs.Deal.{deal-judgement, byte-shares, triple, triples, preprocessing, deal-left}
 use Rattle.auction.specs.Coins.{flat, sheet-words, triple-bytes, sheet-bytes}
 use Rattle.auction.proofs.Judging.{kept-new, is-party, is-below}
 use Rattle.auction.proofs.Bidding.{flat-length}
@@ -46,7 +46,7 @@ bytes-length t s h =
 
 bits-written : (t j mask : ℕ) (i m : ℕ) (css : List (List ℕ)) (rest : List ℕ) → length css ≡ m → Each (Group 256 t) css
     → byte-shares t j (map (λ i. bit i mask) (from i m)) (flat css ++ rest) ≡ map (λ b. value bytes b j) (bit-polynomials i mask css)
-unfolding share-each from flat bit-polynomials rounds.bit
+unfolding share-each from flat bit-polynomials
 bits-written t j mask i zero [] rest l h = refl
 bits-written t j mask i zero (cs ∷ css) rest l h = absurd (omega arith)
 bits-written t j mask i (suc m) [] rest l h = absurd (omega arith)

@@ -14,7 +14,8 @@ use Rattle.sharing.specs.Polynomial.{value}
 use Rattle.sharing.specs.Lists.{from}
 use Rattle.sharing.specs.Scheme.{points}
 use Rattle.sharing.proofs.Rows.{length-from}
-use Rattle.comparison.specs.Rounds.{bit, both}
+use Rattle.fields.specs.Bits.{bit}
+use Rattle.comparison.specs.Rounds.{both}
 use Rattle.comparison.specs.Probe.{Triple, Sheet, TripleCoins, Coins, Group, Each, TripleInRange, InRange, Probe, bit-polynomials, triple-polynomials, dealt, triple-words, sheet-words, messages, product-rounds, last-polynomial}
 use Rattle.comparison.proofs.Values.{bit-byte}
 use Rattle.comparison.proofs.Dealt.{SheetShared, ProbeShared, TripleShared, shared-cons, triple-polynomials-shared, bit-polynomials-length, dealt-shared, product-rounds-long}

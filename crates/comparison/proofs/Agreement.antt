@@ -19,7 +19,8 @@ use Rattle.sharing.proofs.Points.{Different, different-points}
 use Rattle.sharing.proofs.Rows.{length-from}
 use Rattle.sharing.proofs.Laws.{unique, recolour, recolour-length, recolour-lt, recolour-shares}
 use Rattle.comparison.specs.Local.{on-polynomials, shifted}
-use Rattle.comparison.specs.Rounds.{bit, masked, differing, first-carry, left, right, next-carry, last}
+use Rattle.fields.specs.Bits.{bit}
+use Rattle.comparison.specs.Rounds.{masked, differing, first-carry, left, right, next-carry, last}
 use Rattle.comparison.specs.Probe.{Group, secret}
 use Rattle.comparison.proofs.Values.{Shared, Reads, reads-plus, reads-negate, reads-times, reads-shift, reads-value, reads-secret, bit-byte}
 use Rattle.comparison.proofs.Dealt.{shared-cons}

@@ -13,7 +13,8 @@ use Rattle.fields.proofs.Below.{Below, same-number, ops, ring}
 use Rattle.fields.proofs.Ring.{semi}
 use Rattle.fields.proofs.Fields.{byte-field}
 use Rattle.comparison.specs.Local.{on-shares}
-use Rattle.comparison.specs.Rounds.{bit, first-carry, differing, left, right, next-carry, last}
+use Rattle.fields.specs.Bits.{bit}
+use Rattle.comparison.specs.Rounds.{first-carry, differing, left, right, next-carry, last}
 use Rattle.comparison.proofs.Values.{bit-lt, bit-byte}
 
 -- ---- numbers

@@ -9,7 +9,8 @@ use Rattle.fields.proofs.Fields.{byte-field}
 use Rattle.sharing.specs.Polynomial.{value}
 use Rattle.sharing.proofs.Points.{Different}
 use Rattle.comparison.specs.Local.{on-shares, on-polynomials}
-use Rattle.comparison.specs.Rounds.{bit, differing, left, right, next-carry, both}
+use Rattle.fields.specs.Bits.{bit}
+use Rattle.comparison.specs.Rounds.{differing, left, right, next-carry, both}
 use Rattle.comparison.specs.Probe.{Triple, TripleCoins, Group, Each, TripleInRange, Round, bit-polynomials, triple-polynomials, triple-words, secret, round, carry-after, rounds, final-carry}
 use Rattle.comparison.specs.Matching.{carry-on, recoloured, matched-bits, matched-triple, matched-triples}
 use Rattle.comparison.proofs.Values.{bit-byte, secret-value, left-secret, right-secret}

@@ -12,7 +12,8 @@ use Rattle.sharing.specs.Polynomial.{value}
 use Rattle.sharing.proofs.Points.{Different}
 use Rattle.sharing.proofs.Laws.{value-lt, recolour, recolour-only}
 use Rattle.comparison.specs.Local.{on-shares}
-use Rattle.comparison.specs.Rounds.{bit, differing, left, right, both}
+use Rattle.fields.specs.Bits.{bit}
+use Rattle.comparison.specs.Rounds.{differing, left, right, both}
 use Rattle.comparison.specs.Probe.{TripleCoins, Group, Each, TripleInRange, Round, bit-polynomials, triple-polynomials, triple-words, secret, round, rounds}
 use Rattle.comparison.specs.Matching.{carry-on, recoloured, matched-bits, matched-triple, matched-triples}
 use Rattle.comparison.proofs.Values.{Shared, bit-byte, secret-value, left-secret, right-secret}

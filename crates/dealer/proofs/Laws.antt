@@ -26,7 +26,8 @@ use Rattle.sharing.specs.declared.opening.Opening.the-variants.{Secret}
 use Rattle.sharing.specs.Sizes.{party, long}
 use Rattle.sharing.proofs.Laws.{value-lt, amount-fits, byte-fits, opens}
 use Rattle.sharing.proofs.Terms.{and-left, and-right}
-use Rattle.dealer.specs.Deal.{deal-judgement, byte-shares, bit, mask-bits, triple-secrets, triple, triples, preprocessing}
+use Rattle.fields.specs.Bits.{bit}
+use Rattle.dealer.specs.Deal.{deal-judgement, byte-shares, mask-bits, triple-secrets, triple, triples, preprocessing}
 use Rattle.refusal.proofs.Judging.{passed}
 use Rattle.sharing.proofs.Ranges.{IsParty, a-party, is-party, all-below, is-below, below-take, below-drop, below-at, below-more}
 
@@ -146,6 +147,7 @@ below-append q [] ys h k = k
 below-append q (x ∷ xs) ys h k = (h .0, below-append q xs ys (h .1) k)
 
 pub bits-below : (b : ℕ) → AllBelow 2 (mask-bits b)
+unfolding bit
 bits-below b = go (from 1 33)
   where
     go : (is : List ℕ) → AllBelow 2 (map (λ i. bit i b) is)
@@ -251,6 +253,7 @@ module _ {n own : ℕ} {words drawn sheet : List ℕ} (h : Deals n own words dra
         (length-take-le (threshold n) (drop m drawn) (omega (arith, length-drop m drawn)))
 
     pub bit-opens : (i : ℕ) → 1 ≤ i → i ≤ 33 → opened-at byte-scheme n words drawn i ≡ Secret (bit i (getD words 0 0))
+    unfolding bit
     bit-opens i l l′ =
         let r : (i - 1 + 1) * threshold n ≤ 33 * threshold n = mul-le-mul-right (threshold n) (omega arith) in
         shared _ _ ((i - 1) * threshold n) (λ j. bit-share (threshold n) j words drawn i l l′) (lt-of-lt-of-le (mod-lt _ (lit< tt)) (lit≤ tt)) (omega (arith, h .drawn-long))

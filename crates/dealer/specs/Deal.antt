@@ -2,9 +2,10 @@
 -- Assumes nothing.
 use mathlib.Core.Bool.{not, _&&_}
 use mathlib.Core.List.{List, [], _∷_, _++_, map}
-use Prim.Native.Nat.{ℕ, zero, suc, _+_, _-_, _*_, _/_, _%_, _^_}
+use Prim.Native.Nat.{ℕ, zero, suc, _+_, _-_, _*_, _^_}
 use lib.Dec.{ltb}
 use lib.ListN.{drop, getD}
+use Rattle.fields.specs.Bits.{bit}
 use Rattle.fields.specs.Amount.{p, amounts}
 use Rattle.fields.specs.Byte.{product, bytes}
 use Rattle.refusal.specs.Judging.{_⇒_, judged, kept}
@@ -28,10 +29,6 @@ deal-judgement n own words drawn sheet =
 -- a party's shares of bytes, each made with the next t of the drawn bytes
 abbrev pub byte-shares : (t own : ℕ) (secrets drawn : List ℕ) → List ℕ
 byte-shares t own secrets drawn = share-each bytes t own secrets drawn
-
--- "bit 1 being the lowest"
-abbrev pub bit : ℕ → ℕ → ℕ
-bit i x = x / 2 ^ (i - 1) % 2
 
 -- "bits 1 to 33 of b"
 abbrev pub mask-bits : ℕ → List ℕ

@@ -12,7 +12,8 @@ use lib.ListN.{length, getD}
 use Rattle.fields.specs.Byte.{bytes}
 use Rattle.fields.proofs.Fields.{byte-field}
 use Rattle.comparison.specs.Local.{on-shares}
-use Rattle.comparison.specs.Rounds.{bit, differing, first-carry, next-carry}
+use Rattle.fields.specs.Bits.{bit}
+use Rattle.comparison.specs.Rounds.{differing, first-carry, next-carry}
 use Rattle.search.specs.declared.Bracket.{Bracket}
 use Rattle.search.specs.Bracket.{over, middle, raise, lower, step}
 use Rattle.search.specs.Limit.{limit}

@@ -11,7 +11,8 @@ use lib.Seq.{take-all}
 use Rattle.fields.specs.Byte.{bytes}
 use Rattle.sharing.specs.Polynomial.{value}
 use Rattle.sharing.proofs.Terms.{fill}
-use Rattle.dealer.specs.Deal.{byte-shares, bit, mask-bits}
+use Rattle.fields.specs.Bits.{bit}
+use Rattle.dealer.specs.Deal.{byte-shares, mask-bits}
 use Rattle.dealer.proofs.Laws.{length-shares, share-at, length-bits, bit-at}
 use borrow.Author.Needs.{needs}
 use Rattle.dealer.proofs.write_bits.Statement.{statement}
@@ -34,6 +35,7 @@ fits c =
 
 -- the lowest bit of what is left, and the rest of it
 lowest : (rest mask i : ℕ) → rest ≡ mask / 2 ^ i → bitAnd rest 1 ≡ bit (1 + i) mask
+unfolding bit
 lowest rest mask i e =
     let j : i ≡ 1 + i - 1 = omega arith in
     and-mask rest 1 ∙ ap (λ (x : ℕ). x % 2) e ∙ ap (λ (k : ℕ). mask / 2 ^ k % 2) j
