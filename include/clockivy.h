@@ -1,6 +1,7 @@
 /*
  * clockivy.h - a sealed-bid uniform-price auction among parties who hold every
- * amount in shares, as seven calls. Link with libexchange.a (64-bit targets).
+ * amount in shares, as seven calls. Link with libexchange.a, which is for
+ * x86-64.
  *
  * Terms
  *   n       the number of parties, 3 to 9; t is (n - 1) / 2 rounded down
@@ -26,7 +27,7 @@
  *   and then its length in elements, not bytes. The pointer is aligned, is not
  *   NULL even if the length is 0, and has that many elements behind it. A
  *   buffer that a call writes does not overlap another one lent to that call.
- *   That is all a caller has to see to: any number, length and contents is
+ *   A call needs nothing else to be safe: any number, length and contents is
  *   judged, and every call returns.
  *
  * Replies
@@ -37,7 +38,26 @@
  *
  * Secrets
  *   Coins are drawn by the caller: each uniform over its range, independent,
- *   used once. A party's shares, totals and sheets are for that party alone.
+ *   used once. A party's shares, totals, sheets and record are for that party
+ *   alone. The dealer must see neither the messages of round 1 nor the sum
+ *   they open to: it knows the mask, and so would learn total demand minus
+ *   total supply at the probed index.
+ *
+ * Two uses that give bids away
+ *   A sheet hides one message of each round. Saying that message again is
+ *   harmless: the same record, totals and sheets give the same one. Another
+ *   message of the same round, from the same sheet, gives away the difference
+ *   of what the two hide. No call refuses these two uses:
+ *   - Say, add, say. A bid is refused only once a round is heard. The messages
+ *     before and after it have one mask, so they differ by the party's share
+ *     of the bid's demand minus supply at the probed index, and any t other
+ *     parties can open that. Add no bid once a message is said. The record
+ *     does not show that one was: the caller has to remember it.
+ *   - An older record, or one record in two sessions. It passes every
+ *     judgement and uses masks and triples again. Where it then meets other
+ *     totals, or hears other messages than before, it says other messages.
+ *     Store the record before the message said from it leaves, and go on from
+ *     the newest one only, with the totals and the sheets that belong to it.
  */
 #ifndef CLOCKIVY_H
 #define CLOCKIVY_H
@@ -148,6 +168,9 @@ uint64_t clockivy_deal(uint64_t n, uint64_t own,
 
 /*
  * Adds a bid's shares to the totals, modulo the prime, and counts the bid.
+ * Call it only before the party has said its first message. A bid between that
+ * and the first heard round is not refused, and is given away by the next
+ * message: see "Two uses that give bids away".
  *
  *   record  10 words; bids grows by one
  *   totals  2k words; each has its share added
@@ -164,8 +187,10 @@ uint64_t clockivy_add(uint64_t *record, size_t record_len,
                       const uint64_t *shares, size_t shares_len);
 
 /*
- * Writes the party's message of the current round. The record stays, so saying
- * may be repeated.
+ * Writes the party's message of the current round. The record stays. The same
+ * record, totals and sheets give the same message, so that saying may be
+ * repeated with these; but add no bid from now on, and never say a round again
+ * with another record or other totals: see "Two uses that give bids away".
  *
  *   record   10 words
  *   totals   2k words
@@ -231,8 +256,10 @@ uint64_t clockivy_answer(const uint64_t *record, size_t record_len,
 #endif
 
 /*
- * A party's record by names. It is plain data, to be stored and read back at
- * will: every call judges it.
+ * A party's record by names. Where it is stored, store it before the message
+ * said from it leaves. Read back only the newest one, and lend the totals and
+ * the sheets that belong to it. Every call judges the fields, but an older
+ * record passes: see "Two uses that give bids away".
  *
  * A field is out of range (refusal 1) where n, own or k is; bids is above
  * 1,000; not lo < hi <= k + 1; round is outside 1 to 33; sum is at or above
@@ -264,11 +291,11 @@ typedef char clockivy_party_is_ten_words
 #define CLOCKIVY_INLINE static
 #endif
 
-/* P, the most probes of a search over k prices. */
+/* P, the most probes of a search over k prices: the number of bits of k. */
 CLOCKIVY_INLINE size_t clockivy_probe_limit(uint64_t k)
 {
-    size_t limit = 0;
-    while (k >> limit != 0)
+    size_t limit;
+    for (limit = 0; k != 0; k >>= 1)
         limit++;
     return limit;
 }

@@ -6,8 +6,8 @@
 //! or dealer draws them from the operating system.
 
 use clockivy::{
-    coins_len, deal, deal_bytes_len, deal_words_len, sheets_len, split, table_len, Party, Refusal,
-    MASK_LIMIT, PRIME, ROUNDS, SHEET_LEN,
+    coins_len, deal, deal_bytes_len, deal_words_len, sheets_len, split, table_len, Collecting,
+    Refusal, Speaking, MASK_LIMIT, PRIME, ROUNDS, SHEET_LEN,
 };
 
 const N: u64 = 5;
@@ -50,27 +50,27 @@ impl Coins {
     }
 }
 
-/// What one party keeps.
-struct Seat {
-    party: Party,
-    totals: Vec<u64>,
-    sheets: Vec<u64>,
-}
-
 fn main() -> Result<(), Refusal> {
     let mut coins = Coins(0x9E37_79B9_7F4A_7C15);
-    let mut seats = open_sessions()?;
+    let mut totals = vec![vec![0; table_len(K)]; N as usize];
+    let mut sessions = open_sessions(&mut totals)?;
     for table in &BIDS {
-        bid(&mut seats, table, &mut coins)?;
+        bid(&mut sessions, &mut totals, table, &mut coins)?;
     }
-    preprocess(&mut seats, &mut coins)?;
+    let sheets = preprocess(&mut coins)?;
+    let mut parties: Vec<Speaking> = sessions
+        .into_iter()
+        .zip(&totals)
+        .zip(&sheets)
+        .map(|((session, totals), sheets)| session.speak(totals, sheets))
+        .collect();
 
-    while !seats[0].party.is_over() {
-        let index = seats[0].party.index();
+    while !parties[0].is_over() {
+        let index = parties[0].index();
         for _ in 1..=ROUNDS {
-            round(&mut seats)?;
+            round(&mut parties)?;
         }
-        let after = &seats[0].party;
+        let after = parties[0].record();
         let verdict = after.lo == index;
         println!(
             "probe {} index {index} verdict {}",
@@ -80,9 +80,9 @@ fn main() -> Result<(), Refusal> {
         assert_eq!(verdict, clears(index));
     }
 
-    let answer = seats[0].party.answer()?;
-    for seat in &seats {
-        assert_eq!(seat.party.answer()?, answer);
+    let answer = parties[0].answer()?;
+    for party in &parties {
+        assert_eq!(party.answer()?, answer);
     }
     match answer.index {
         0 => println!("clears 0 none"),
@@ -94,54 +94,52 @@ fn main() -> Result<(), Refusal> {
     Ok(())
 }
 
-fn open_sessions() -> Result<Vec<Seat>, Refusal> {
-    let mut seats = Vec::new();
-    for own in 1..=N {
-        let mut totals = vec![0; table_len(K)];
-        let party = Party::open(N, own, K, &mut totals)?;
-        let sheets = vec![0; sheets_len(K)];
-        seats.push(Seat {
-            party,
-            totals,
-            sheets,
-        });
-    }
-    Ok(seats)
+fn open_sessions(totals: &mut [Vec<u64>]) -> Result<Vec<Collecting>, Refusal> {
+    (1..)
+        .zip(totals)
+        .map(|(own, totals)| Collecting::open(N, own, K, totals))
+        .collect()
 }
 
 /// The bidder splits its table, and each party adds its own shares.
-fn bid(seats: &mut [Seat], table: &[u64], coins: &mut Coins) -> Result<(), Refusal> {
+fn bid(
+    sessions: &mut [Collecting],
+    totals: &mut [Vec<u64>],
+    table: &[u64],
+    coins: &mut Coins,
+) -> Result<(), Refusal> {
     let drawn: Vec<u64> = (0..coins_len(N, K)).map(|_| coins.coefficient()).collect();
     let mut shares = vec![0; table_len(K)];
-    for seat in seats {
-        split(N, seat.party.own, K, table, &drawn, &mut shares)?;
-        seat.party.add(&mut seat.totals, &shares)?;
+    for (session, totals) in sessions.iter_mut().zip(totals) {
+        split(N, session.record().own, K, table, &drawn, &mut shares)?;
+        session.add(totals, &shares)?;
     }
     Ok(())
 }
 
 /// The dealer writes every party's preprocessing, with new coins for each probe.
-fn preprocess(seats: &mut [Seat], coins: &mut Coins) -> Result<(), Refusal> {
+fn preprocess(coins: &mut Coins) -> Result<Vec<Vec<u64>>, Refusal> {
+    let mut sheets = vec![vec![0; sheets_len(K)]; N as usize];
     for start in (0..sheets_len(K)).step_by(SHEET_LEN) {
         let mut words = vec![coins.mask()];
         words.resize_with(deal_words_len(N), || coins.coefficient());
         let bytes: Vec<u8> = (0..deal_bytes_len(N)).map(|_| coins.byte()).collect();
-        for seat in seats.iter_mut() {
-            let sheet = &mut seat.sheets[start..start + SHEET_LEN];
-            deal(N, seat.party.own, &words, &bytes, sheet)?;
+        for (own, sheets) in (1..).zip(&mut sheets) {
+            let sheet = &mut sheets[start..start + SHEET_LEN];
+            deal(N, own, &words, &bytes, sheet)?;
         }
     }
-    Ok(())
+    Ok(sheets)
 }
 
 /// Each party says its message, and each hears all of them.
-fn round(seats: &mut [Seat]) -> Result<(), Refusal> {
-    let mut messages = Vec::new();
-    for seat in seats.iter() {
-        messages.push(seat.party.say(&seat.totals, &seat.sheets)?);
-    }
-    for seat in seats.iter_mut() {
-        seat.party.hear(&seat.totals, &seat.sheets, &messages)?;
+fn round(parties: &mut [Speaking]) -> Result<(), Refusal> {
+    let messages = parties
+        .iter()
+        .map(Speaking::say)
+        .collect::<Result<Vec<_>, _>>()?;
+    for party in parties {
+        party.hear(&messages)?;
     }
     Ok(())
 }

@@ -6,12 +6,14 @@ use std::fmt;
 #[derive(Clone, Copy, Debug, PartialEq, Eq, Hash)]
 #[non_exhaustive]
 pub enum Refusal {
-    /// 1: `n`, `own` or `k` is outside its range, or a field of the record is.
+    /// 1: `n`, `own` or `k` is outside its range, or a field of the record is,
+    /// or the first word of a stored session.
     OutOfRange = 1,
     /// 2: a slice has not the length that the call states.
     WrongLength = 2,
     /// 3: a bid after the first heard round; a round when the auction is over;
-    /// the answer before it is over.
+    /// the answer before it is over; a stored session resumed as one of the
+    /// other type.
     OutOfTurn = 3,
     /// 4: 1,000 bids are held already.
     TooManyBids = 4,
@@ -86,3 +88,14 @@ impl fmt::Display for Refusal {
 }
 
 impl Error for Refusal {}
+
+/// A reply as a result.
+pub(crate) fn outcome(reply: u64) -> Result<(), Refusal> {
+    if reply == 0 {
+        return Ok(());
+    }
+    match Refusal::from_number(reply) {
+        Some(refusal) => Err(refusal),
+        None => panic!("the library replied {reply}: it is not the one that this crate is for"),
+    }
+}

@@ -2,9 +2,10 @@
 //! or the number of the [refusal](crate::Refusal), and then nothing that was
 //! lent has changed.
 //!
-//! Most callers want [`Party`](crate::Party) and the functions beside it. This
-//! module serves those who keep records as words, and tests: here a record may
-//! have any length.
+//! Most callers want [`Collecting`](crate::Collecting) and what stands beside
+//! it. This module serves those who keep records as words, and tests: here a
+//! record may have any length. Nothing here guards against the
+//! [two uses that give bids away](crate#two-uses-that-give-bids-away).
 //!
 //! It is the only module with `unsafe` in it. Each function passes every slice
 //! as its pointer and its length. The library asks nothing else of its caller:
@@ -129,7 +130,8 @@ pub fn deal(n: u64, own: u64, words: &[u64], bytes: &[u8], sheet: &mut [u64]) ->
     }
 }
 
-/// Adds a bid's shares to `totals`. Refusals 1, 2, 3, 4, 8.
+/// Adds a bid's shares to `totals`; not after a message is said. Refusals 1, 2,
+/// 3, 4, 8.
 pub fn add(record: &mut [u64], totals: &mut [u64], shares: &[u64]) -> u64 {
     unsafe {
         clockivy_add(

@@ -2,7 +2,8 @@
 
 use clockivy::{
     coins_len, deal, deal_bytes_len, deal_words_len, probe_limit, sheets_len, split, table_len,
-    threshold, Answer, Party, Refusal, MASK_LIMIT, MAX_AMOUNT, PRIME, ROUNDS, SHEET_LEN,
+    threshold, Answer, Collecting, Refusal, Speaking, MASK_LIMIT, MAX_AMOUNT, PRIME, ROUNDS,
+    SHEET_LEN,
 };
 
 /// All parties' shares of one amount, written as demand at the only price.
@@ -73,16 +74,17 @@ fn shares_wrap_around_the_prime() {
 #[test]
 fn a_round_that_lies_on_no_polynomial() {
     let mut totals = [0; 2];
-    let mut party = Party::open(5, 1, 1, &mut totals).unwrap();
+    let session = Collecting::open(5, 1, 1, &mut totals).unwrap();
     let mut sheet = [0; SHEET_LEN];
     sheet[0] = (1 << 59) + (1 << 32) - 12;
-    assert_eq!(party.say(&totals, &sheet), Ok(12));
-    let before = party.clone();
-    let mut hear = |last| party.hear(&totals, &sheet, &[12, 21, 34, 51, last]);
+    let mut party = session.speak(&totals, &sheet);
+    assert_eq!(party.say(), Ok(12));
+    let before = party.store();
+    let mut hear = |last| party.hear(&[12, 21, 34, 51, last]);
     assert_eq!(hear(73), Err(Refusal::Inconsistent));
     // These open to 7, which is consistent but no sum.
     assert_eq!(hear(72), Err(Refusal::SumOutOfRange));
-    assert_eq!(party, before);
+    assert_eq!((party.store(), party.say()), (before, Ok(12)));
 }
 
 /// One probe of three parties on the given totals and mask: the opened sum and
@@ -94,32 +96,34 @@ fn probe(demand: u64, supply: u64, mask: u64) -> (u64, bool) {
     let share = |secret: u64, coefficient: u64, own: u64| secret + coefficient * own;
     let words = [mask, 0x1234_5678];
     let bytes: Vec<u8> = (0..deal_bytes_len(n)).map(|i| (i * 89) as u8).collect();
-    let mut seats: Vec<_> = (1..=n)
+    let kept: Vec<_> = (1..=n)
         .map(|own| {
-            let mut totals = [0; 2];
-            let party = Party::open(n, own, 1, &mut totals).unwrap();
-            totals = [share(demand, 99, own), share(supply, 55, own)];
+            let totals = [share(demand, 99, own), share(supply, 55, own)];
             let mut sheet = [0; SHEET_LEN];
             deal(n, own, &words, &bytes, &mut sheet).unwrap();
-            (party, totals, sheet)
+            (totals, sheet)
+        })
+        .collect();
+    let mut parties: Vec<Speaking> = (1..)
+        .zip(&kept)
+        .map(|(own, (totals, sheet))| {
+            let session = Collecting::open(n, own, 1, &mut [0; 2]).unwrap();
+            session.speak(totals, sheet)
         })
         .collect();
     let mut sum = 0;
     for round in 1..=ROUNDS {
-        let messages: Vec<u64> = seats
-            .iter()
-            .map(|(party, totals, sheet)| party.say(totals, sheet).unwrap())
-            .collect();
-        for (party, totals, sheet) in &mut seats {
-            party.hear(totals, sheet, &messages).unwrap();
+        let messages: Vec<u64> = parties.iter().map(|party| party.say().unwrap()).collect();
+        for party in &mut parties {
+            party.hear(&messages).unwrap();
             if round == 1 {
-                sum = party.sum;
+                sum = party.record().sum;
             }
         }
     }
-    let answer = seats[0].0.answer().unwrap();
+    let answer = parties[0].answer().unwrap();
     assert_eq!(answer.probes, 1);
-    for (party, _, _) in &seats {
+    for party in &parties {
         assert_eq!(party.answer(), Ok(answer));
     }
     (sum, answer.index == 1)
@@ -169,24 +173,24 @@ fn limits_of_a_bid() {
 #[test]
 fn a_thousand_bids_and_no_more() {
     let mut totals = [0; 2];
-    let mut party = Party::open(3, 2, 1, &mut totals).unwrap();
+    let mut session = Collecting::open(3, 2, 1, &mut totals).unwrap();
     for _ in 0..1_000 {
-        party.add(&mut totals, &[2, 3]).unwrap();
+        session.add(&mut totals, &[2, 3]).unwrap();
     }
     assert_eq!(totals, [2_000, 3_000]);
-    let before = party.clone();
-    assert_eq!(party.add(&mut totals, &[2, 3]), Err(Refusal::TooManyBids));
-    assert_eq!((party, totals), (before, [2_000, 3_000]));
+    let before = session.store();
+    assert_eq!(session.add(&mut totals, &[2, 3]), Err(Refusal::TooManyBids));
+    assert_eq!((session.store(), totals), (before, [2_000, 3_000]));
 }
 
 #[test]
 fn limits_of_a_session() {
     let open = |n, own, k: u64| {
         let mut totals = vec![9; table_len(k)];
-        Party::open(n, own, k, &mut totals).map(|party| (party.to_words(), totals))
+        Collecting::open(n, own, k, &mut totals).map(|session| (session.store(), totals))
     };
     for n in 3..=9 {
-        let opened = [n, n, 1_024, 0, 0, 1_025, 0, 1, 0, 0];
+        let opened = [0, n, n, 1_024, 0, 0, 1_025, 0, 1, 0, 0];
         assert_eq!(open(n, n, 1_024), Ok((opened, vec![0; 2_048])));
         assert_eq!(open(n, n + 1, 1), Err(Refusal::OutOfRange));
         assert_eq!(open(n, 0, 1), Err(Refusal::OutOfRange));
@@ -196,24 +200,28 @@ fn limits_of_a_session() {
     assert_eq!(open(3, 1, 0), Err(Refusal::OutOfRange));
     assert_eq!(open(3, 1, 1_025), Err(Refusal::OutOfRange));
     let mut short = [9; 3];
-    assert_eq!(Party::open(3, 1, 2, &mut short), Err(Refusal::WrongLength));
+    assert_eq!(
+        Collecting::open(3, 1, 2, &mut short),
+        Err(Refusal::WrongLength)
+    );
     assert_eq!(short, [9; 3]);
 }
 
 #[test]
 fn answers_wait_for_the_end() {
-    let mut totals = [0; 2];
-    let mut party = Party::open(3, 1, 1, &mut totals).unwrap();
-    assert_eq!(party.answer(), Err(Refusal::OutOfTurn));
-    (party.lo, party.probes) = (1, 1);
-    let answer = Answer {
+    let answer = |lo, probes, carry| {
+        let stored = [1, 3, 1, 1, 0, lo, 2, probes, 1, 0, carry];
+        let party = Speaking::resume(&stored, &[], &[]).unwrap();
+        assert_eq!(party.is_over(), lo == 1);
+        party.answer()
+    };
+    assert_eq!(answer(0, 0, 0), Err(Refusal::OutOfTurn));
+    let over = Answer {
         index: 1,
         probes: 1,
     };
-    assert_eq!(party.answer(), Ok(answer));
-    assert!(party.is_over());
-    party.carry = 256;
-    assert_eq!(party.answer(), Err(Refusal::OutOfRange));
+    assert_eq!(answer(1, 1, 0), Ok(over));
+    assert_eq!(answer(1, 1, 256), Err(Refusal::OutOfRange));
 }
 
 #[test]
@@ -239,4 +247,27 @@ fn sizes() {
     );
     assert_eq!((deal_words_len(9), deal_bytes_len(9)), (5, 566));
     assert_eq!((coins_len(9, 1_024), sheets_len(1_024)), (8_192, 1_397));
+}
+
+#[test]
+fn sizes_of_any_number() {
+    const HALF: u64 = 1 << 63;
+    const MOST: u64 = u64::MAX;
+    assert_eq!([0, MOST].map(threshold), [0, (1 << 63) - 1]);
+    assert_eq!([0, HALF - 1, HALF, MOST].map(probe_limit), [0, 63, 64, 64]);
+    assert_eq!(
+        [0, HALF - 1, HALF, MOST].map(table_len),
+        [0, usize::MAX - 1, usize::MAX, usize::MAX]
+    );
+    assert_eq!([0, MOST].map(deal_words_len), [1, 1 << 63]);
+    assert_eq!([0, MOST].map(deal_bytes_len), [62, usize::MAX]);
+    assert_eq!([0, HALF, MOST].map(sheets_len), [0, 127 * 64, 127 * 64]);
+    for k in [HALF, MOST] {
+        assert_eq!(
+            [0, 3, MOST].map(|n| coins_len(n, k)),
+            [0, usize::MAX, usize::MAX]
+        );
+    }
+    assert_eq!(coins_len(MOST, 1), usize::MAX - 1);
+    assert_eq!(coins_len(MOST, 2), usize::MAX);
 }

@@ -10,7 +10,6 @@ use Rattle.refusal.specs.declared.Judgement.{Judgement}
 use Rattle.refusal.specs.declared.Judgement.the-variants.{Accepted, Refused}
 use Rattle.sharing.specs.Lists.{from}
 use Rattle.sharing.specs.Scheme.{points}
-use Rattle.search.specs.Limit.{limit}
 use Rattle.comparison.specs.Probe.{Each}
 use Rattle.party.specs.declared.record.Party.{Party}
 use Rattle.party.specs.declared.record.Heard.{Heard}
@@ -24,7 +23,7 @@ use Rattle.party.specs.Hear as hear
 use Rattle.auction.specs.Auction.{Auction}
 use Rattle.auction.specs.Coins.{Coins}
 use Rattle.auction.specs.Call.{Call, open-call, service, accepted, whose, of-party}
-use Rattle.auction.specs.Told.{returned, Seat, all-over, blank, seated, shares-for, split-for, add-by, added, deal-for, dealt, say-by, word-by, hear-by, heard, ask, from-rounds, deals, from-bids, told}
+use Rattle.auction.specs.Told.{returned, Seat, all-over, blank, seated, shares-for, split-for, add-by, added, deal-for, dealt, say-by, word-by, hear-by, heard, ask, enough-rounds, from-rounds, deals, from-bids, told}
 use Rattle.auction.specs.Run.{select, own}
 use Rattle.auction.proofs.Selected.{and-false}
 use Rattle.auction.proofs.Calls.{select-append}
@@ -133,7 +132,7 @@ module _ (j : ℕ) where
     none-bids : (bs : List (List ℕ × List (List ℕ))) (ss : List Seat) → Each Away ss → own j (from-bids a c bs ss) ≡ []
     unfolding from-bids dealt
     none-bids [] ss h =
-        none-append _ _ (none-deals ss) (none-rounds (33 * limit (a .k)) (map (dealt a c) ss) (away-map Away (dealt a c) (λ s e. e) ss h))
+        none-append _ _ (none-deals ss) (none-rounds (enough-rounds a) (map (dealt a c) ss) (away-map Away (dealt a c) (λ s e. e) ss h))
     none-bids (b ∷ bs) ss h =
         let rest = none-bids bs (map (added a c b) ss) (away-map Away (added a c b) (away-added b) ss h) in
         none-append _ _ (none-splits b ss) (none-append _ _ (none-adds b ss h) rest)

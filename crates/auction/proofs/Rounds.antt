@@ -12,7 +12,6 @@ use Rattle.refusal.specs.declared.Judgement.the-variants.{Accepted}
 use Rattle.sharing.specs.Lists.{from}
 use Rattle.sharing.specs.Scheme.{points}
 use Rattle.search.specs.Bracket.{start, over}
-use Rattle.search.specs.Limit.{limit}
 use Rattle.search.proofs.Narrowing.{over-true}
 use Rattle.party.specs.declared.record.Party.{Party}
 use Rattle.party.specs.declared.record.Answer.the-variants.{Cleared}
@@ -21,7 +20,7 @@ use Rattle.party.specs.Answer.{answer-judgement, answered, answer-reply}
 use Rattle.auction.specs.Auction.{Auction, IsAuction, clearing-answer}
 use Rattle.auction.specs.Coins.{Coins, InRange}
 use Rattle.auction.specs.Call.{Call, accepted, is-accepted, judgement, whose, of-party, given}
-use Rattle.auction.specs.Told.{ask, from-rounds}
+use Rattle.auction.specs.Told.{enough-rounds, ask, from-rounds}
 use Rattle.auction.specs.Run.{own}
 use Rattle.auction.specs.Received.{collect, bid-shares-in, hearing-in, answer-in, decision-in}
 use Rattle.auction.specs.Demands.{all-accepted}
@@ -34,7 +33,7 @@ use Rattle.auction.proofs.Search.{turns-of, turns-length, after-probes,
 
 -- all calls from the first saying on
 abbrev pub round-calls : Auction → Coins → List Call
-round-calls a c = from-rounds a c (33 * limit (a .k)) (map (seat a c (fresh-stage (start (a .k)) 0)) (points (a .n)))
+round-calls a c = from-rounds a c (enough-rounds a) (map (seat a c (fresh-stage (start (a .k)) 0)) (points (a .n)))
 
 -- ---- lists
 
@@ -106,11 +105,11 @@ module _ (a : Auction) (c : Coins) (A : IsAuction a) (C : InRange a c) where
   -- the rounds of the probes, then n askings
   pub calls-are : round-calls a c ≡ calls a c rs ++ map (λ j. ask a c (seat a c end j)) (points (a .n))
   calls-are =
-      let left : 33 * limit (a .k) ≡ length rs + (33 * limit (a .k) - length rs) = omega (arith, turns-length 0 (probes a c), probes-few a c A C) in
+      let left : enough-rounds a ≡ length rs + (enough-rounds a - length rs) = omega (arith, turns-length 0 (probes a c), probes-few a c A C) in
       ap (λ (x : ℕ). from-rounds a c x (seats a c (fresh-stage (start (a .k)) 0))) left
-      ∙ chain-rounds a c many (L .chain) (33 * limit (a .k) - length rs)
+      ∙ chain-rounds a c many (L .chain) (enough-rounds a - length rs)
       ∙ ap (λ (l : List Call). calls a c rs ++ l)
-      (from-ending a c (33 * limit (a .k) - length rs) (seats a c end) (all-done a c end (L .ended) (points (a .n)))
+      (from-ending a c (enough-rounds a - length rs) (seats a c end) (all-done a c end (L .ended) (points (a .n)))
       ∙ map-map (ask a c) (seat a c end) (points (a .n)))
 
   pub rounds-accepted : all-accepted (round-calls a c) ≡ true

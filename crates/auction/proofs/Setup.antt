@@ -9,13 +9,12 @@ use lib.ListN.{length, replicate}
 use Rattle.sharing.specs.Polynomial.{value}
 use Rattle.sharing.specs.Scheme.{threshold, points}
 use Rattle.search.specs.Bracket.{start}
-use Rattle.search.specs.Limit.{limit}
 use Rattle.comparison.specs.Probe as probe
 use Rattle.comparison.specs.Probe.{Each}
 use Rattle.auction.specs.Auction.{Auction, IsAuction}
 use Rattle.auction.specs.Coins.{Coins, InRange, flat, sheet-words, sheet-bytes}
 use Rattle.auction.specs.Call.{Call, open-call, split-call, deal-call, add-call, judgement, accepted, whose, of-party, given}
-use Rattle.auction.specs.Told.{Seat, blank, seated, split-for, add-by, added, deal-for, sheet-for, dealt, from-rounds, deals, from-bids, told}
+use Rattle.auction.specs.Told.{Seat, blank, seated, split-for, add-by, added, deal-for, sheet-for, dealt, enough-rounds, from-rounds, deals, from-bids, told}
 use Rattle.auction.specs.Run.{select, own}
 use Rattle.auction.specs.Received.{collect, bid-shares-in, hearing-in, answer-in}
 use Rattle.auction.specs.Demands.{all-accepted}
@@ -115,7 +114,7 @@ module _ {a : Auction} {c : Coins} (A : IsAuction a) (C : InRange a c) where
   -- ---- the list of calls
 
   abbrev after : List Call
-  after = from-rounds a c (33 * limit (a .k)) (map (seat a c (fresh-stage (start (a .k)) 0)) (points (a .n)))
+  after = from-rounds a c (enough-rounds a) (map (seat a c (fresh-stage (start (a .k)) 0)) (points (a .n)))
 
   deals-holding : (m : ℕ) (fs : List (List ℕ)) (js : List ℕ) → deals a c (map (holding-seat a m fs) js) ≡ deal-calls a c js
   unfolding deals deal-calls deal-for deal-at holding-seat holding
@@ -141,7 +140,7 @@ module _ {a : Auction} {c : Coins} (A : IsAuction a) (C : InRange a c) where
   from-bids-calls [] m fs B F l e =
       let e′ : m ≡ length (a .bids) = omega arith in
       ap₂ _++_ (deals-holding m fs (points (a .n)))
-      (ap (from-rounds a c (33 * limit (a .k)))
+      (ap (from-rounds a c (enough-rounds a))
       (ap₂ (λ (z : ℕ) (zs : List (List ℕ)). map (dealt a c) (map (holding-seat a z zs) (points (a .n)))) e′ e ∙ dealt-all))
   from-bids-calls (b ∷ bs) m fs B F l e =
       let rest : List Call = deal-calls a c (points (a .n)) ++ after in
@@ -156,7 +155,7 @@ module _ {a : Auction} {c : Coins} (A : IsAuction a) (C : InRange a c) where
       ∙ from-bids-calls bs (m + 1) gs (B .1) (added-held (a .k) t fs (entries (b .0) (b .1)) F (entries-held (a .k) t b (B .0))) (omega arith) e))
       ∙ sym (append-assoc splits (adds ++ bid-calls a c bs (m + 1) gs) rest ∙ ap (λ (z : List Call). splits ++ z) (append-assoc adds (bid-calls a c bs (m + 1) gs) rest))
 
-  pub told-setup : told a c ≡ setup-calls a c ++ from-rounds a c (33 * limit (a .k)) (map (seat a c (fresh-stage (start (a .k)) 0)) (points (a .n)))
+  pub told-setup : told a c ≡ setup-calls a c ++ from-rounds a c (enough-rounds a) (map (seat a c (fresh-stage (start (a .k)) 0)) (points (a .n)))
   unfolding told setup-calls open-at polynomials
   told-setup =
       let opens : List Call = map (open-at a c) (points (a .n)) in

@@ -43,6 +43,10 @@ unfoldable pub all-over : List Seat → Bool
 all-over [] = true
 all-over (s ∷ ss) = over (bracket (s .party)) && all-over ss
 
+-- P probes of 33 rounds: by then every session is over
+abbrev pub enough-rounds : Auction → ℕ
+enough-rounds a = 33 * limit (a .k)
+
 module _ (a : Auction) (c : Coins) where
   -- a slice of 2k words, to be written
   abbrev pub blank : List ℕ
@@ -121,7 +125,7 @@ module _ (a : Auction) (c : Coins) where
   deals (s ∷ ss) = map (deal-for s) (c .sheets) ++ deals ss
 
   unfoldable pub from-bids : List (List ℕ × List (List ℕ)) → List Seat → List Call
-  from-bids [] ss = deals ss ++ from-rounds (33 * limit (a .k)) (map dealt ss)
+  from-bids [] ss = deals ss ++ from-rounds (enough-rounds a) (map dealt ss)
   from-bids (b ∷ bs) ss = map (split-for b) ss ++ (map (add-by b) ss ++ from-bids bs (map (added b) ss))
 
   unfoldable pub told : List Call

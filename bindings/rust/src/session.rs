@@ -1,0 +1,293 @@
+//! A party's session, in two types: one that collects bids and one that speaks.
+//! A bid added between two messages would be given away by their difference, so
+//! the way from the one to the other is a call that takes the session.
+
+use std::fmt;
+
+use crate::record::Record;
+use crate::refusal::{outcome, Refusal};
+use crate::{words, RECORD_LEN, STORED_LEN};
+
+/// The first word of a stored session that collects.
+const COLLECTING: u64 = 0;
+/// The first word of a stored session that speaks.
+const SPEAKING: u64 = 1;
+
+/// A party's session while it collects bids. The totals are kept beside it and
+/// lent to each call. It says nothing yet: a bid added between two messages
+/// [would be given away](crate#two-uses-that-give-bids-away).
+///
+/// ```
+/// # use clockivy::Collecting;
+/// # let (mut totals, sheets) = ([0; 2], [0; 127]);
+/// let mut session = Collecting::open(3, 1, 1, &mut totals)?;
+/// session.add(&mut totals, &[5, 3])?;
+/// let speaking = session.speak(&totals, &sheets);
+/// # speaking.say()?;
+/// # Ok::<(), clockivy::Refusal>(())
+/// ```
+///
+/// A bid after [`speak`](Collecting::speak) does not compile:
+///
+/// ```compile_fail,E0382
+/// # use clockivy::Collecting;
+/// # let (mut totals, sheets) = ([0; 2], [0; 127]);
+/// let mut session = Collecting::open(3, 1, 1, &mut totals)?;
+/// let speaking = session.speak(&totals, &sheets);
+/// session.add(&mut totals, &[5, 3])?;
+/// # Ok::<(), clockivy::Refusal>(())
+/// ```
+///
+/// Nor does a copy of the session, which could collect on while the other one
+/// speaks:
+///
+/// ```compile_fail,E0599
+/// # use clockivy::Collecting;
+/// # let mut totals = [0; 2];
+/// let session = Collecting::open(3, 1, 1, &mut totals)?;
+/// let copy = session.clone();
+/// # Ok::<(), clockivy::Refusal>(())
+/// ```
+#[derive(Debug, PartialEq, Eq)]
+pub struct Collecting {
+    record: Record,
+}
+
+impl Collecting {
+    /// Opens a session and zeroes `totals`, 2k words.
+    ///
+    /// Refused: [`OutOfRange`](Refusal::OutOfRange),
+    /// [`WrongLength`](Refusal::WrongLength).
+    pub fn open(n: u64, own: u64, k: u64, totals: &mut [u64]) -> Result<Collecting, Refusal> {
+        let mut record = [0; RECORD_LEN];
+        outcome(words::open(n, own, k, totals, &mut record))?;
+        Ok(Collecting {
+            record: Record::from_words(record),
+        })
+    }
+
+    /// Adds a bid's shares to `totals`, both of 2k words, and counts the bid.
+    ///
+    /// Refused: [`OutOfRange`](Refusal::OutOfRange),
+    /// [`WrongLength`](Refusal::WrongLength),
+    /// [`OutOfTurn`](Refusal::OutOfTurn),
+    /// [`TooManyBids`](Refusal::TooManyBids),
+    /// [`ShareOutOfRange`](Refusal::ShareOutOfRange).
+    pub fn add(&mut self, totals: &mut [u64], shares: &[u64]) -> Result<(), Refusal> {
+        self.record
+            .step(|record| words::add(record, totals, shares))
+    }
+
+    /// Ends the collecting. `totals` are this session's, and `sheets` is the
+    /// party's preprocessing for all probes in turn. Both are lent for as long
+    /// as the session speaks, so that neither changes meanwhile; saying and
+    /// hearing judge them.
+    pub fn speak<'a>(self, totals: &'a [u64], sheets: &'a [u64]) -> Speaking<'a> {
+        Speaking {
+            record: self.record,
+            totals,
+            sheets,
+        }
+    }
+
+    /// Where the party stands.
+    pub fn record(&self) -> &Record {
+        &self.record
+    }
+
+    /// The session as words: 0, then the record. Store the totals along with
+    /// them. Once the session speaks, [`Speaking::store`] takes their place,
+    /// before the first message leaves.
+    pub fn store(&self) -> [u64; STORED_LEN] {
+        stored(COLLECTING, &self.record)
+    }
+
+    /// The session that was stored as these words, to go on with the totals
+    /// that were stored along with them.
+    ///
+    /// Resume only the newest session stored, and let only one go on from it.
+    /// Once the session has spoken, an older one that collects is not refused,
+    /// but a bid added to it
+    /// [is given away](crate#two-uses-that-give-bids-away).
+    ///
+    /// Refused: [`OutOfRange`](Refusal::OutOfRange) where the first word is
+    /// above 1, [`WrongLength`](Refusal::WrongLength), and
+    /// [`OutOfTurn`](Refusal::OutOfTurn) where the session speaks. The record
+    /// itself is judged by the calls on it.
+    pub fn resume(stored: &[u64]) -> Result<Collecting, Refusal> {
+        let record = resumed(COLLECTING, stored)?;
+        Ok(Collecting { record })
+    }
+}
+
+/// A party's session while it speaks: it says and hears messages, and takes no
+/// more bids. It comes of [`Collecting::speak`], or of [`Speaking::resume`] from
+/// the newest session stored: an older one
+/// [gives bids away](crate#two-uses-that-give-bids-away).
+///
+/// ```
+/// # use clockivy::Collecting;
+/// # let (mut totals, sheets) = ([0; 2], [0; 127]);
+/// # let session = Collecting::open(3, 1, 1, &mut totals)?;
+/// let speaking = session.speak(&totals, &sheets);
+/// assert_eq!(speaking.say()?, speaking.say()?);
+/// # Ok::<(), clockivy::Refusal>(())
+/// ```
+///
+/// A change of the totals in between does not compile:
+///
+/// ```compile_fail,E0506
+/// # use clockivy::Collecting;
+/// # let (mut totals, sheets) = ([0; 2], [0; 127]);
+/// # let session = Collecting::open(3, 1, 1, &mut totals)?;
+/// let speaking = session.speak(&totals, &sheets);
+/// totals[0] = 5;
+/// assert_eq!(speaking.say()?, speaking.say()?);
+/// # Ok::<(), clockivy::Refusal>(())
+/// ```
+///
+/// Nor does a copy of the session, which could hear other messages:
+///
+/// ```compile_fail,E0599
+/// # use clockivy::Collecting;
+/// # let (mut totals, sheets) = ([0; 2], [0; 127]);
+/// # let session = Collecting::open(3, 1, 1, &mut totals)?;
+/// let speaking = session.speak(&totals, &sheets);
+/// let copy = speaking.clone();
+/// # Ok::<(), clockivy::Refusal>(())
+/// ```
+#[derive(PartialEq, Eq)]
+pub struct Speaking<'a> {
+    record: Record,
+    totals: &'a [u64],
+    sheets: &'a [u64],
+}
+
+/// What an auction comes to.
+#[derive(Clone, Copy, Debug, PartialEq, Eq)]
+pub struct Answer {
+    /// The highest index at which total demand is at least total supply, or 0
+    /// where there is none.
+    pub index: u64,
+    /// The number of probes made.
+    pub probes: u64,
+}
+
+impl<'a> Speaking<'a> {
+    /// This party's message of the current round. Until the round is heard, it
+    /// is the same whenever it is said.
+    ///
+    /// Refused: [`OutOfRange`](Refusal::OutOfRange),
+    /// [`WrongLength`](Refusal::WrongLength),
+    /// [`OutOfTurn`](Refusal::OutOfTurn),
+    /// [`ShareOutOfRange`](Refusal::ShareOutOfRange).
+    pub fn say(&self) -> Result<u64, Refusal> {
+        let record = self.record.to_words();
+        let mut message = 0;
+        outcome(words::say(&record, self.totals, self.sheets, &mut message))?;
+        Ok(message)
+    }
+
+    /// Takes all parties' messages of the current round, party 1's first, and
+    /// goes on to the next round. Round 33 opens the verdict, moves `lo` or
+    /// `hi` and ends the probe.
+    ///
+    /// Refused: [`OutOfRange`](Refusal::OutOfRange),
+    /// [`WrongLength`](Refusal::WrongLength),
+    /// [`OutOfTurn`](Refusal::OutOfTurn),
+    /// [`ShareOutOfRange`](Refusal::ShareOutOfRange),
+    /// [`OwnMessageDiffers`](Refusal::OwnMessageDiffers),
+    /// [`Inconsistent`](Refusal::Inconsistent),
+    /// [`SumOutOfRange`](Refusal::SumOutOfRange),
+    /// [`VerdictNotBit`](Refusal::VerdictNotBit).
+    pub fn hear(&mut self, messages: &[u64]) -> Result<(), Refusal> {
+        self.record
+            .step(|record| words::hear(record, self.totals, self.sheets, messages))
+    }
+
+    /// The clearing index, once the auction is over.
+    ///
+    /// Refused: [`OutOfRange`](Refusal::OutOfRange),
+    /// [`OutOfTurn`](Refusal::OutOfTurn).
+    pub fn answer(&self) -> Result<Answer, Refusal> {
+        let record = self.record.to_words();
+        let (mut index, mut probes) = (0, 0);
+        outcome(words::answer(&record, &mut index, &mut probes))?;
+        Ok(Answer { index, probes })
+    }
+
+    /// Whether the search is over, so that [`answer`](Speaking::answer) answers.
+    pub fn is_over(&self) -> bool {
+        self.record.hi.wrapping_sub(self.record.lo) == 1
+    }
+
+    /// The index that the current probe asks about.
+    pub fn index(&self) -> u64 {
+        self.record.lo.midpoint(self.record.hi)
+    }
+
+    /// Where the party stands.
+    pub fn record(&self) -> &Record {
+        &self.record
+    }
+
+    /// The session as words: 1, then the record.
+    ///
+    /// Store them before the message leaves: once before the first message, and
+    /// after each hearing before the next one.
+    pub fn store(&self) -> [u64; STORED_LEN] {
+        stored(SPEAKING, &self.record)
+    }
+
+    /// The session that was stored as these words, to go on with the totals and
+    /// the sheets that it had.
+    ///
+    /// Resume only the newest session stored, and let only one go on from it.
+    /// An older one, or a second one, is not refused, but uses masks and triples
+    /// again. With other totals or messages than before that
+    /// [gives bids away](crate#two-uses-that-give-bids-away).
+    ///
+    /// Refused: [`OutOfRange`](Refusal::OutOfRange) where the first word is
+    /// above 1, [`WrongLength`](Refusal::WrongLength), and
+    /// [`OutOfTurn`](Refusal::OutOfTurn) where the session collects. The
+    /// record, the totals and the sheets are judged by the calls on them.
+    pub fn resume(
+        stored: &[u64],
+        totals: &'a [u64],
+        sheets: &'a [u64],
+    ) -> Result<Speaking<'a>, Refusal> {
+        let record = resumed(SPEAKING, stored)?;
+        Ok(Speaking {
+            record,
+            totals,
+            sheets,
+        })
+    }
+}
+
+/// Shows the record alone. The totals and the sheets are long, and secret.
+impl fmt::Debug for Speaking<'_> {
+    fn fmt(&self, f: &mut fmt::Formatter<'_>) -> fmt::Result {
+        f.debug_struct("Speaking")
+            .field("record", &self.record)
+            .finish_non_exhaustive()
+    }
+}
+
+/// A session's words.
+fn stored(phase: u64, record: &Record) -> [u64; STORED_LEN] {
+    let mut stored = [phase; STORED_LEN];
+    stored[1..].copy_from_slice(&record.to_words());
+    stored
+}
+
+/// The record in the words of a session, which has to be of this phase.
+fn resumed(phase: u64, stored: &[u64]) -> Result<Record, Refusal> {
+    let stored: [u64; STORED_LEN] = stored.try_into().map_err(|_| Refusal::WrongLength)?;
+    let [found, record @ ..] = stored;
+    match found {
+        _ if found == phase => Ok(Record::from_words(record)),
+        COLLECTING | SPEAKING => Err(Refusal::OutOfTurn),
+        _ => Err(Refusal::OutOfRange),
+    }
+}

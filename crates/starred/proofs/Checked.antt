@@ -1,0 +1,100 @@
+-- THE STARRED LINES of document 01, gathered as one list. Assumes nothing.
+use mathlib.Core.Path.{_≡_, refl, ap, _∙_}
+use mathlib.Core.Bool.{true, false, not, _&&_}
+use mathlib.Core.List.{List, [], _∷_}
+use Prim.Native.Nat.{ℕ, _+_, _-_, _*_, _^_, _<_}
+use native.Mathlib.Omega.{arith}
+use lib.Dec.{eqb}
+use lib.ListN.{getD, replicate}
+use borrow.Author.Tests.{eq-eqb}
+use Rattle.fields.specs.Amount.{p}
+use Rattle.fields.specs.Byte.{xor, xtimes, terms, product}
+use Rattle.refusal.specs.Refusal.{codeOf}
+use Rattle.refusal.specs.Judging.{judged}
+use Rattle.sharing.specs.Lists.{from, every}
+use Rattle.sharing.specs.Polynomial.{value}
+use Rattle.sharing.specs.Sizes.{party, listed, long}
+use Rattle.sharing.specs.Scheme.{amount-scheme}
+use Rattle.sharing.specs.Opening.{products, total, moments, readable, settled, opened}
+use Rattle.sharing.specs.declared.opening.Opening.the-variants.{Inconsistent}
+use Rattle.search.specs.Bracket.{middle, over}
+use Rattle.search.specs.Limit.{digits, limit}
+use Rattle.verdict.specs.Verdict.{verdict}
+use Rattle.comparison.specs.Rounds.{offset, masked}
+use Rattle.comparison.specs.Probe.{Probe}
+use Rattle.comparison.proofs.Dealt.{shared-cons}
+use Rattle.comparison.proofs.Promise as promise
+use Rattle.comparison.proofs.Promise.{sum-law, promised}
+use Rattle.party.specs.declared.record.Party.{Party}
+use Rattle.party.specs.declared.record.Said.the-variants.{Message}
+use Rattle.party.specs.Record.{sound}
+use Rattle.party.specs.Open.{fresh}
+use Rattle.party.specs.Say as saying
+use Rattle.party.specs.Say.{current, in-field, message, say-judgement, say-reply}
+use Rattle.party.specs.Hear.{heard, crooked, hear-judgement}
+use Rattle.party.proofs.Judging.{refuses, passes}
+use Rattle.party.proofs.Soundness.{sound-of}
+use Rattle.party.proofs.Laws.{says}
+use Rattle.party.proofs.Hears.{was-said, by-messages}
+use Rattle.starred.specs.Starred.{with-73, compared, Compares, Starred}
+
+-- ---- "With 73 last: refusal 10"
+
+inconsistent : opened amount-scheme 5 with-73 ≡ Inconsistent
+unfolding opened readable every settled moments products total from
+inconsistent = refl
+
+refused : (q : Party) (totals sheets : List ℕ) → q .n ≡ 5 → q .round ≡ 1
+    → say-reply q totals sheets ≡ Message (getD with-73 (q .own - 1) 0) → codeOf (hear-judgement q totals sheets with-73) ≡ 10
+unfolding heard
+refused q totals sheets n-is round-is e =
+    let s = was-said (say-judgement q totals sheets) _ _ e in
+    let whole : sound q ≡ true = sound-of q (says q totals sheets (s .0) .sound) in
+    let enough : sound q && not (long (q .n) with-73) ≡ false = rw (whole, n-is) in
+    let own : not (eqb (getD with-73 (q .own - 1) 0) (message q totals (current q sheets))) ≡ false = ap not (eq-eqb _ _ (s .1)) in
+    let crooks : crooked (heard (q .n) (q .round) with-73) ≡ true = rw (n-is, round-is, inconsistent) in
+    ap codeOf (by-messages q totals sheets with-73 enough (s .0) ∙ passes _ _ _ own ∙ refuses _ _ _ crooks)
+
+said : say-reply (fresh 5 1 1) (0 ∷ 0 ∷ []) ((offset - 12) ∷ replicate 126 0) ≡ Message 12
+unfolding say-judgement judged saying.said fresh sound party listed limit digits over middle current in-field every message masked
+said = refl
+
+-- ---- comparisons
+
+line : (demand supply mask T v : ℕ) → demand < 2 ^ 32 → supply < 2 ^ 32 → T + mask + supply ≡ 2 ^ 59 + 2 ^ 32 + demand → verdict demand supply ≡ v
+    → Compares demand supply mask T v
+line demand supply mask T v hd hs sum verdict-is t ds ss c gd gs ranged mask-is =
+    let q : Probe = compared demand supply ds ss c in
+    let h : promise.Compares t demand supply c q =
+        record {
+          demand-shared = shared-cons demand ds (omega arith) gd;
+          supply-shared = shared-cons supply ss (omega arith) gs;
+          demand-is = refl;
+          supply-is = refl;
+          demand-lt = hd;
+          supply-lt = hs;
+          ranged = ranged;
+          sheet-is = refl;
+        } in
+    (omega (arith, sum-law t demand supply c q h), promised t demand supply c q h ∙ verdict-is)
+
+-- ---- the list
+
+pub checked : Starred
+unfolding product terms xtimes xor value from opened readable every settled moments products total verdict
+checked =
+    record {
+      largest-squared = refl;
+      byte-product = refl;
+      byte-product-2 = refl;
+      five-shares = refl;
+      five-open = refl;
+      five-refused = refused;
+      five-said = said;
+      three-shares = refl;
+      three-byte-shares = refl;
+      five-against-three = line 5 3 7 (2 ^ 59 + 2 ^ 32 - 5) 1 (omega arith) (omega arith) refl refl;
+      three-against-five = line 3 5 7 (2 ^ 59 + 2 ^ 32 - 9) 0 (omega arith) (omega arith) refl refl;
+      none-against-none = line 0 0 0 (2 ^ 59 + 2 ^ 32) 1 (omega arith) (omega arith) refl refl;
+      none-against-all = line 0 (2 ^ 32 - 1) (2 ^ 58 - 1) (2 ^ 58 + 2) 0 (omega arith) (omega arith) refl refl;
+    }

@@ -1,0 +1,2 @@
+-- The starred lines of document 01, as one list.
+pub mod Starred
