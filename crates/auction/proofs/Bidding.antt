@@ -9,7 +9,7 @@ use lib.ListN.{length, replicate, length-append, length-map, length-replicate}
 use lib.Seq.{take-at, drop-at}
 use borrow.Author.Tests.{le-leb, lt-leb, lt-ltb, eq-eqb, ne-eqb}
 use Rattle.fields.specs.Amount.{p, amounts}
-use Rattle.fields.proofs.Below.{AllBelow}
+use Rattle.fields.specs.Below.{AllBelow}
 use Rattle.fields.proofs.Fields.{amount-field}
 use Rattle.refusal.specs.Judging.{judged}
 use Rattle.refusal.specs.declared.Judgement.the-variants.{Accepted}
@@ -30,7 +30,7 @@ use Rattle.party.specs.Open.{open-judgement, fresh}
 use Rattle.party.specs.Add.{add-judgement, counted, add-reply, add-left}
 use Rattle.auction.specs.Auction.{Auction, IsAuction}
 use Rattle.auction.specs.Coins.{Coins, flat}
-use Rattle.auction.specs.Told.{Seat, returned, blank, seated, shares-for, added}
+use Rattle.auction.specs.Canonical.{Seat, returned, blank, seated, shares-for, added}
 use Rattle.auction.proofs.Closed.{entries, added-polynomials, at-party, no-totals}
 use Rattle.auction.proofs.Judging.{kept-new, returned-next, is-party, is-listed, is-below}
 use Rattle.auction.proofs.Totals.{GoodBid, Held, entries-held}

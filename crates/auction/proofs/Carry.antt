@@ -9,7 +9,7 @@ use lib.Seq.{getD-drop, getD-append-seam}
 use Rattle.fields.specs.Byte.{bytes}
 use Rattle.sharing.specs.Polynomial.{value}
 use Rattle.comparison.specs.Rounds.{both}
-use Rattle.comparison.specs.Probe.{Triple, Round, Probe, round, carry-after, rounds, final-carry, opened-sum, carry-one, product-rounds, last-polynomial, messages}
+use Rattle.comparison.specs.Probe.{Triple, Round, Probe, round, carry-after, rounds, final-carry, opened-sum, carry-one, product-rounds, last-polynomial, probe-messages}
 use Rattle.comparison.proofs.Values.{Shared}
 use Rattle.comparison.proofs.Dealt.{TripleShared, ProbeShared, RoundShared, each-at, bit-at, round-shared, carry-after-shared, carry-one-shared, product-rounds-long}
 use Rattle.auction.proofs.Closed.{carry-at}
@@ -118,15 +118,15 @@ module _ (t : ℕ) (q : Probe) (h : ProbeShared t q) where
     words-long : length (map product-word (product-rounds q)) ≡ 31
     words-long = length-map (product-rounds q) product-word ∙ product-rounds-long t q h
 
-    pub product-said : (i : ℕ) → i < 31 → getD (messages q j) (suc i) 0 ≡ product-word (round-at q i)
-    unfolding messages value
+    pub product-said : (i : ℕ) → i < 31 → getD (probe-messages q j) (suc i) 0 ≡ product-word (round-at q i)
+    unfolding probe-messages value
     product-said i l =
         List·getD-append (map product-word (product-rounds q)) (value bytes (last-polynomial q) j ∷ []) 0 i (omega (arith, words-long))
         ∙ List·getD-map product-word (product-rounds q) i (record { carry = []; left = []; right = [] })
         ∙ ap product-word (product-round i (record { carry = []; left = []; right = [] }) l)
 
-    pub last-said : getD (messages q j) 32 0 ≡ value bytes (last-polynomial q) j
-    unfolding messages
+    pub last-said : getD (probe-messages q j) 32 0 ≡ value bytes (last-polynomial q) j
+    unfolding probe-messages
     last-said =
         ap (λ (k : ℕ). getD (map product-word (product-rounds q) ++ (value bytes (last-polynomial q) j ∷ [])) k 0) (sym words-long)
         ∙ getD-append-seam (map product-word (product-rounds q)) (value bytes (last-polynomial q) j) [] 0

@@ -17,7 +17,7 @@ use Rattle.comparison.specs.Probe.{Probe, secret, round, carry-after, opened-su
 use Rattle.party.specs.declared.record.Party.{Party}
 use Rattle.auction.specs.Auction.{Auction}
 use Rattle.auction.specs.Coins.{Coins, flat}
-use Rattle.auction.specs.Told.{Seat}
+use Rattle.auction.specs.Canonical.{Seat}
 
 -- ---- totals
 
@@ -85,7 +85,7 @@ made a fs b (s ∷ ss) =
 
 -- the messages of the n parties, round by round
 unfoldable pub spoken : (n : ℕ) → Probe → List (List ℕ)
-spoken n q = map (λ i. map (λ j. getD (probe.messages q j) i 0) (points n)) (from 0 33)
+spoken n q = map (λ i. map (λ j. getD (probe.probe-messages q j) i 0) (points n)) (from 0 33)
 
 -- those of these probes
 abbrev pub all-spoken : (n : ℕ) → List Made → List (List ℕ)
@@ -127,7 +127,7 @@ module _ (a : Auction) (c : Coins) where
       }
 
   unfoldable pub sheets-at : ℕ → List ℕ
-  sheets-at j = flat (map (λ s. probe.sheet-words j (probe.dealt s)) (c .sheets))
+  sheets-at j = flat (map (λ s. probe.sheet-shares j (probe.dealt s)) (c .sheets))
 
   unfoldable pub seat : Stage → ℕ → Seat
   seat σ j = record { party = record-at σ j; totals = at-party j (polynomials a c); sheets = sheets-at j }

@@ -1,4 +1,4 @@
--- Every party's call of the told list is for one of the parties 1 to n. Assumes nothing.
+-- Every party's call of the canonical list is for one of the parties 1 to n. Assumes nothing.
 use mathlib.Core.Path.{_≡_, refl, ap, _∙_}
 use mathlib.Core.Bool.{Bool, true, false}
 use mathlib.Core.List.{List, [], _∷_, _++_, map, zip}
@@ -13,7 +13,7 @@ use Rattle.sharing.specs.Scheme.{points}
 use Rattle.comparison.specs.Probe.{Each}
 use Rattle.party.specs.declared.record.Party.{Party}
 use Rattle.party.specs.declared.record.Heard.{Heard}
-use Rattle.party.specs.declared.record.Heard.the-variants.{Sum, Factors, Verdict, Crooked}
+use Rattle.party.specs.declared.record.Heard.the-variants.{Sum, Factors, Verdict, Unopened}
 use Rattle.party.specs.Record.{next-or}
 use Rattle.party.specs.Open.{fresh, open-judgement}
 use Rattle.party.specs.Add.{add-judgement, counted}
@@ -23,7 +23,7 @@ use Rattle.party.specs.Hear as hear
 use Rattle.auction.specs.Auction.{Auction}
 use Rattle.auction.specs.Coins.{Coins}
 use Rattle.auction.specs.Call.{Call, open-call, service, accepted, whose, of-party}
-use Rattle.auction.specs.Told.{returned, Seat, all-over, blank, seated, shares-for, split-for, add-by, added, deal-for, dealt, say-by, word-by, hear-by, heard, ask, enough-rounds, from-rounds, deals, from-bids, told}
+use Rattle.auction.specs.Canonical.{returned, Seat, all-over, blank, seated, shares-for, split-for, add-by, added, deal-for, dealt, say-by, word-by, hear-by, heard, ask, enough-rounds, from-rounds, deals, from-bids, canonical}
 use Rattle.auction.specs.Run.{select, own}
 use Rattle.auction.proofs.Selected.{and-false}
 use Rattle.auction.proofs.Calls.{select-append}
@@ -40,7 +40,7 @@ unfolding after
 after-own q sheet (Sum v) = refl
 after-own q sheet (Factors d e) = refl
 after-own q sheet (Verdict v) = refl
-after-own q sheet Crooked = refl
+after-own q sheet Unopened = refl
 
 -- ---- party j is none of these
 
@@ -151,9 +151,9 @@ module _ (j : ℕ) where
       unfolding whose of-party
       none-opens = none-map (λ x. eqb x j ≡ false) _ (λ x e. e) (points (a .n)) away-points
 
-      -- no call of the told list is party j's own
-      pub none-told : own j (told a c) ≡ []
-      unfolding told
+      -- no call of the canonical list is party j's own
+      pub none-told : own j (canonical a c) ≡ []
+      unfolding canonical
       none-told =
           none-append _ _ none-opens
           (none-bids (zip (a .bids) (c .bids)) (map (seated a c) (points (a .n)))

@@ -11,7 +11,7 @@ pub use Rattle.sharing.proofs.Ranges.{is-listed, is-below}
 use Rattle.party.specs.declared.record.Party.{Party}
 use Rattle.party.specs.Record.{next-or}
 use Rattle.auction.specs.Call.{Call, judgement, is-accepted, accepted}
-use Rattle.auction.specs.Told.{returned}
+use Rattle.auction.specs.Canonical.{returned}
 
 pub accepts : (c : Call) → judgement c ≡ Accepted → accepted c ≡ true
 unfolding is-accepted

@@ -21,9 +21,10 @@ pub mod Elsewhere
 pub mod Orders
 pub mod Falling
 pub mod Plain
+pub mod Matched
 pub mod SameBids
 pub mod SameSheets
 pub mod SameProbes
 pub mod Match
-pub mod Told
+pub mod Canonical
 pub mod Proved

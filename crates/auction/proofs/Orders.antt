@@ -1,4 +1,4 @@
--- What is read off any run is what is read off the told list; and which changes of a list keep it a run. Assumes nothing.
+-- What is read off any run is what is read off the canonical list; and which changes of a list keep it a run. Assumes nothing.
 use mathlib.Core.Path.{_≡_, refl, sym, ap, ap₂, _∙_}
 use mathlib.Core.Logic.{_↔_}
 use mathlib.Core.Bool.{Bool, true, false, _&&_, true≢false}
@@ -13,7 +13,7 @@ use Rattle.party.specs.declared.record.Answer.{Answer}
 use Rattle.auction.specs.Auction.{Auction}
 use Rattle.auction.specs.Coins.{Coins}
 use Rattle.auction.specs.Call.{Call, say-call, answer-call, accepted, Whose, party, service, whose, of-party, of-service, given}
-use Rattle.auction.specs.Told.{told}
+use Rattle.auction.specs.Canonical.{canonical}
 use Rattle.auction.specs.Run.{Run, Repeats, Shuffle, select, own, services}
 use Rattle.auction.specs.Received.{collect, bid-shares-in, hearing-in, answer-in, bid-shares, hearings, answers, messages, sheets, decisions, verdicts, indices, unused}
 use Rattle.auction.proofs.Selected.{and-false, with-call, select-cons, select-skip}
@@ -21,10 +21,10 @@ use Rattle.auction.proofs.Calls.{select-append}
 use Rattle.auction.proofs.Swaps.{shuffle-swap, shuffle-refl, repeats-refl, repeats-say, repeats-ask, repeats-none}
 use Rattle.auction.proofs.Elsewhere.{none-told}
 
--- ---- the told list is a run
+-- ---- the canonical list is a run
 
-pub told-run : (a : Auction) (c : Coins) → Run a c (told a c)
-told-run a c = record { parties = λ j. repeats-refl (own j (told a c)); others = shuffle-refl (services (told a c)) }
+pub canonical-run : (a : Auction) (c : Coins) → Run a c (canonical a c)
+canonical-run a c = record { parties = λ j. repeats-refl (own j (canonical a c)); others = shuffle-refl (services (canonical a c)) }
 
 -- ---- what is read off a run
 
@@ -43,30 +43,30 @@ module _ {B : Type 0} (f : Call → Option B) (no-say : (q : Party) (t s : List 
   same-reading (Repeats.ask-again {q} {ds} h) = ap (λ o. with-read o (collect f ds)) (no-ask q) ∙ same-reading h
 
 module _ (a : Auction) (c : Coins) (l : List Call) (run : Run a c l) (j : ℕ) where
-  pub run-bid-shares : bid-shares j l ≡ bid-shares j (told a c)
+  pub run-bid-shares : bid-shares j l ≡ bid-shares j (canonical a c)
   unfolding bid-shares-in
   run-bid-shares = same-reading bid-shares-in (λ q t s. refl) (λ q. refl) (run .parties j)
 
-  pub run-hearings : hearings j l ≡ hearings j (told a c)
+  pub run-hearings : hearings j l ≡ hearings j (canonical a c)
   unfolding hearing-in
   run-hearings = same-reading hearing-in (λ q t s. refl) (λ q. refl) (run .parties j)
 
-  pub run-messages : messages j l ≡ messages j (told a c)
+  pub run-messages : messages j l ≡ messages j (canonical a c)
   run-messages = rw run-hearings
 
-  pub run-sheets : sheets j l ≡ sheets j (told a c)
+  pub run-sheets : sheets j l ≡ sheets j (canonical a c)
   run-sheets = rw run-hearings
 
-  pub run-decisions : decisions j l ≡ decisions j (told a c)
+  pub run-decisions : decisions j l ≡ decisions j (canonical a c)
   run-decisions = rw run-hearings
 
-  pub run-verdicts : verdicts j l ≡ verdicts j (told a c)
+  pub run-verdicts : verdicts j l ≡ verdicts j (canonical a c)
   run-verdicts = rw run-hearings
 
-  pub run-indices : indices j l ≡ indices j (told a c)
+  pub run-indices : indices j l ≡ indices j (canonical a c)
   run-indices = rw run-hearings
 
-  pub run-unused : unused j l ≡ unused j (told a c)
+  pub run-unused : unused j l ≡ unused j (canonical a c)
   run-unused = rw run-hearings
 
 -- ---- askings repeated
@@ -102,9 +102,9 @@ more-answers (Repeats.ask-again h) x e =
     let w = more-answers h x e in
     (suc (w .0), ap₂ (λ y ys. y ∷ ys) (head-eq-of-cons-eq e) (w .1))
 
--- a party that is answered once in the told list is given the same answer once or more
+-- a party that is answered once in the canonical list is given the same answer once or more
 pub run-answers : (a : Auction) (c : Coins) (l : List Call) → Run a c l → (j : ℕ) (x : Answer)
-    → answers j (told a c) ≡ x ∷ [] → (m : ℕ) × (answers j l ≡ replicate (suc m) x)
+    → answers j (canonical a c) ≡ x ∷ [] → (m : ℕ) × (answers j l ≡ replicate (suc m) x)
 run-answers a c l run j x e = more-answers (run .parties j) x e
 
 -- ---- parties that there are not
@@ -183,7 +183,7 @@ pub swap-parties : (a : Auction) (c : Coins) (x y : Call) (l m : List Call) → 
 swap-parties a c x y l m apart r =
     record {
       parties = λ j. rw (own-swap x y l m j (apart j)) at (r .parties j);
-      others = services-swap x y l m (services (told a c)) (r .others);
+      others = services-swap x y l m (services (canonical a c)) (r .others);
     }
 
 -- two neighbours of the bidders and the dealer
@@ -209,7 +209,7 @@ module _ (a : Auction) (c : Coins) (x : Call) (l m : List Call)
       record {
         parties = λ j.
             rw (select-two (owned j) l m x x)
-            (with-twice (owned j x) (own j (told a c)) (own j l) (own j m) (rw (select-one (owned j) l m x) at (r .parties j)));
+            (with-twice (owned j x) (own j (canonical a c)) (own j l) (own j m) (rw (select-one (owned j) l m x) at (r .parties j)));
         others = rw (select-skip served x (not-served i (whose x) (accepted x) e) l (x ∷ m)) at (r .others);
       }
 

@@ -11,7 +11,7 @@ use Rattle.comparison.specs.Probe as probe
 use Rattle.comparison.specs.Probe.{Probe, secret, last-polynomial}
 use Rattle.auction.specs.Auction.{Auction, IsAuction}
 use Rattle.auction.specs.Coins.{Coins, InRange}
-use Rattle.auction.specs.Told.{from-rounds}
+use Rattle.auction.specs.Canonical.{from-rounds}
 use Rattle.auction.specs.Received.{verdict-in}
 use Rattle.auction.proofs.Closed.{polynomials, probe-at, fresh-stage, seat}
 use Rattle.auction.proofs.Round.{stage-of, words-at, Ready, first-step, first-opens, product-step, product-opens, last-step, last-opens}

@@ -5,7 +5,7 @@ use mathlib.Core.Logic.{⊎-elim}
 use Prim.Native.Nat.{ℕ, zero, suc, _*_, _≤_, _<_}
 use native.Mathlib.Omega.{arith}
 use lib.ListN.{length, drop, getD, replicate, getD-replicate}
-use Rattle.sharing.proofs.Points.{Parties}
+use Rattle.sharing.specs.Parties.{Parties}
 use Rattle.search.specs.Bracket.{start}
 use Rattle.search.specs.Limit.{limit}
 use Rattle.search.specs.Clearing.{highest, covered, clearing}
@@ -18,10 +18,10 @@ use Rattle.auction.specs.Call.{Call}
 use Rattle.auction.specs.Run.{Run}
 use Rattle.auction.specs.Received.{bid-shares, sheets, messages, decisions, verdicts, unused}
 use Rattle.auction.specs.Demands.{Outcome, Demand2, Alike, Pool, Same, Matched, Demand3}
-use Rattle.auction.specs.Matching.{match-coins}
+use Rattle.auction.proofs.Matched.{match-coins}
 use Rattle.auction.proofs.Closed.{decision, all-spoken, sheets-at, probes}
-use Rattle.auction.proofs.Orders.{told-run, run-bid-shares, run-messages, run-sheets, run-decisions, run-verdicts, run-answers}
-use Rattle.auction.proofs.Told.{told-accepted, told-bid-shares, told-messages, told-sheets, told-decisions, told-many, told-answers}
+use Rattle.auction.proofs.Orders.{canonical-run, run-bid-shares, run-messages, run-sheets, run-decisions, run-verdicts, run-answers}
+use Rattle.auction.proofs.Canonical.{canonical-accepted, canonical-bid-shares, canonical-messages, canonical-sheets, canonical-decisions, canonical-many, canonical-answers}
 use Rattle.auction.proofs.Search.{probes-trail, probes-few, probes-some}
 use Rattle.auction.proofs.SameBids.{bid-words}
 use Rattle.auction.proofs.Falling.{few-fall}
@@ -47,22 +47,22 @@ pooled n j (x ∷ xs) P m =
 
 module _ (a : Auction) (c : Coins) (A : IsAuction a) (C : InRange a c) (l : List Call) (run : Run a c l) (j : ℕ) (j1 : 1 ≤ j) (jn : j ≤ a .n) where
   bid-shares-are : bid-shares j l ≡ bid-words j (a .bids) (c .bids)
-  bid-shares-are = run-bid-shares a c l run j ∙ told-bid-shares a c A C j j1 jn
+  bid-shares-are = run-bid-shares a c l run j ∙ canonical-bid-shares a c A C j j1 jn
 
   messages-are : messages j l ≡ all-spoken (a .n) (probes a c)
-  messages-are = run-messages a c l run j ∙ told-messages a c A C j j1 jn
+  messages-are = run-messages a c l run j ∙ canonical-messages a c A C j j1 jn
 
   sheets-are : sheets j l ≡ replicate (33 * length (probes a c)) (sheets-at a c j)
-  sheets-are = run-sheets a c l run j ∙ told-sheets a c A C j j1 jn
+  sheets-are = run-sheets a c l run j ∙ canonical-sheets a c A C j j1 jn
 
   decisions-are : decisions j l ≡ map decision (probes a c)
-  decisions-are = run-decisions a c l run j ∙ told-decisions a c A C j j1 jn
+  decisions-are = run-decisions a c l run j ∙ canonical-decisions a c A C j j1 jn
 
   verdicts-are : verdicts j l ≡ map (λ d. d .1) (map decision (probes a c))
   verdicts-are = ap (map (λ d. d .1)) decisions-are
 
   many : length (verdicts j l) ≡ length (probes a c)
-  many = ap length (run-verdicts a c l run j) ∙ told-many a c A C j j1 jn
+  many = ap length (run-verdicts a c l run j) ∙ canonical-many a c A C j j1 jn
 
   unused-are : unused j l ≡ replicate (33 * length (probes a c)) (drop (127 * length (probes a c)) (sheets-at a c j))
   unused-are =
@@ -75,7 +75,7 @@ module _ (a : Auction) (c : Coins) (A : IsAuction a) (C : InRange a c) (l : List
   outcome =
       let given : ℕ → ℕ = promise (demand a) (supply a) in
       let e : decisions j l ≡ trail given (limit (a .k)) (start (a .k)) = decisions-are ∙ probes-trail a c A C in
-      let r = run-answers a c l run j (Cleared (clearing-answer a) (length (probes a c))) (told-answers a c A C j j1 jn) in
+      let r = run-answers a c l run j (Cleared (clearing-answer a) (length (probes a c))) (canonical-answers a c A C j j1 jn) in
       record {
         promised = ap (map (λ d. d .1)) e ∙ trail-given given (limit (a .k)) (start (a .k)) ∙ ap (λ ds. map given (map (λ d. d .0) ds)) (sym e);
         asked = r .0;
@@ -86,7 +86,7 @@ module _ (a : Auction) (c : Coins) (A : IsAuction a) (C : InRange a c) (l : List
 -- DEMAND 2: no call of a run is refused but those that stand between; each verdict is the promise at the true totals; each answer is
 -- the clearing answer, with as many probes as verdicts, at most P.
 pub demand-2 : (a : Auction) → IsAuction a → (c : Coins) → InRange a c → Demand2 a c
-demand-2 a A c C = record { none-refused = told-accepted a c A C; outcome = λ l run j j1 jn. outcome a c A C l run j j1 jn }
+demand-2 a A c C = record { none-refused = canonical-accepted a c A C; outcome = λ l run j j1 jn. outcome a c A C l run j j1 jn }
 
 -- "No bids gives k."
 pub no-bids : (n k : ℕ) → clearing-answer (record { n = n; k = k; bids = [] }) ≡ k
@@ -176,5 +176,5 @@ demand-3 =
     record {
       matched = λ a b A B alike pool P c C stay. matched a b A B alike pool P c C (matching a b A B alike pool P c C stay);
       few-fall = λ a b A B alike i. few-fall a b A B i;
-      runs = λ a A c C. told-run a c;
+      runs = λ a A c C. canonical-run a c;
     }

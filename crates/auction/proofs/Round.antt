@@ -22,14 +22,14 @@ use Rattle.search.specs.Limit.{limit}
 use Rattle.comparison.specs.Local.{on-shares, on-polynomials}
 use Rattle.comparison.specs.Rounds.{both, masked, first-carry, left, right, next-carry, last}
 use Rattle.comparison.specs.Probe as probe
-use Rattle.comparison.specs.Probe.{Probe, Round, secret, round, carry-after, sum-polynomial, opened-sum, carry-one, last-polynomial, messages}
+use Rattle.comparison.specs.Probe.{Probe, Round, secret, round, carry-after, sum-polynomial, opened-sum, carry-one, last-polynomial, probe-messages}
 use Rattle.comparison.proofs.Values.{Shared, secret-value, masked-value, first-carry-value, left-value, right-value, next-carry-value, last-value}
 use Rattle.comparison.proofs.Dealt.{ProbeShared, SheetShared, bit-at, sum-shared, last-polynomial-shared}
 use Rattle.comparison.proofs.Promise.{Compares, probe-shared, sum-least, sum-most, promised}
 use Rattle.party.specs.declared.record.Heard.the-variants.{Sum, Factors, Verdict}
 use Rattle.party.specs.Say.{message}
 use Rattle.party.specs.Hear as hear
-use Rattle.party.specs.Hear.{sum-of, factors-of, verdict-of, wild-sum, split-verdict, after}
+use Rattle.party.specs.Hear.{sum-of, factors-of, verdict-of, sum-outside, verdict-outside, after}
 use Rattle.party.proofs.Messages.{first-message, product-message, last-message}
 use Rattle.party.proofs.Heard.{heard-sum, heard-factors, heard-verdict}
 use Rattle.auction.specs.Auction.{Auction, IsAuction, demand, supply}
@@ -85,7 +85,7 @@ stage-of b m q (suc i) = inner-stage b m q i
 
 -- party j's word in round i + 1
 abbrev pub words-at : Probe → ℕ → ℕ → ℕ
-words-at q i j = getD (messages q j) i 0
+words-at q i j = getD (probe-messages q j) i 0
 
 -- a probe is to be made with the sheet s
 pub record Ready (a : Auction) (c : Coins) (b : Bracket) (m : ℕ) (s : probe.Coins) (ss : List probe.Coins) : Type 0 where
@@ -162,10 +162,10 @@ module _ (a : Auction) (c : Coins) (A : IsAuction a) (C : InRange a c) (b : Brac
   -- ---- round 1
 
   first-says : (j : ℕ) → 1 ≤ j → j ≤ a .n
-      → message (record-at a c (fresh-stage b m) j) (at-party j (polynomials a c)) (probe.sheet-words j (probe.dealt s)) ≡ words-at q 0 j
-  unfolding record-at probe-at sum-polynomial messages
+      → message (record-at a c (fresh-stage b m) j) (at-party j (polynomials a c)) (probe.sheet-shares j (probe.dealt s)) ≡ words-at q 0 j
+  unfolding record-at probe-at sum-polynomial probe-messages
   first-says j j1 jn =
-      first-message (record-at a c (fresh-stage b m) j) (at-party j (polynomials a c)) (probe.sheet-words j (probe.dealt s)) refl
+      first-message (record-at a c (fresh-stage b m) j) (at-party j (polynomials a c)) (probe.sheet-shares j (probe.dealt s)) refl
       ∙ masked-same (mask-word t j (probe.dealt s) sheet-shared) (demand-word a c A C (fresh-stage b m) s ss fresh-placed j j1 jn)
       (supply-word a c A C (fresh-stage b m) s ss fresh-placed j j1 jn)
       ∙ sym
@@ -173,13 +173,13 @@ module _ (a : Auction) (c : Coins) (A : IsAuction a) (C : InRange a c) (b : Brac
       (sheet-shared .mask) (demand-shared a c A C (middle b) one most) (supply-shared a c A C (middle b) one most) (omega (arith, A .n-most)))
 
   pub first-opens : hear.heard (a .n) 1 (map (words-at q 0) (points (a .n))) ≡ Sum T
-  unfolding messages
+  unfolding probe-messages
   first-opens =
       heard-sum (a .n) 1 (map (words-at q 0) (points (a .n))) refl
       ∙ ap sum-of (amount-opens (a .n) (sum-polynomial q) (A .n-least) (A .n-most) (sum-shared t q shared))
 
   first-carry-is : (j : ℕ) → 1 ≤ j → j ≤ a .n
-      → value bytes (carry-at q 0) j ≡ first-carry (on-shares bytes) T (getD (probe.sheet-words j (probe.dealt s)) 1 0)
+      → value bytes (carry-at q 0) j ≡ first-carry (on-shares bytes) T (getD (probe.sheet-shares j (probe.dealt s)) 1 0)
   unfolding carry-one probe-at
   first-carry-is j j1 jn =
       ap (λ (x : List ℕ). value bytes x j) (carry-first q)
@@ -187,11 +187,11 @@ module _ (a : Auction) (c : Coins) (A : IsAuction a) (C : InRange a c) (b : Brac
       ∙ ap (first-carry (on-shares bytes) T) (sym (bit-word t j (probe.dealt s) sheet-shared 0 (omega arith)))
 
   first-turns : (j : ℕ) → 1 ≤ j → j ≤ a .n
-      → after (record-at a c (fresh-stage b m) j) (probe.sheet-words j (probe.dealt s)) (Sum T) ≡ record-at a c (inner-stage b m q 0) j
+      → after (record-at a c (fresh-stage b m) j) (probe.sheet-shares j (probe.dealt s)) (Sum T) ≡ record-at a c (inner-stage b m q 0) j
   unfolding record-at after
   first-turns j j1 jn = rw (first-carry-is j j1 jn)
 
-  tame : wild-sum (Sum T) ≡ false
+  tame : sum-outside (Sum T) ≡ false
   tame = rw (le-leb (2 ^ 58 + 2) T least-sum, le-leb T (2 ^ 59 + 2 ^ 33 - 1) most-sum)
 
   pub first-step : Step a c (fresh-stage b m) (inner-stage b m q 0) (words-at q 0)
@@ -209,7 +209,7 @@ module _ (a : Auction) (c : Coins) (A : IsAuction a) (C : InRange a c) (b : Brac
 
     module _ (j : ℕ) (j1 : 1 ≤ j) (jn : j ≤ a .n) where
       abbrev W : List ℕ
-      W = probe.sheet-words j (probe.dealt s)
+      W = probe.sheet-shares j (probe.dealt s)
 
       bit-here : getD W (i + 2) 0 ≡ value bytes (getD (probe.dealt s .bits) (i + 1) []) j
       bit-here =
@@ -297,10 +297,10 @@ module _ (a : Auction) (c : Coins) (A : IsAuction a) (C : InRange a c) (b : Brac
   -- ---- round 33
 
   module _ (j : ℕ) (j1 : 1 ≤ j) (jn : j ≤ a .n) where
-    last-says : message (record-at a c (inner-stage b m q 31) j) (at-party j (polynomials a c)) (probe.sheet-words j (probe.dealt s)) ≡ words-at q 32 j
+    last-says : message (record-at a c (inner-stage b m q 31) j) (at-party j (polynomials a c)) (probe.sheet-shares j (probe.dealt s)) ≡ words-at q 32 j
     unfolding record-at last-polynomial probe-at
     last-says =
-        last-message (record-at a c (inner-stage b m q 31) j) (at-party j (polynomials a c)) (probe.sheet-words j (probe.dealt s)) refl
+        last-message (record-at a c (inner-stage b m q 31) j) (at-party j (polynomials a c)) (probe.sheet-shares j (probe.dealt s)) refl
         ∙ ap (λ (x : ℕ). last (on-shares bytes) T x (value bytes (carry-at q 31) j)) (bit-word t j (probe.dealt s) sheet-shared 32 (omega arith))
         ∙ sym
         (last-value T 33 t j (omega (arith, A .n-most)) (getD (probe.dealt s .bits) 32 []) (carry-at q 31)
@@ -308,7 +308,7 @@ module _ (a : Auction) (c : Coins) (A : IsAuction a) (C : InRange a c) (b : Brac
         ∙ ap (λ (x : List ℕ). value bytes (last (on-polynomials bytes) T (getD (probe.dealt s .bits) 32 []) x) j) (sym (last-carry t q shared))
         ∙ sym (last-said t q shared j)
 
-    last-turns : after (record-at a c (inner-stage b m q 31) j) (probe.sheet-words j (probe.dealt s)) (Verdict (secret (last-polynomial q)))
+    last-turns : after (record-at a c (inner-stage b m q 31) j) (probe.sheet-shares j (probe.dealt s)) (Verdict (secret (last-polynomial q)))
         ≡ record-at a c (fresh-stage (step b (secret (last-polynomial q))) (suc m)) j
     unfolding record-at after value
     last-turns = rw add-one
@@ -323,7 +323,7 @@ module _ (a : Auction) (c : Coins) (A : IsAuction a) (C : InRange a c) (b : Brac
   pub verdict-is : secret (last-polynomial q) ≡ verdict (demand a (middle b)) (supply a (middle b))
   verdict-is = promised t (demand a (middle b)) (supply a (middle b)) s q comparing
 
-  a-bit : split-verdict (Verdict (secret (last-polynomial q))) ≡ false
+  a-bit : verdict-outside (Verdict (secret (last-polynomial q))) ≡ false
   a-bit = le-ltb 1 (secret (last-polynomial q)) (rw verdict-is (verdict-most (demand a (middle b)) (supply a (middle b))))
 
   pub last-step : Step a c (inner-stage b m q 31) (fresh-stage (step b (secret (last-polynomial q))) (suc m)) (words-at q 32)

@@ -20,7 +20,7 @@ use Rattle.party.specs.Answer.{answer-judgement, answered, answer-reply}
 use Rattle.auction.specs.Auction.{Auction, IsAuction, clearing-answer}
 use Rattle.auction.specs.Coins.{Coins, InRange}
 use Rattle.auction.specs.Call.{Call, accepted, is-accepted, judgement, whose, of-party, given}
-use Rattle.auction.specs.Told.{enough-rounds, ask, from-rounds}
+use Rattle.auction.specs.Canonical.{enough-rounds, ask, from-rounds}
 use Rattle.auction.specs.Run.{own}
 use Rattle.auction.specs.Received.{collect, bid-shares-in, hearing-in, answer-in, decision-in}
 use Rattle.auction.specs.Demands.{all-accepted}

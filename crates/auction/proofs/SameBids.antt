@@ -10,7 +10,7 @@ use lib.Dec.{leb}
 use lib.ListN.{length, getD, List·getD-map}
 use borrow.Author.Tests.{leb-true}
 use Rattle.fields.specs.Amount.{p, amounts}
-use Rattle.fields.proofs.Below.{AllBelow}
+use Rattle.fields.specs.Below.{AllBelow}
 use Rattle.fields.proofs.Fields.{amount-field}
 use Rattle.sharing.specs.Lists.{every}
 use Rattle.sharing.specs.Polynomial.{value, shares}
@@ -23,7 +23,7 @@ use Rattle.comparison.proofs.Agreement.{In, map-same, alike-recolour, recolour-
 use Rattle.comparison.proofs.Only.{coefficients-only}
 use Rattle.bid.specs.Table.{most}
 use Rattle.auction.specs.Auction.{GoodTable}
-use Rattle.auction.specs.Matching.{matched-groups, matched-bids}
+use Rattle.auction.proofs.Matched.{matched-groups, matched-bids}
 use Rattle.auction.proofs.Closed.{entries, added-polynomials, totals-after, at-party}
 use Rattle.auction.proofs.Totals.{GoodBid, Held, entries-held, added-held}
 

@@ -13,7 +13,7 @@ use borrow.Author.Tests.{leb-true, ltb-true}
 use Rattle.fields.specs.Amount.{amounts}
 use Rattle.sharing.specs.Polynomial.{shares}
 use Rattle.sharing.specs.Scheme.{threshold}
-use Rattle.sharing.proofs.Points.{Parties}
+use Rattle.sharing.specs.Parties.{Parties}
 use Rattle.sharing.proofs.Terms.{and-left, and-right}
 use Rattle.verdict.specs.Verdict.{verdict}
 use Rattle.search.specs.declared.Bracket.{Bracket}
@@ -21,8 +21,8 @@ use Rattle.search.specs.Bracket.{middle, over, step}
 use Rattle.search.specs.Search.{promise, trail}
 use Rattle.search.proofs.Narrowing.{Encloses, encloses-step, over-false, middle-above, middle-below}
 use Rattle.comparison.specs.Probe as probe
-use Rattle.comparison.specs.Probe.{Each, Probe, InRange, sheet-words, dealt, messages, secret, opened-sum, last-polynomial}
-use Rattle.comparison.specs.Matching.{moved, matched}
+use Rattle.comparison.specs.Probe.{Each, Probe, InRange, sheet-shares, dealt, probe-messages, secret, opened-sum, last-polynomial}
+use Rattle.comparison.proofs.Matched.{moved, matched}
 use Rattle.comparison.proofs.Promise.{Compares, probe-shared, sum-law, promised}
 use Rattle.comparison.proofs.Agreement.{In, map-same, same-map}
 use Rattle.comparison.proofs.Hiding.{Other, Matches, hides}
@@ -30,7 +30,7 @@ use Rattle.search.proofs.Trails.{trail-over, trail-going}
 use Rattle.auction.specs.Auction.{Auction, demand, supply}
 use Rattle.auction.specs.Coins.{flat}
 use Rattle.auction.specs.Demands.{stays}
-use Rattle.auction.specs.Matching.{opening, matched-sheet, matched-sheets}
+use Rattle.auction.proofs.Matched.{opening, matched-sheet, matched-sheets}
 use Rattle.auction.proofs.Closed.{probe-at, Made, made, spoken}
 use Rattle.auction.proofs.SameSheets.{append-parts, words-long, sheet-fixed, spoken-long, spoken-heard}
 
@@ -41,8 +41,8 @@ abbrev probing-at : Auction → List (List ℕ) → Bracket → probe.Coins → 
 probing-at a fs br s = record { bracket = br; probe = probe-at a fs (middle br) s }
 
 -- and its verdict
-abbrev told-at : Auction → List (List ℕ) → Bracket → probe.Coins → ℕ
-told-at a fs br s = secret (last-polynomial (probe-at a fs (middle br) s))
+abbrev canonical-at : Auction → List (List ℕ) → Bracket → probe.Coins → ℕ
+canonical-at a fs br s = secret (last-polynomial (probe-at a fs (middle br) s))
 
 module _ (a : Auction) (fs : List (List ℕ)) (br : Bracket) where
   made-none : made a fs br [] ≡ []
@@ -54,7 +54,7 @@ module _ (a : Auction) (fs : List (List ℕ)) (br : Bracket) where
   made-over [] e = refl
   made-over (s ∷ ss) e = rw (e, made)
 
-  made-going : (s : probe.Coins) (ss : List probe.Coins) {next : Bracket} → over br ≡ false → step br (told-at a fs br s) ≡ next
+  made-going : (s : probe.Coins) (ss : List probe.Coins) {next : Bracket} → over br ≡ false → step br (canonical-at a fs br s) ≡ next
       → made a fs br (s ∷ ss) ≡ probing-at a fs br s ∷ made a fs next ss
   unfolding made
   made-going s ss {next} o e = rw (o, made) (ap (λ (z : Bracket). probing-at a fs br s ∷ made a fs z ss) e)
@@ -88,11 +88,11 @@ pub record Pair (n k : ℕ) (bids bids′ : List (List ℕ)) (xs : List ℕ) (fs
   pub most : i ≤ k
   pub ranged : InRange (threshold n) s
   pub ranged′ : InRange (threshold n) s′
-  pub words : (x : ℕ) → In x xs → sheet-words x (dealt s′) ≡ sheet-words x (dealt s)
-  pub said : (j : ℕ) → messages (probe-at (auction n k bids′) fs′ i s′) j ≡ messages (probe-at (auction n k bids) fs i s) j
+  pub words : (x : ℕ) → In x xs → sheet-shares x (dealt s′) ≡ sheet-shares x (dealt s)
+  pub said : (j : ℕ) → probe-messages (probe-at (auction n k bids′) fs′ i s′) j ≡ probe-messages (probe-at (auction n k bids) fs i s) j
   pub same : secret (last-polynomial (probe-at (auction n k bids′) fs′ i s′)) ≡ secret (last-polynomial (probe-at (auction n k bids) fs i s))
-  pub only : (e : probe.Coins) → InRange (threshold n) e → ((x : ℕ) → In x xs → sheet-words x (dealt e) ≡ sheet-words x (dealt s))
-      → ((j : ℕ) → 1 ≤ j → j ≤ n → messages (probe-at (auction n k bids′) fs′ i e) j ≡ messages (probe-at (auction n k bids) fs i s) j)
+  pub only : (e : probe.Coins) → InRange (threshold n) e → ((x : ℕ) → In x xs → sheet-shares x (dealt e) ≡ sheet-shares x (dealt s))
+      → ((j : ℕ) → 1 ≤ j → j ≤ n → probe-messages (probe-at (auction n k bids′) fs′ i e) j ≡ probe-messages (probe-at (auction n k bids) fs i s) j)
       → e ≡ s′
 
 -- the sheets of two searches from the same bracket on
@@ -100,7 +100,7 @@ pub data Course (n k : ℕ) (bids bids′ : List (List ℕ)) (xs : List ℕ) (fs
   none : {br : Bracket} → Course n k bids bids′ xs fs fs′ br [] []
   ended : {br : Bracket} {ss : List probe.Coins} → over br ≡ true → Each (InRange (threshold n)) ss → Course n k bids bids′ xs fs fs′ br ss ss
   probing : {br next : Bracket} {s s′ : probe.Coins} {ss ss′ : List probe.Coins} → over br ≡ false
-      → Pair n k bids bids′ xs fs fs′ (middle br) s s′ → step br (told-at (auction n k bids) fs br s) ≡ next
+      → Pair n k bids bids′ xs fs fs′ (middle br) s s′ → step br (canonical-at (auction n k bids) fs br s) ≡ next
       → Course n k bids bids′ xs fs fs′ next ss ss′ → Course n k bids bids′ xs fs fs′ br (s ∷ ss) (s′ ∷ ss′)
 
 -- what a probe opens, as a difference
@@ -170,10 +170,10 @@ module _ {n k : ℕ} {bids bids′ : List (List ℕ)} {xs : List ℕ} {fs fs′ 
           most = hi;
           ranged = h;
           ranged′ = M .ranged;
-          words = same-map (λ x. sheet-words x (dealt (matched-sheet a b xs i s))) (λ x. sheet-words x (dealt s)) xs (M .same-words);
+          words = same-map (λ x. sheet-shares x (dealt (matched-sheet a b xs i s))) (λ x. sheet-shares x (dealt s)) xs (M .same-words);
           said = M .same-messages;
           same = M .same-verdict;
-          only = λ e he w said. M .only e he (map-same (λ x. sheet-words x (dealt e)) (λ x. sheet-words x (dealt s)) xs w) said;
+          only = λ e he w said. M .only e he (map-same (λ x. sheet-shares x (dealt e)) (λ x. sheet-shares x (dealt s)) xs w) said;
         }
 
   -- ---- the matching sheets
@@ -222,14 +222,14 @@ module _ {n k : ℕ} {bids bids′ : List (List ℕ)} {xs : List ℕ} {fs fs′ 
 
 -- party j's words of a list of sheets, sheet by sheet
 abbrev pub words-of : ℕ → List probe.Coins → List (List ℕ)
-words-of j ss = map (λ s. sheet-words j (dealt s)) ss
+words-of j ss = map (λ s. sheet-shares j (dealt s)) ss
 
 -- without the sheets of m + 1 probes
 drop-words : (t j m : ℕ) {m′ : ℕ} (s : probe.Coins) (ss : List probe.Coins) → InRange t s → m′ ≡ suc m
     → drop (127 * m′) (flat (words-of j (s ∷ ss))) ≡ drop (127 * m) (flat (words-of j ss))
 unfolding flat
 drop-words t j m {m′} s ss h l =
-    let w : List ℕ = sheet-words j (dealt s) in
+    let w : List ℕ = sheet-shares j (dealt s) in
     let e : 127 * m′ ≡ length w + 127 * m = omega (arith, words-long t j s h) in
     ap (λ (z : ℕ). drop z (w ++ flat (words-of j ss))) e ∙ drop-append-add w (flat (words-of j ss)) (127 * m)
 
@@ -280,10 +280,10 @@ module _ {n k : ℕ} {bids bids′ : List (List ℕ)} {xs : List ℕ} {fs fs′ 
 module _ (n t : ℕ) (more : t < n) (most : n ≤ 9) where
   words-parts : (j : ℕ) (s u : probe.Coins) (ss us : List probe.Coins) → InRange t s → InRange t u
       → flat (words-of j (u ∷ us)) ≡ flat (words-of j (s ∷ ss))
-      → (sheet-words j (dealt u) ≡ sheet-words j (dealt s)) × (flat (words-of j us) ≡ flat (words-of j ss))
+      → (sheet-shares j (dealt u) ≡ sheet-shares j (dealt s)) × (flat (words-of j us) ≡ flat (words-of j ss))
   unfolding flat
   words-parts j s u ss us h k e =
-      append-parts (sheet-words j (dealt u)) (sheet-words j (dealt s)) (flat (words-of j us)) (flat (words-of j ss))
+      append-parts (sheet-shares j (dealt u)) (sheet-shares j (dealt s)) (flat (words-of j us)) (flat (words-of j ss))
       (words-long t j u k ∙ sym (words-long t j s h)) e
 
   sheets-fixed : (ss us : List probe.Coins) → Each (InRange t) ss → Each (InRange t) us → length us ≡ length ss
@@ -297,7 +297,7 @@ module _ (n t : ℕ) (more : t < n) (most : n ≤ 9) where
       (sheets-fixed ss us (h .1) (k .1) (suc-inj l) (λ j h1 hn. words-parts j s u ss us (h .0) (k .0) (w j h1 hn) .1))
 
 module _ {n k : ℕ} {bids bids′ : List (List ℕ)} {xs : List ℕ} {fs fs′ : List (List ℕ)} (S : Setting n k bids bids′ xs fs fs′) where
-  -- the messages of all probes, round by round
+  -- the probe-messages of all probes, round by round
   abbrev all-said : List Made → List (List ℕ)
   all-said ds = flatten (map (λ d. spoken n (d .probe)) ds)
 
@@ -331,15 +331,15 @@ module _ {n k : ℕ} {bids bids′ : List (List ℕ)} {xs : List ℕ} {fs fs′ 
       let m : ℕ = length (made a fs next ss) in
       let one : length (made a fs br (s ∷ ss)) ≡ suc m = ap length (made-going a fs br s ss o n′) in
       let parts : (spoken n (probe-at b fs′ i u) ≡ spoken n (probe-at a fs i s))
-      × (all-said (made b fs′ (step br (told-at b fs′ br u)) us) ≡ all-said (made a fs next ss)) =
-      said-parts (probe-at a fs i s) (probe-at b fs′ i u) (made a fs next ss) (made b fs′ (step br (told-at b fs′ br u)) us) br br
+      × (all-said (made b fs′ (step br (canonical-at b fs′ br u)) us) ≡ all-said (made a fs next ss)) =
+      said-parts (probe-at a fs i s) (probe-at b fs′ i u) (made a fs next ss) (made b fs′ (step br (canonical-at b fs′ br u)) us) br br
       (ap all-said (sym (made-going b fs′ br u us o refl)) ∙ e ∙ ap all-said (made-going a fs br s ss o n′)) in
       let same : u ≡ s′ =
       P .only u (h .0) (λ x m. words-parts n t (S .more) (S .at-most) x s u ss us (P .ranged) (h .0) (w x m) .0)
       (spoken-heard n t (probe-at a fs i s) (probe-at b fs′ i u)
       (probe-shared t (demand a i) (supply a i) s (probe-at a fs i s) (S .first i (P .least) (P .most) s (P .ranged)))
       (probe-shared t (demand b i) (supply b i) u (probe-at b fs′ i u) (S .second i (P .least) (P .most) u (h .0))) (parts .0)) in
-      let on : step br (told-at b fs′ br u) ≡ next = ap (λ (z : probe.Coins). step br (told-at b fs′ br z)) same ∙ ap (step br) (P .same) ∙ n′ in
+      let on : step br (canonical-at b fs′ br u) ≡ next = ap (λ (z : probe.Coins). step br (canonical-at b fs′ br z)) same ∙ ap (step br) (P .same) ∙ n′ in
       ap₂ (λ (z : probe.Coins) (zs : List probe.Coins). z ∷ zs) same
       (sheets-only C us (suc-inj l) (h .1) (λ x m. words-parts n t (S .more) (S .at-most) x s u ss us (P .ranged) (h .0) (w x m) .1)
       (λ j h1 hn. sym (drop-words t j m u us (h .0) one) ∙ v j h1 hn ∙ drop-words t j m s ss (P .ranged) one)

@@ -1,4 +1,4 @@
--- A sheet is 127 words a party, and the words of all n parties fix its coins; a probe is 33 messages a party, read round by round.
+-- A sheet is 127 words a party, and the words of all n parties fix its coins; a probe is 33 probe-messages a party, read round by round.
 -- Assumes nothing.
 use mathlib.Core.Path.{_≡_, refl, sym, ap, ap₂, fun-ext, _∙_}
 use mathlib.Core.List.{List, [], _∷_, _++_, map, head-eq-of-cons-eq, tail-eq-of-cons-eq, List·Memᴰ·head, List·Memᴰ·tail}
@@ -16,7 +16,7 @@ use Rattle.sharing.specs.Scheme.{points}
 use Rattle.sharing.proofs.Rows.{length-from}
 use Rattle.fields.specs.Bits.{bit}
 use Rattle.comparison.specs.Rounds.{both}
-use Rattle.comparison.specs.Probe.{Triple, Sheet, TripleCoins, Coins, Group, Each, TripleInRange, InRange, Probe, bit-polynomials, triple-polynomials, dealt, triple-words, sheet-words, messages, product-rounds, last-polynomial}
+use Rattle.comparison.specs.Probe.{Triple, Sheet, TripleCoins, Coins, Group, Each, TripleInRange, InRange, Probe, bit-polynomials, triple-polynomials, dealt, triple-words, sheet-shares, probe-messages, product-rounds, last-polynomial}
 use Rattle.comparison.proofs.Values.{bit-byte}
 use Rattle.comparison.proofs.Dealt.{SheetShared, ProbeShared, TripleShared, shared-cons, triple-polynomials-shared, bit-polynomials-length, dealt-shared, product-rounds-long}
 use Rattle.comparison.proofs.Agreement.{In, same-map, heard}
@@ -46,9 +46,9 @@ unfolding triple-words
 triple-words-long j [] = refl
 triple-words-long j (t ∷ ts) = omega (arith, triple-words-long j ts)
 
-sheet-words-long : (t j : ℕ) (s : Sheet (List ℕ)) → SheetShared t s → length (sheet-words j s) ≡ 127
-unfolding sheet-words
-sheet-words-long t j s h =
+sheet-shares-long : (t j : ℕ) (s : Sheet (List ℕ)) → SheetShared t s → length (sheet-shares j s) ≡ 127
+unfolding sheet-shares
+sheet-shares-long t j s h =
     omega (
       arith,
       length-append (map (λ b. value bytes b j) (s .bits)) (triple-words j (s .triples)),
@@ -58,8 +58,8 @@ sheet-words-long t j s h =
       h .triples-long,
     )
 
-pub words-long : (t j : ℕ) (c : Coins) → InRange t c → length (sheet-words j (dealt c)) ≡ 127
-words-long t j c h = sheet-words-long t j (dealt c) (dealt-shared t c h)
+pub words-long : (t j : ℕ) (c : Coins) → InRange t c → length (sheet-shares j (dealt c)) ≡ 127
+words-long t j c h = sheet-shares-long t j (dealt c) (dealt-shared t c h)
 
 -- ---- the words of all n parties fix the coins
 
@@ -117,9 +117,9 @@ module _ (n t : ℕ) (more : t < n) (most : n ≤ 9) where
       (triples-fixed cs cs′ (h .1) (h′ .1) (suc-inj l) (λ j h1 hn. tail-eq-of-cons-eq (tail-eq-of-cons-eq (tail-eq-of-cons-eq (w j h1 hn)))))
 
   module _ (c c′ : Coins) (h : InRange t c) (h′ : InRange t c′)
-      (w : (j : ℕ) → 1 ≤ j → j ≤ n → sheet-words j (dealt c′) ≡ sheet-words j (dealt c)) where
+      (w : (j : ℕ) → 1 ≤ j → j ≤ n → sheet-shares j (dealt c′) ≡ sheet-shares j (dealt c)) where
     mask-fixed : c′ .mask ∷ c′ .of-mask ≡ c .mask ∷ c .of-mask
-    unfolding sheet-words dealt
+    unfolding sheet-shares dealt
     mask-fixed =
         heard amount-field t n (c′ .mask ∷ c′ .of-mask) (c .mask ∷ c .of-mask) more most
         (shared-cons (c′ .mask) (c′ .of-mask) (omega (arith, h′ .mask)) (h′ .of-mask)) (shared-cons (c .mask) (c .of-mask) (omega (arith, h .mask)) (h .of-mask))
@@ -128,7 +128,7 @@ module _ (n t : ℕ) (more : t < n) (most : n ≤ 9) where
     later : (j : ℕ) → 1 ≤ j → j ≤ n
         → (map (λ b. value bytes b j) (bit-polynomials 1 (c′ .mask) (c′ .of-bits)) ≡ map (λ b. value bytes b j) (bit-polynomials 1 (c .mask) (c .of-bits)))
         × (triple-words j (map triple-polynomials (c′ .triples)) ≡ triple-words j (map triple-polynomials (c .triples)))
-    unfolding sheet-words dealt
+    unfolding sheet-shares dealt
     later j h1 hn =
         let bs : List (List ℕ) = bit-polynomials 1 (c .mask) (c .of-bits) in
         let bs′ : List (List ℕ) = bit-polynomials 1 (c′ .mask) (c′ .of-bits) in
@@ -152,11 +152,11 @@ module _ (n t : ℕ) (more : t < n) (most : n ≤ 9) where
           triples = triples k;
         }
 
--- ---- 33 messages
+-- ---- 33 probe-messages
 
-messages-long : (t : ℕ) (q : Probe) → ProbeShared t q → (j : ℕ) → length (messages q j) ≡ 33
-unfolding messages
-messages-long t q h j =
+probe-messages-long : (t : ℕ) (q : Probe) → ProbeShared t q → (j : ℕ) → length (probe-messages q j) ≡ 33
+unfolding probe-messages
+probe-messages-long t q h j =
     let words : List ℕ = map (λ r. both (value bytes (r .left) j) (value bytes (r .right) j)) (product-rounds q) in
     omega (
       arith,
@@ -167,19 +167,19 @@ messages-long t q h j =
 
 pub spoken-long : (n : ℕ) (q : Probe) → length (spoken n q) ≡ 33
 unfolding spoken
-spoken-long n q = length-map (from 0 33) (λ i. map (λ j. getD (messages q j) i 0) (points n)) ∙ length-from 0 33
+spoken-long n q = length-map (from 0 33) (λ i. map (λ j. getD (probe-messages q j) i 0) (points n)) ∙ length-from 0 33
 
-pub spoken-same : (n : ℕ) (q q′ : Probe) → ((j : ℕ) → messages q′ j ≡ messages q j) → spoken n q′ ≡ spoken n q
+pub spoken-same : (n : ℕ) (q q′ : Probe) → ((j : ℕ) → probe-messages q′ j ≡ probe-messages q j) → spoken n q′ ≡ spoken n q
 unfolding spoken
 spoken-same n q q′ h = ap (λ (f : ℕ → List ℕ). map (λ i. map (λ j. getD (f j) i 0) (points n)) (from 0 33)) (fun-ext h)
 
 pub spoken-heard : (n t : ℕ) (q q′ : Probe) → ProbeShared t q → ProbeShared t q′ → spoken n q′ ≡ spoken n q
-    → (j : ℕ) → 1 ≤ j → j ≤ n → messages q′ j ≡ messages q j
+    → (j : ℕ) → 1 ≤ j → j ≤ n → probe-messages q′ j ≡ probe-messages q j
 unfolding spoken
 spoken-heard n t q q′ h h′ e j h1 hn =
-    ext-getD 0 (messages q′ j) (messages q j) (messages-long t q′ h′ j ∙ sym (messages-long t q h j))
+    ext-getD 0 (probe-messages q′ j) (probe-messages q j) (probe-messages-long t q′ h′ j ∙ sym (probe-messages-long t q h j))
     (λ i l.
-    same-map (λ m. getD (messages q′ m) i 0) (λ m. getD (messages q m) i 0) (points n)
-    (same-map (λ m. map (λ x. getD (messages q′ x) m 0) (points n)) (λ m. map (λ x. getD (messages q x) m 0) (points n)) (from 0 33) e i
-    (from-in 0 33 i (omega arith) (omega (arith, messages-long t q′ h′ j))))
+    same-map (λ m. getD (probe-messages q′ m) i 0) (λ m. getD (probe-messages q m) i 0) (points n)
+    (same-map (λ m. map (λ x. getD (probe-messages q′ x) m 0) (points n)) (λ m. map (λ x. getD (probe-messages q x) m 0) (points n)) (from 0 33) e i
+    (from-in 0 33 i (omega arith) (omega (arith, probe-messages-long t q′ h′ j))))
     j (from-in 1 n j h1 (omega arith)))

@@ -12,9 +12,9 @@ use Rattle.search.specs.Bracket.{start}
 use Rattle.comparison.specs.Probe as probe
 use Rattle.comparison.specs.Probe.{Each}
 use Rattle.auction.specs.Auction.{Auction, IsAuction}
-use Rattle.auction.specs.Coins.{Coins, InRange, flat, sheet-words, sheet-bytes}
+use Rattle.auction.specs.Coins.{Coins, InRange, flat, drawn-words, drawn-bytes}
 use Rattle.auction.specs.Call.{Call, open-call, split-call, deal-call, add-call, judgement, accepted, whose, of-party, given}
-use Rattle.auction.specs.Told.{Seat, blank, seated, split-for, add-by, added, deal-for, sheet-for, dealt, enough-rounds, from-rounds, deals, from-bids, told}
+use Rattle.auction.specs.Canonical.{Seat, blank, seated, split-for, add-by, added, deal-for, sheet-for, dealt, enough-rounds, from-rounds, deals, from-bids, canonical}
 use Rattle.auction.specs.Run.{select, own}
 use Rattle.auction.specs.Received.{collect, bid-shares-in, hearing-in, answer-in}
 use Rattle.auction.specs.Demands.{all-accepted}
@@ -44,7 +44,7 @@ module _ (a : Auction) (c : Coins) where
   add-at b m fs j = add-call (holding (a .n) (a .k) m j) (at-party j fs) (at-party j (entries (b .0) (b .1)))
 
   unfoldable pub deal-at : ℕ → probe.Coins → Call
-  deal-at j s = deal-call (a .n) j (sheet-words s) (sheet-bytes s) (replicate 127 0)
+  deal-at j s = deal-call (a .n) j (drawn-words s) (drawn-bytes s) (replicate 127 0)
 
   unfoldable pub bid-calls : List (List ℕ × List (List ℕ)) → (m : ℕ) (fs : List (List ℕ)) → List Call
   bid-calls [] m fs = []
@@ -155,9 +155,9 @@ module _ {a : Auction} {c : Coins} (A : IsAuction a) (C : InRange a c) where
       ∙ from-bids-calls bs (m + 1) gs (B .1) (added-held (a .k) t fs (entries (b .0) (b .1)) F (entries-held (a .k) t b (B .0))) (omega arith) e))
       ∙ sym (append-assoc splits (adds ++ bid-calls a c bs (m + 1) gs) rest ∙ ap (λ (z : List Call). splits ++ z) (append-assoc adds (bid-calls a c bs (m + 1) gs) rest))
 
-  pub told-setup : told a c ≡ setup-calls a c ++ from-rounds a c (enough-rounds a) (map (seat a c (fresh-stage (start (a .k)) 0)) (points (a .n)))
-  unfolding told setup-calls open-at polynomials
-  told-setup =
+  pub canonical-setup : canonical a c ≡ setup-calls a c ++ from-rounds a c (enough-rounds a) (map (seat a c (fresh-stage (start (a .k)) 0)) (points (a .n)))
+  unfolding canonical setup-calls open-at polynomials
+  canonical-setup =
       let opens : List Call = map (open-at a c) (points (a .n)) in
       let bids : List Call = bid-calls a c (zip (a .bids) (c .bids)) 0 (no-totals a) in
       ap (λ (z : List Call). opens ++ z)

@@ -10,7 +10,7 @@ use Rattle.refusal.specs.Judging.{judged}
 use Rattle.refusal.specs.declared.Judgement.the-variants.{Accepted}
 use Rattle.fields.specs.Amount.{amounts}
 use Rattle.fields.specs.Byte.{bytes}
-use Rattle.fields.proofs.Below.{AllBelow}
+use Rattle.fields.specs.Below.{AllBelow}
 use Rattle.sharing.specs.Polynomial.{value}
 use Rattle.sharing.specs.Lists.{from}
 use Rattle.sharing.specs.Scheme.{threshold, points}
@@ -26,14 +26,14 @@ use Rattle.party.specs.declared.record.Heard.{Heard}
 use Rattle.party.specs.Record.{bracket, sound, next-or}
 use Rattle.party.specs.Say.{demand-share, supply-share, current, in-field, message, say-judgement, said}
 use Rattle.party.specs.Hear as hear
-use Rattle.party.specs.Hear.{crooked, wild-sum, split-verdict, hear-judgement, after}
+use Rattle.party.specs.Hear.{unopened, sum-outside, verdict-outside, hear-judgement, after}
 use Rattle.party.proofs.Soundness.{Sound, sound-of}
 use Rattle.party.proofs.Words.{InField, in-field-of}
 use Rattle.auction.specs.Auction.{Auction, IsAuction}
 use Rattle.auction.specs.Coins.{Coins, InRange}
 use Rattle.auction.specs.Call.{accepted, is-accepted, judgement}
-use Rattle.auction.specs.Told as told
-use Rattle.auction.specs.Told.{returned, word, say-by, word-by, hear-by}
+use Rattle.auction.specs.Canonical as canonical
+use Rattle.auction.specs.Canonical.{returned, word, say-by, word-by, hear-by}
 use Rattle.auction.proofs.Closed.{at-party, polynomials, Stage, fresh-stage, record-at, sheets-at, seat}
 use Rattle.auction.proofs.Totals.{each-imp, polynomials-length}
 use Rattle.auction.proofs.Sheets.{flat-length, flat-at, sheet-length, mask-word, getD-amounts, amount-below, byte-below, sheet-bytes-below}
@@ -48,8 +48,8 @@ module _ (q : Party) (totals sheets : List ℕ) (S : sound q ≡ true) (lt : len
   say-accepted = rw (S, eq-eqb (length totals) (2 * q .k) lt, eq-eqb (length sheets) (127 * limit (q .k)) ls, going, F)
 
   hear-accepted : (messages : List ℕ) → length messages ≡ q .n → getD messages (q .own - 1) 0 ≡ message q totals (current q sheets)
-      → crooked (hear.heard (q .n) (q .round) messages) ≡ false → wild-sum (hear.heard (q .n) (q .round) messages) ≡ false
-      → split-verdict (hear.heard (q .n) (q .round) messages) ≡ false → hear-judgement q totals sheets messages ≡ Accepted
+      → unopened (hear.heard (q .n) (q .round) messages) ≡ false → sum-outside (hear.heard (q .n) (q .round) messages) ≡ false
+      → verdict-outside (hear.heard (q .n) (q .round) messages) ≡ false → hear-judgement q totals sheets messages ≡ Accepted
   unfolding hear-judgement judged
   hear-accepted messages lm own straight tame whole =
       rw (
@@ -76,7 +76,7 @@ pub record Step (a : Auction) (c : Coins) (σ τ : Stage) (w : ℕ → ℕ) : Ty
   pub saying : (j : ℕ) → 1 ≤ j → j ≤ a .n → accepted (say-by a c (seat a c σ j)) ≡ true
   pub word : (j : ℕ) → 1 ≤ j → j ≤ a .n → word-by a c (seat a c σ j) ≡ w j
   pub hearing : (j : ℕ) → 1 ≤ j → j ≤ a .n → accepted (hear-by a c (map w (points (a .n))) (seat a c σ j)) ≡ true
-  pub next : (j : ℕ) → 1 ≤ j → j ≤ a .n → told.heard a c (map w (points (a .n))) (seat a c σ j) ≡ seat a c τ j
+  pub next : (j : ℕ) → 1 ≤ j → j ≤ a .n → canonical.heard a c (map w (points (a .n))) (seat a c σ j) ≡ seat a c τ j
 
 -- a stage whose records are sound
 pub record Sane (a : Auction) (σ : Stage) : Type 0 where
@@ -158,16 +158,16 @@ module _ (a : Auction) (c : Coins) (A : IsAuction a) (C : InRange a c) where
   abbrev t : ℕ
   t = threshold (a .n)
 
-  sheet-long : (j : ℕ) (s : probe.Coins) → probe.InRange t s → length (probe.sheet-words j (probe.dealt s)) ≡ 127
+  sheet-long : (j : ℕ) (s : probe.Coins) → probe.InRange t s → length (probe.sheet-shares j (probe.dealt s)) ≡ 127
   sheet-long j s h = sheet-length t j (probe.dealt s) (dealt-shared t s h)
 
-  sheets-long : (j : ℕ) → Each (λ s. length (probe.sheet-words j (probe.dealt s)) ≡ 127) (c .sheets)
-  sheets-long j = each-imp (probe.InRange t) (λ s. length (probe.sheet-words j (probe.dealt s)) ≡ 127) (c .sheets) (sheet-long j) (C .sheets)
+  sheets-long : (j : ℕ) → Each (λ s. length (probe.sheet-shares j (probe.dealt s)) ≡ 127) (c .sheets)
+  sheets-long j = each-imp (probe.InRange t) (λ s. length (probe.sheet-shares j (probe.dealt s)) ≡ 127) (c .sheets) (sheet-long j) (C .sheets)
 
   pub sheets-length : (j : ℕ) → length (sheets-at a c j) ≡ 127 * limit (a .k)
   unfolding sheets-at
   sheets-length j =
-      flat-length (λ s. probe.sheet-words j (probe.dealt s)) 127 (c .sheets) (sheets-long j) ∙ ap (λ (m : ℕ). 127 * m) (C .sheets-many)
+      flat-length (λ s. probe.sheet-shares j (probe.dealt s)) 127 (c .sheets) (sheets-long j) ∙ ap (λ (m : ℕ). 127 * m) (C .sheets-many)
 
   pub totals-length : (j : ℕ) → length (at-party j (polynomials a c)) ≡ 2 * a .k
   totals-length j = length-map (polynomials a c) (λ f. value amounts f j) ∙ polynomials-length A C
@@ -187,9 +187,9 @@ module _ (a : Auction) (c : Coins) (A : IsAuction a) (C : InRange a c) where
     sheet-shared = dealt-shared t s coins-ranged
 
     module _ (j : ℕ) (j1 : 1 ≤ j) (jn : j ≤ a .n) where
-      pub current-at : current (record-at a c σ j) (sheets-at a c j) ≡ probe.sheet-words j (probe.dealt s)
+      pub current-at : current (record-at a c σ j) (sheets-at a c j) ≡ probe.sheet-shares j (probe.dealt s)
       unfolding current record-at sheets-at
-      current-at = flat-at (λ s. probe.sheet-words j (probe.dealt s)) 127 (c .sheets) (σ .probes) s ss (sheets-long j) (P .left)
+      current-at = flat-at (λ s. probe.sheet-shares j (probe.dealt s)) 127 (c .sheets) (σ .probes) s ss (sheets-long j) (P .left)
 
       abbrev totals : List ℕ
       totals = at-party j (polynomials a c)
@@ -210,7 +210,7 @@ module _ (a : Auction) (c : Coins) (A : IsAuction a) (C : InRange a c) where
           let N : Sane a σ = P .sane in
           (index-least (a .k) (bracket-of σ) (N .apart) (N .inside) (P .going), index-most (a .k) (bracket-of σ) (N .apart) (N .inside) (P .going))
 
-      in-field-facts : InField (record-at a c σ j) totals (probe.sheet-words j (probe.dealt s))
+      in-field-facts : InField (record-at a c σ j) totals (probe.sheet-shares j (probe.dealt s))
       in-field-facts =
           let small : j < 10 = omega (arith, A .n-most) in
           record {
@@ -232,14 +232,14 @@ module _ (a : Auction) (c : Coins) (A : IsAuction a) (C : InRange a c) where
       unfolding say-by seat judgement is-accepted
       saying-at = rw say-ok
 
-      pub word-at : word-by a c (seat a c σ j) ≡ message (record-at a c σ j) totals (probe.sheet-words j (probe.dealt s))
+      pub word-at : word-by a c (seat a c σ j) ≡ message (record-at a c σ j) totals (probe.sheet-shares j (probe.dealt s))
       unfolding word-by seat word said
       word-at = rw (say-ok, current-at)
 
       -- hearing words among which its own stands, that open to o
-      module _ (w : ℕ → ℕ) (o : Heard) (own : w j ≡ message (record-at a c σ j) totals (probe.sheet-words j (probe.dealt s)))
+      module _ (w : ℕ → ℕ) (o : Heard) (own : w j ≡ message (record-at a c σ j) totals (probe.sheet-shares j (probe.dealt s)))
           (opens : hear.heard (a .n) (σ .round) (map w (points (a .n))) ≡ o)
-          (straight : crooked o ≡ false) (tame : wild-sum o ≡ false) (whole : split-verdict o ≡ false) where
+          (straight : unopened o ≡ false) (tame : sum-outside o ≡ false) (whole : verdict-outside o ≡ false) where
         own-word : getD (map w (points (a .n))) (j - 1) 0 ≡ w j
         own-word = getD-words w 1 (a .n) (j - 1) (omega arith) ∙ ap w (omega arith)
 
@@ -248,7 +248,7 @@ module _ (a : Auction) (c : Coins) (A : IsAuction a) (C : InRange a c) where
         hear-ok =
             hear-accepted (record-at a c σ j) totals (sheets-at a c j) (sound-at a c A σ (P .sane) j j1 jn) (totals-length j) (sheets-length j)
             (P .going) in-field-at (map w (points (a .n))) (words-length w (a .n)) (own-word ∙ own ∙ sym (ap (message (record-at a c σ j) totals) current-at))
-            (ap crooked opens ∙ straight) (ap wild-sum opens ∙ tame) (ap split-verdict opens ∙ whole)
+            (ap unopened opens ∙ straight) (ap sum-outside opens ∙ tame) (ap verdict-outside opens ∙ whole)
 
         pub hearing-at : accepted (hear-by a c (map w (points (a .n))) (seat a c σ j)) ≡ true
         unfolding hear-by seat judgement is-accepted
@@ -258,16 +258,16 @@ module _ (a : Auction) (c : Coins) (A : IsAuction a) (C : InRange a c) where
         unfolding record-at
         seen = opens
 
-        pub next-at : (τ : Stage) → after (record-at a c σ j) (probe.sheet-words j (probe.dealt s)) o ≡ record-at a c τ j
-            → told.heard a c (map w (points (a .n))) (seat a c σ j) ≡ seat a c τ j
-        unfolding told.heard seat returned next-or
+        pub next-at : (τ : Stage) → after (record-at a c σ j) (probe.sheet-shares j (probe.dealt s)) o ≡ record-at a c τ j
+            → canonical.heard a c (map w (points (a .n))) (seat a c σ j) ≡ seat a c τ j
+        unfolding canonical.heard seat returned next-or
         next-at τ e = rw (hear-ok, current-at, seen, e)
 
     -- the whole round
     pub step-of : (τ : Stage) (w : ℕ → ℕ) (o : Heard)
-        → ((j : ℕ) → 1 ≤ j → j ≤ a .n → message (record-at a c σ j) (at-party j (polynomials a c)) (probe.sheet-words j (probe.dealt s)) ≡ w j)
-        → hear.heard (a .n) (σ .round) (map w (points (a .n))) ≡ o → crooked o ≡ false → wild-sum o ≡ false → split-verdict o ≡ false
-        → ((j : ℕ) → 1 ≤ j → j ≤ a .n → after (record-at a c σ j) (probe.sheet-words j (probe.dealt s)) o ≡ record-at a c τ j)
+        → ((j : ℕ) → 1 ≤ j → j ≤ a .n → message (record-at a c σ j) (at-party j (polynomials a c)) (probe.sheet-shares j (probe.dealt s)) ≡ w j)
+        → hear.heard (a .n) (σ .round) (map w (points (a .n))) ≡ o → unopened o ≡ false → sum-outside o ≡ false → verdict-outside o ≡ false
+        → ((j : ℕ) → 1 ≤ j → j ≤ a .n → after (record-at a c σ j) (probe.sheet-shares j (probe.dealt s)) o ≡ record-at a c τ j)
         → Step a c σ τ w
     step-of τ w o says opens straight tame whole turns =
         record {

@@ -11,7 +11,7 @@ use lib.ListN.{length, replicate, take, drop, getD, length-replicate, length-dro
 use lib.Seq.{length-take-le, getD-take, getD-drop}
 use borrow.Author.Tests.{leb-true}
 use Rattle.fields.specs.Amount.{p, amounts}
-use Rattle.fields.proofs.Below.{AllBelow}
+use Rattle.fields.specs.Below.{AllBelow}
 use Rattle.fields.proofs.Fields.{amount-field}
 use Rattle.sharing.specs.Lists.{every}
 use Rattle.sharing.specs.Linear.{sums}

@@ -7,7 +7,7 @@ use lib.Dec.{leb, ltb}
 use lib.ListN.{length, replicate}
 use Rattle.verdict.specs.Verdict.{verdict}
 use Rattle.sharing.specs.Scheme.{threshold}
-use Rattle.sharing.proofs.Points.{Parties}
+use Rattle.sharing.specs.Parties.{Parties}
 use Rattle.search.specs.Bracket.{start}
 use Rattle.search.specs.Limit.{limit}
 use Rattle.search.specs.Search.{promise, trail}
@@ -16,7 +16,7 @@ use Rattle.party.specs.declared.record.Answer.the-variants.{Cleared}
 use Rattle.auction.specs.Auction.{Auction, IsAuction, demand, supply, clearing-answer}
 use Rattle.auction.specs.Coins.{Coins, InRange}
 use Rattle.auction.specs.Call.{Call, accepted}
-use Rattle.auction.specs.Told.{told}
+use Rattle.auction.specs.Canonical.{canonical}
 use Rattle.auction.specs.Run.{Run}
 use Rattle.auction.specs.Received.{bid-shares, sheets, messages, verdicts, indices, answers, unused}
 
@@ -38,7 +38,7 @@ pub record Outcome (a : Auction) (l : List Call) (j : ℕ) : Type 0 where
 
 pub record Demand2 (a : Auction) (c : Coins) : Type 0 where
   -- no call of the run is refused, but those that stand between
-  pub none-refused : all-accepted (told a c) ≡ true
+  pub none-refused : all-accepted (canonical a c) ≡ true
   pub outcome : (l : List Call) → Run a c l → (j : ℕ) → 1 ≤ j → j ≤ a .n → Outcome a l j
 
 -- ---- demand 3
@@ -98,4 +98,4 @@ pub record Demand3 : Type 0 where
   -- "At each probe at most 2^33 - 2 of the 2^58 masks fall outside when so moved."
   pub few-fall : (a b : Auction) → IsAuction a → IsAuction b → Alike a b → (i : ℕ) → count (λ mask. not (stays a b i mask)) (2 ^ 58) ≤ 2 ^ 33 - 2
   -- every auction with coins in range has a run
-  pub runs : (a : Auction) → IsAuction a → (c : Coins) → InRange a c → Run a c (told a c)
+  pub runs : (a : Auction) → IsAuction a → (c : Coins) → InRange a c → Run a c (canonical a c)

@@ -1,9 +1,8 @@
--- Auctions, coins, calls, runs, what is read off a run, the demands, and the matching coins.
+-- Auctions, coins, calls, runs, what is read off a run, and the demands.
 pub mod Auction
 pub mod Coins
 pub mod Call
-pub mod Told
+pub mod Canonical
 pub mod Run
 pub mod Received
 pub mod Demands
-pub mod Matching

@@ -74,7 +74,7 @@ unfoldable pub verdict-in : Heard → Option ℕ
 verdict-in (heard-as.the-variants.Sum v) = none
 verdict-in (heard-as.the-variants.Factors d e) = none
 verdict-in (heard-as.the-variants.Verdict v) = some v
-verdict-in heard-as.the-variants.Crooked = none
+verdict-in heard-as.the-variants.Unopened = none
 
 -- a verdict that was heard, with the index where
 unfoldable pub decision-in : Hearing → Option (ℕ × ℕ)

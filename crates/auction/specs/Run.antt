@@ -7,7 +7,7 @@ use Rattle.party.specs.declared.record.Party.{Party}
 use Rattle.auction.specs.Auction.{Auction}
 use Rattle.auction.specs.Coins.{Coins}
 use Rattle.auction.specs.Call.{Call, say-call, answer-call, accepted, whose, of-party, of-service, given}
-use Rattle.auction.specs.Told.{told}
+use Rattle.auction.specs.Canonical.{canonical}
 
 -- the calls that pass a test, with what they were given
 unfoldable pub select : (Call → Bool) → List Call → List Call
@@ -34,8 +34,8 @@ pub data Shuffle : List Call → List Call → Type 0 where
   end : Shuffle [] []
   next : {c : Call} {cs : List Call} (ds es : List Call) → Shuffle cs (ds ++ es) → Shuffle (c ∷ cs) (ds ++ (c ∷ es))
 
--- Each party's calls are those of the told list, in its order, so that each is given the record and totals that the last returned or
--- left; the bidders' and the dealer's are those of the told list, in any order. Whose turn it is between parties is free.
+-- Each party's calls are those of the canonical list, in its order, so that each is given the record and totals that the last returned or
+-- left; the bidders' and the dealer's are those of the canonical list, in any order. Whose turn it is between parties is free.
 pub record Run (a : Auction) (c : Coins) (l : List Call) : Type 0 where
-  pub parties : (j : ℕ) → Repeats (own j (told a c)) (own j l)
-  pub others : Shuffle (services (told a c)) (services l)
+  pub parties : (j : ℕ) → Repeats (own j (canonical a c)) (own j l)
+  pub others : Shuffle (services (canonical a c)) (services l)

@@ -10,13 +10,14 @@ use Rattle.fields.specs.Amount.{p, amounts}
 use Rattle.fields.specs.Byte.{bytes}
 use Rattle.fields.proofs.Fields.{amount-field, byte-field}
 use Rattle.sharing.specs.Polynomial.{value, shares}
-use Rattle.sharing.proofs.Points.{Different, Parties, with-zero}
+use Rattle.sharing.specs.Parties.{Parties}
+use Rattle.sharing.proofs.Points.{Different, with-zero}
 use Rattle.sharing.proofs.Laws.{recolour}
 use Rattle.verdict.specs.Verdict.{verdict}
 use Rattle.comparison.specs.Local.{on-polynomials}
 use Rattle.comparison.specs.Rounds.{first-carry, last}
-use Rattle.comparison.specs.Probe.{Triple, Coins, Each, InRange, Probe, bit-polynomials, triple-polynomials, dealt, triple-words, sheet-words, secret, rounds, final-carry, sum-polynomial, opened-sum, carry-one, product-rounds, last-polynomial, messages}
-use Rattle.comparison.specs.Matching.{moved, probe, matched, matched-bits, matched-triples}
+use Rattle.comparison.specs.Probe.{Triple, Coins, Each, InRange, Probe, bit-polynomials, triple-polynomials, dealt, triple-words, sheet-shares, secret, rounds, final-carry, sum-polynomial, opened-sum, carry-one, product-rounds, last-polynomial, probe-messages}
+use Rattle.comparison.proofs.Matched.{moved, probe, matched, matched-bits, matched-triples}
 use Rattle.comparison.proofs.Values.{Shared, first-carry-shared}
 use Rattle.comparison.proofs.Dealt.{each-at, each-drop, dealt-shared, sum-shared, product-rounds-long}
 use Rattle.comparison.proofs.Promise.{Compares, probe-shared, sum-law, promised}
@@ -51,15 +52,15 @@ pub record Other (n t : ℕ) (xs : List ℕ) (demand supply : ℕ) (c : Coins) (
 pub record Matches (n t : ℕ) (xs : List ℕ) (q : Probe) (d′ s′ : List ℕ) (coins : Coins) : Type 0 where
   pub ranged : InRange t coins
   -- the 127 words of each pooled party
-  pub same-words : map (λ x. sheet-words x (dealt coins)) xs ≡ map (λ x. sheet-words x (q .sheet)) xs
+  pub same-words : map (λ x. sheet-shares x (dealt coins)) xs ≡ map (λ x. sheet-shares x (q .sheet)) xs
   -- what any party says, round by round
-  pub same-messages : (j : ℕ) → messages (probe d′ s′ coins) j ≡ messages q j
+  pub same-messages : (j : ℕ) → probe-messages (probe d′ s′ coins) j ≡ probe-messages q j
   -- T and the verdict, as opened
   pub same-sum : opened-sum (probe d′ s′ coins) ≡ opened-sum q
   pub same-verdict : secret (last-polynomial (probe d′ s′ coins)) ≡ secret (last-polynomial q)
   pub only : (e : Coins) → InRange t e
-      → map (λ x. sheet-words x (dealt e)) xs ≡ map (λ x. sheet-words x (q .sheet)) xs
-      → ((j : ℕ) → 1 ≤ j → j ≤ n → messages (probe d′ s′ e) j ≡ messages q j)
+      → map (λ x. sheet-shares x (dealt e)) xs ≡ map (λ x. sheet-shares x (q .sheet)) xs
+      → ((j : ℕ) → 1 ≤ j → j ≤ n → probe-messages (probe d′ s′ e) j ≡ probe-messages q j)
       → e ≡ coins
 
 -- the other totals are compared, with any coins in range
@@ -182,8 +183,8 @@ module _ (n t : ℕ) (xs : List ℕ) (demand supply : ℕ) (c : Coins) (d s : Li
       alike-recolour amount-field t xs D (A .pooled) (c .mask) mask′ (c .of-mask)
       (omega (arith, A .first .ranged .mask)) (omega (arith, A .mask-lt)) (A .first .ranged .of-mask)
 
-  words-kept : (x : ℕ) → In x xs → sheet-words x (dealt c′) ≡ sheet-words x (dealt c)
-  unfolding sheet-words dealt matched
+  words-kept : (x : ℕ) → In x xs → sheet-shares x (dealt c′) ≡ sheet-shares x (dealt c)
+  unfolding sheet-shares dealt matched
   words-kept x m =
       ap₂ (λ (z : ℕ) (zs : List ℕ). z ∷ zs) (sym (mask-alike .same x m))
       (ap₂ (λ (y z : List ℕ). y ++ z) (bits-words t xs D (A .pooled) x m bits bits′ pairs) (rounds-kept .words x m))
@@ -239,7 +240,7 @@ module _ (n t : ℕ) (xs : List ℕ) (demand supply : ℕ) (c : Coins) (d s : Li
       ∙ sym (alike-same byte-field t xs D (A .pooled) ending-alike (ap secret (sym ending-first) ∙ sym verdict-kept ∙ ap secret ending-second))
       ∙ sym ending-first
 
-  -- ---- all messages
+  -- ---- all probe-messages
 
   rounds-said : (j : ℕ) → round-words j (product-rounds (probe d′ s′ c′)) ≡ round-words j (product-rounds (probe d s c))
   unfolding carry-one dealt matched
@@ -249,8 +250,8 @@ module _ (n t : ℕ) (xs : List ℕ) (demand supply : ℕ) (c : Coins) (d s : Li
       sum-stays
       ∙ rounds-kept .said j
 
-  messages-kept : (j : ℕ) → messages (probe d′ s′ c′) j ≡ messages (probe d s c) j
-  unfolding messages
+  messages-kept : (j : ℕ) → probe-messages (probe d′ s′ c′) j ≡ probe-messages (probe d s c) j
+  unfolding probe-messages
   messages-kept j =
       ap₂ (λ (z : ℕ) (zs : List ℕ). z ∷ zs) (ap (λ (z : List ℕ). value amounts z j) sum-kept)
       (ap₂ (λ (y z : List ℕ). y ++ z) (rounds-said j) (ap (λ (z : List ℕ). value bytes z j ∷ []) last-kept))
@@ -258,8 +259,8 @@ module _ (n t : ℕ) (xs : List ℕ) (demand supply : ℕ) (c : Coins) (d s : Li
   -- ---- other coins that do the same are these
 
   module _ (e : Coins) (h : InRange t e)
-      (words : map (λ x. sheet-words x (dealt e)) xs ≡ map (λ x. sheet-words x (dealt c)) xs)
-      (said : (j : ℕ) → 1 ≤ j → j ≤ n → messages (probe d′ s′ e) j ≡ messages (probe d s c) j) where
+      (words : map (λ x. sheet-shares x (dealt e)) xs ≡ map (λ x. sheet-shares x (dealt c)) xs)
+      (said : (j : ℕ) → 1 ≤ j → j ≤ n → probe-messages (probe d′ s′ e) j ≡ probe-messages (probe d s c) j) where
     abbrev bits″ : List (List ℕ)
     bits″ = bit-polynomials 1 (e .mask) (e .of-bits)
 
@@ -268,7 +269,7 @@ module _ (n t : ℕ) (xs : List ℕ) (demand supply : ℕ) (c : Coins) (d s : Li
 
     -- round 1 is heard whole, so T is the same, and the mask is the moved one
     sum-heard : sum-polynomial (probe d′ s′ e) ≡ sum-polynomial (probe d s c)
-    unfolding messages
+    unfolding probe-messages
     sum-heard =
         heard amount-field t n (sum-polynomial (probe d′ s′ e)) (sum-polynomial (probe d s c)) (A .more) (A .at-most)
         (sum-shared t (probe d′ s′ e) (probe-shared t demand′ supply′ e (probe d′ s′ e) second))
@@ -282,13 +283,13 @@ module _ (n t : ℕ) (xs : List ℕ) (demand supply : ℕ) (c : Coins) (d s : Li
         (sum-law t demand supply c (probe d s c) (A .first)) (sum-law t demand′ supply′ e (probe d′ s′ e) second)
 
     -- the words, place by place
-    word : (x : ℕ) → In x xs → sheet-words x (dealt e) ≡ sheet-words x (dealt c)
-    word = same-map (λ x. sheet-words x (dealt e)) (λ x. sheet-words x (dealt c)) xs words
+    word : (x : ℕ) → In x xs → sheet-shares x (dealt e) ≡ sheet-shares x (dealt c)
+    word = same-map (λ x. sheet-shares x (dealt e)) (λ x. sheet-shares x (dealt c)) xs words
 
     later-words : (x : ℕ) → In x xs
         → (map (λ b. value bytes b x) bits″ ≡ map (λ b. value bytes b x) bits)
         × (triple-words x (map triple-polynomials (e .triples)) ≡ triple-words x (map triple-polynomials (c .triples)))
-    unfolding sheet-words dealt
+    unfolding sheet-shares dealt
     later-words x m =
         append-parts (map (λ b. value bytes b x) bits″) (map (λ b. value bytes b x) bits) _ _
         (length-map bits″ (λ b. value bytes b x)
@@ -296,7 +297,7 @@ module _ (n t : ℕ) (xs : List ℕ) (demand supply : ℕ) (c : Coins) (d s : Li
         (tail-eq-of-cons-eq (word x m))
 
     of-mask-same : e .of-mask ≡ recolour amount-field xs (c .mask) mask′ (c .of-mask)
-    unfolding sheet-words dealt
+    unfolding sheet-shares dealt
     of-mask-same =
         coefficients-only amount-field t xs D (A .pooled) (c .mask) (e .mask) (c .of-mask) (e .of-mask)
         (omega (arith, A .first .ranged .mask)) (omega (arith, h .mask)) (A .first .ranged .of-mask) (h .of-mask)
@@ -313,7 +314,7 @@ module _ (n t : ℕ) (xs : List ℕ) (demand supply : ℕ) (c : Coins) (d s : Li
     rounds-heard : (j : ℕ) → 1 ≤ j → j ≤ n
         → round-words j (rounds T 2 (carry bits″) (drop 1 bits″) (map triple-polynomials (e .triples)))
         ≡ round-words j (rounds T 2 (carry bits) (drop 1 bits) (map triple-polynomials (c .triples)))
-    unfolding messages carry-one dealt
+    unfolding probe-messages carry-one dealt
     rounds-heard j h1 hn =
         ap
         (λ (z : ℕ). round-words j (rounds z 2 (first-carry (on-polynomials bytes) z (getD bits″ 0 [])) (drop 1 bits″) (map triple-polynomials (e .triples))))
@@ -341,7 +342,7 @@ module _ (n t : ℕ) (xs : List ℕ) (demand supply : ℕ) (c : Coins) (d s : Li
   matches =
       record {
         ranged = matched-ranged;
-        same-words = map-same (λ x. sheet-words x (dealt c′)) (λ x. sheet-words x (dealt c)) xs words-kept;
+        same-words = map-same (λ x. sheet-shares x (dealt c′)) (λ x. sheet-shares x (dealt c)) xs words-kept;
         same-messages = messages-kept;
         same-sum = sum-stays;
         same-verdict = verdict-kept;
@@ -385,4 +386,4 @@ itself n t xs demand supply c q h9 hn ps l h =
     } in
     let e : probe (q .demand) (q .supply) c ≡ q = λ k. record { demand = q .demand; supply = q .supply; sheet = sym (h .sheet-is) k } in
     hides n t xs demand supply c q demand supply (q .demand) (q .supply) A .only c (h .ranged)
-    (ap (λ (z : Probe). map (λ x. sheet-words x (z .sheet)) xs) e) (λ j h1 hn. ap (λ (z : Probe). messages z j) e)
+    (ap (λ (z : Probe). map (λ x. sheet-shares x (z .sheet)) xs) e) (λ j h1 hn. ap (λ (z : Probe). probe-messages z j) e)

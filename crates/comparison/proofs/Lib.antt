@@ -5,6 +5,7 @@ pub mod Dealt
 pub mod Promise
 pub mod Plain
 pub mod Agreement
+pub mod Matched
 pub mod Matching
 pub mod Only
 pub mod Hiding

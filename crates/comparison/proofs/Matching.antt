@@ -12,7 +12,7 @@ use Rattle.comparison.specs.Local.{on-shares, on-polynomials}
 use Rattle.fields.specs.Bits.{bit}
 use Rattle.comparison.specs.Rounds.{differing, left, right, next-carry, both}
 use Rattle.comparison.specs.Probe.{Triple, TripleCoins, Group, Each, TripleInRange, Round, bit-polynomials, triple-polynomials, triple-words, secret, round, carry-after, rounds, final-carry}
-use Rattle.comparison.specs.Matching.{carry-on, recoloured, matched-bits, matched-triple, matched-triples}
+use Rattle.comparison.proofs.Matched.{carry-on, recoloured, matched-bits, matched-triple, matched-triples}
 use Rattle.comparison.proofs.Values.{bit-byte, secret-value, left-secret, right-secret}
 use Rattle.comparison.proofs.Dealt.{RoundShared, triple-polynomials-shared, round-shared}
 use Rattle.comparison.proofs.Agreement.{In, Bytes, recolour-group, alike-same, alike-recolour, left-alike, right-alike, next-carry-alike, restored}

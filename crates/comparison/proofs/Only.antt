@@ -15,7 +15,7 @@ use Rattle.comparison.specs.Local.{on-shares}
 use Rattle.fields.specs.Bits.{bit}
 use Rattle.comparison.specs.Rounds.{differing, left, right, both}
 use Rattle.comparison.specs.Probe.{TripleCoins, Group, Each, TripleInRange, Round, bit-polynomials, triple-polynomials, triple-words, secret, round, rounds}
-use Rattle.comparison.specs.Matching.{carry-on, recoloured, matched-bits, matched-triple, matched-triples}
+use Rattle.comparison.proofs.Matched.{carry-on, recoloured, matched-bits, matched-triple, matched-triples}
 use Rattle.comparison.proofs.Values.{Shared, bit-byte, secret-value, left-secret, right-secret}
 use Rattle.comparison.proofs.Dealt.{RoundShared, triple-polynomials-shared, round-shared, carry-after-shared}
 use Rattle.comparison.proofs.Agreement.{In, map-same, heard, solved}

@@ -2,4 +2,3 @@
 pub mod Local
 pub mod Rounds
 pub mod Probe
-pub mod Matching

@@ -11,7 +11,7 @@ use lib.Seq.{drop-cons, drop-drop, length-take-le, getD-append-add}
 use borrow.Author.Tests.{ltb-true, lt-ltb, eqb-true, eq-eqb, not-false}
 use Rattle.fields.specs.Amount.{p, amounts}
 use Rattle.fields.specs.Byte.{bytes}
-use Rattle.fields.proofs.Below.{AllBelow}
+use Rattle.fields.specs.Below.{AllBelow}
 use Rattle.fields.proofs.Fields.{byte-field}
 use Rattle.refusal.specs.Judging.{judged}
 use Rattle.refusal.specs.declared.Judgement.the-variants.{Accepted}

@@ -17,12 +17,12 @@ use Rattle.search.specs.Bracket.{over}
 use Rattle.search.specs.Limit.{limit}
 use Rattle.party.specs.declared.record.Party.{Party}
 use Rattle.party.specs.declared.record.Heard.{Heard}
-use Rattle.party.specs.declared.record.Heard.the-variants.{Sum, Factors, Verdict, Crooked}
+use Rattle.party.specs.declared.record.Heard.the-variants.{Sum, Factors, Verdict, Unopened}
 use Rattle.party.specs.declared.record.Reply.the-variants.{Next}
 use Rattle.party.specs.declared.record.Said.the-variants as answer
 use Rattle.party.specs.Record.{bracket, sound}
 use Rattle.party.specs.Say.{current, in-field, message, say-judgement, said}
-use Rattle.party.specs.Hear.{heard, crooked, wild-sum, split-verdict, hear-judgement, after, hear-reply}
+use Rattle.party.specs.Hear.{heard, unopened, sum-outside, verdict-outside, hear-judgement, after, hear-reply}
 use Rattle.party.proofs.Judging.{and-true, passes, all-passed, passed, next-accepted}
 use Rattle.party.proofs.Soundness.{sound-of}
 use Rattle.party.proofs.Laws.{Says, says, say-accepted}
@@ -55,9 +55,9 @@ module _ (q : Party) (totals sheets messages : List ℕ) where
   abbrev pub of-messages : List Test
   of-messages =
       (not (eqb (getD messages (q .own - 1) 0) (message q totals (current q sheets))) ⇒ refusal.OwnMessageDiffers)
-      ∷ (crooked (heard (q .n) (q .round) messages) ⇒ refusal.Inconsistent)
-      ∷ (wild-sum (heard (q .n) (q .round) messages) ⇒ refusal.SumOutOfRange)
-      ∷ (split-verdict (heard (q .n) (q .round) messages) ⇒ refusal.VerdictNotBit)
+      ∷ (unopened (heard (q .n) (q .round) messages) ⇒ refusal.Inconsistent)
+      ∷ (sum-outside (heard (q .n) (q .round) messages) ⇒ refusal.SumOutOfRange)
+      ∷ (verdict-outside (heard (q .n) (q .round) messages) ⇒ refusal.VerdictNotBit)
       ∷ []
 
   pub short-of-messages : sound q && not (long (q .n) messages) ≡ true → hear-judgement q totals sheets messages ≡ Refused refusal.WrongLength
@@ -96,21 +96,21 @@ abbrev pub Admitted : Heard → Type 0
 Admitted (Sum v) = (2 ^ 58 + 2 ≤ v) × (v ≤ 2 ^ 59 + 2 ^ 33 - 1)
 Admitted (Factors d e) = Unit {0}
 Admitted (Verdict v) = v ≤ 1
-Admitted Crooked = ⊥
+Admitted Unopened = ⊥
 
-admitted : (h : Heard) → crooked h ≡ false → wild-sum h ≡ false → split-verdict h ≡ false → Admitted h
+admitted : (h : Heard) → unopened h ≡ false → sum-outside h ≡ false → verdict-outside h ≡ false → Admitted h
 admitted (Sum v) c w s =
     let range = and-true (leb (2 ^ 58 + 2) v) _ (not-false _ w) in
     (leb-true _ v (range .0), leb-true v _ (range .1))
 admitted (Factors d e) c w s = tt
 admitted (Verdict v) c w s = ltb-false 1 v s
-admitted Crooked c w s = let z : _≡_ {A = ℕ} 0 1 = cc in absurd (omega arith)
+admitted Unopened c w s = let z : _≡_ {A = ℕ} 0 1 = cc in absurd (omega arith)
 
-admitted-tests : (h : Heard) → Admitted h → (crooked h ≡ false) × (wild-sum h ≡ false) × (split-verdict h ≡ false)
+admitted-tests : (h : Heard) → Admitted h → (unopened h ≡ false) × (sum-outside h ≡ false) × (verdict-outside h ≡ false)
 admitted-tests (Sum v) h = (refl, rw (le-leb (2 ^ 58 + 2) v (h .0), le-leb v (2 ^ 59 + 2 ^ 33 - 1) (h .1)), refl)
 admitted-tests (Factors d e) h = (refl, refl, refl)
 admitted-tests (Verdict v) h = (refl, refl, le-ltb 1 v h)
-admitted-tests Crooked h = absurd h
+admitted-tests Unopened h = absurd h
 
 pub record Hears (q : Party) (totals sheets messages : List ℕ) : Type 0 where
   -- the party could say its message

@@ -21,7 +21,7 @@ use Rattle.search.proofs.Logarithm.{limit-law}
 use Rattle.search.proofs.Narrowing.{over-false, middle-above, middle-below}
 use Rattle.party.specs.declared.record.Party.{Party}
 use Rattle.party.specs.declared.record.Heard.{Heard}
-use Rattle.party.specs.declared.record.Heard.the-variants.{Sum, Factors, Verdict, Crooked}
+use Rattle.party.specs.declared.record.Heard.the-variants.{Sum, Factors, Verdict, Unopened}
 use Rattle.party.specs.Record.{bracket}
 use Rattle.party.specs.Open.{fresh}
 use Rattle.party.specs.Add.{counted}
@@ -55,14 +55,14 @@ abbrev pub verdicts : Heard → ℕ
 verdicts (Sum v) = 0
 verdicts (Factors d e) = 0
 verdicts (Verdict v) = 1
-verdicts Crooked = 0
+verdicts Unopened = 0
 
 pub probes-after : (q : Party) (sheet : List ℕ) (h : Heard) → after q sheet h .probes ≡ q .probes + verdicts h
 unfolding after
 probes-after q sheet (Sum v) = sym (add-zero _)
 probes-after q sheet (Factors d e) = sym (add-zero _)
 probes-after q sheet (Verdict v) = refl
-probes-after q sheet Crooked = sym (add-zero _)
+probes-after q sheet Unopened = sym (add-zero _)
 
 -- ---- the carry's share is a byte
 
@@ -144,7 +144,7 @@ module _ (q : Party) (sheet : List ℕ) (s : Sound q) (going : over (bracket q) 
   narrow-after (Factors d e) n = n
   narrow-after (Verdict v) n =
       rw (add-one, pow-suc) (omega (arith, n, mul-le-mul-right (2 ^ q .probes) (step-half (bracket q) gap v)))
-  narrow-after Crooked n = n
+  narrow-after Unopened n = n
 
   module _ (bytes-at : (i : ℕ) → 1 ≤ i → i < 127 → getD sheet i 0 < 256) where
     sound-after : (h : Heard) → Possible (q .round) h → Admitted h → Narrow (after q sheet h) → Sound (after q sheet h)
@@ -195,7 +195,7 @@ module _ (q : Party) (sheet : List ℕ) (s : Sound q) (going : over (bracket q) 
           probes = omega (arith, probing q s going .sheet-left);
           ended = λ e. omega (arith, narrow-ended (q .probes + 1) _ (q .k) n e);
         }
-    sound-after Crooked p a n = absurd a
+    sound-after Unopened p a n = absurd a
 
 -- "The board steps a keeper's record by each heard round": it stays sound.
 pub hears-sound : (q : Party) (totals sheets messages : List ℕ) → Hears q totals sheets messages → Narrow q

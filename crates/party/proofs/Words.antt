@@ -10,7 +10,7 @@ use lib.ListN.{length, drop, getD, length-drop}
 use lib.Seq.{getD-drop, length-take-le}
 use borrow.Author.Tests.{ltb-true, eqb-true, lt-ltb, eq-eqb}
 use Rattle.fields.specs.Amount.{p, amounts}
-use Rattle.fields.proofs.Below.{AllBelow}
+use Rattle.fields.specs.Below.{AllBelow}
 use Rattle.sharing.specs.Linear.{sums}
 use Rattle.sharing.specs.Lists.{every}
 use Rattle.sharing.proofs.Terms.{every-at}

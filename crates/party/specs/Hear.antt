@@ -21,7 +21,7 @@ use Rattle.search.specs.Limit.{limit}
 use Rattle.party.specs.declared.record.Party.{Party}
 use Rattle.party.specs.declared.record.Reply.{Reply}
 use Rattle.party.specs.declared.record.Heard.{Heard}
-use Rattle.party.specs.declared.record.Heard.the-variants.{Sum, Factors, Verdict, Crooked}
+use Rattle.party.specs.declared.record.Heard.the-variants.{Sum, Factors, Verdict, Unopened}
 use Rattle.party.specs.Record.{bracket, sound, next-or}
 use Rattle.party.specs.Say.{current, in-field, message, bit-share, triple-share}
 
@@ -29,17 +29,17 @@ use Rattle.party.specs.Say.{current, in-field, message, bit-share, tripl
 
 abbrev pub sum-of : Opening → Heard
 sum-of (Secret v) = Sum v
-sum-of Inconsistent = Crooked
+sum-of Inconsistent = Unopened
 
 -- "through the low bytes, and through the high bytes"
 abbrev pub factors-of : (low high : Opening) → Heard
 factors-of (Secret d) (Secret e) = Factors d e
-factors-of (Secret d) Inconsistent = Crooked
-factors-of Inconsistent high = Crooked
+factors-of (Secret d) Inconsistent = Unopened
+factors-of Inconsistent high = Unopened
 
 abbrev pub verdict-of : Opening → Heard
 verdict-of (Secret v) = Verdict v
-verdict-of Inconsistent = Crooked
+verdict-of Inconsistent = Unopened
 
 -- A word of rounds 2 to 32 is at most 65,535 exactly when its high part is a byte.
 unfoldable pub heard : (n round : ℕ) (messages : List ℕ) → Heard
@@ -48,25 +48,25 @@ heard n round messages =
     (cond (leb round 32) (factors-of (opened byte-scheme n (map (λ w. w % 256) messages)) (opened byte-scheme n (map (λ w. w / 256) messages)))
     (verdict-of (opened byte-scheme n messages)))
 
-abbrev pub crooked : Heard → Bool
-crooked (Sum v) = false
-crooked (Factors d e) = false
-crooked (Verdict v) = false
-crooked Crooked = true
+abbrev pub unopened : Heard → Bool
+unopened (Sum v) = false
+unopened (Factors d e) = false
+unopened (Verdict v) = false
+unopened Unopened = true
 
 -- "T, from 2^58 + 2 to 2^59 + 2^33 - 1"
-abbrev pub wild-sum : Heard → Bool
-wild-sum (Sum v) = not (leb (2 ^ 58 + 2) v && leb v (2 ^ 59 + 2 ^ 33 - 1))
-wild-sum (Factors d e) = false
-wild-sum (Verdict v) = false
-wild-sum Crooked = false
+abbrev pub sum-outside : Heard → Bool
+sum-outside (Sum v) = not (leb (2 ^ 58 + 2) v && leb v (2 ^ 59 + 2 ^ 33 - 1))
+sum-outside (Factors d e) = false
+sum-outside (Verdict v) = false
+sum-outside Unopened = false
 
 -- "verdict above 1"
-abbrev pub split-verdict : Heard → Bool
-split-verdict (Sum v) = false
-split-verdict (Factors d e) = false
-split-verdict (Verdict v) = ltb 1 v
-split-verdict Crooked = false
+abbrev pub verdict-outside : Heard → Bool
+verdict-outside (Sum v) = false
+verdict-outside (Factors d e) = false
+verdict-outside (Verdict v) = ltb 1 v
+verdict-outside Unopened = false
 
 unfoldable pub hear-judgement : (q : Party) (totals sheets messages : List ℕ) → Judgement
 hear-judgement q totals sheets messages =
@@ -76,9 +76,9 @@ hear-judgement q totals sheets messages =
     ∷ (over (bracket q) ⇒ refusal.OutOfTurn)
     ∷ (not (in-field q totals (current q sheets)) ⇒ refusal.ShareOutOfRange)
     ∷ (not (eqb (getD messages (q .own - 1) 0) (message q totals (current q sheets))) ⇒ refusal.OwnMessageDiffers)
-    ∷ (crooked (heard (q .n) (q .round) messages) ⇒ refusal.Inconsistent)
-    ∷ (wild-sum (heard (q .n) (q .round) messages) ⇒ refusal.SumOutOfRange)
-    ∷ (split-verdict (heard (q .n) (q .round) messages) ⇒ refusal.VerdictNotBit)
+    ∷ (unopened (heard (q .n) (q .round) messages) ⇒ refusal.Inconsistent)
+    ∷ (sum-outside (heard (q .n) (q .round) messages) ⇒ refusal.SumOutOfRange)
+    ∷ (verdict-outside (heard (q .n) (q .round) messages) ⇒ refusal.VerdictNotBit)
     ∷ [])
 
 -- ---- what a heard round makes of the record
@@ -98,14 +98,14 @@ after q sheet (Factors d e) =
     in-round q (q .round + 1) (q .sum)
     (next-carry (on-shares bytes) (q .sum) (q .round) d e (triple-share sheet (q .round) 0) (triple-share sheet (q .round) 1) (triple-share sheet (q .round) 2))
 after q sheet (Verdict v) = decided q (step (bracket q) v)
-after q sheet Crooked = q
+after q sheet Unopened = q
 
 -- what a round can open to: D and E are bytes, heard in the rounds 2 to 32
 abbrev pub Possible : (round : ℕ) → Heard → Type 0
 Possible round (Sum v) = Unit {0}
 Possible round (Factors d e) = (2 ≤ round) × (round ≤ 32) × (d < 256) × (e < 256)
 Possible round (Verdict v) = Unit {0}
-Possible round Crooked = Unit {0}
+Possible round Unopened = Unit {0}
 
 abbrev pub hear-reply : (q : Party) (totals sheets messages : List ℕ) → Reply
 hear-reply q totals sheets messages =

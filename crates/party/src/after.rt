@@ -28,7 +28,7 @@ pub(crate) fn after(q: Party, sheet: &[u64], heard: Heard) -> Party
         Heard::Sum(sum) => in_round(q, 2, sum, first_carry(sum, byte_share(sheet, 1))),
         Heard::Factors(d, e) => multiplied(q, sheet, d, e),
         Heard::Verdict(v) => decided(q, step(bracket(q), v)),
-        Heard::Crooked => q,
+        Heard::Unopened => q,
     }
 }
 

@@ -5,10 +5,10 @@ use crate::after::after;
 use crate::record::Party;
 use crate::record::Reply;
 use crate::record::Said;
-use crate::round::crooked;
+use crate::round::unopened;
 use crate::round::heard;
-use crate::round::split_verdict;
-use crate::round::wild_sum;
+use crate::round::verdict_outside;
+use crate::round::sum_outside;
 use crate::saying::say;
 use crate::sheet::current;
 use crate::sound::sound;
@@ -32,13 +32,13 @@ pub fn hear(q: Party, totals: &[u64], sheets: &[u64], messages: &[u64]) -> Reply
         return Reply::Refused(Refusal::OwnMessageDiffers);
     }
     let opened = heard(q.n, q.round, messages);
-    if crooked(opened) {
+    if unopened(opened) {
         return Reply::Refused(Refusal::Inconsistent);
     }
-    if wild_sum(opened) {
+    if sum_outside(opened) {
         return Reply::Refused(Refusal::SumOutOfRange);
     }
-    if split_verdict(opened) {
+    if verdict_outside(opened) {
         return Reply::Refused(Refusal::VerdictNotBit);
     }
     Reply::Next(after(q, current(q, sheets), opened))

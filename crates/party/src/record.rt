@@ -37,7 +37,7 @@ pub enum Heard {
     Factors(u64, u64),
     // round 33
     Verdict(u64),
-    Crooked,
+    Unopened,
 }
 
 // The clearing index, 0 for no price, and how many probes were made.

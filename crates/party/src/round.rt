@@ -4,7 +4,7 @@ ghost use mathlib.Core.List.{map};
 ghost use Prim.Native.Nat.{_/_, _%_};
 ghost use Rattle.sharing.specs.Scheme.{byte-scheme};
 ghost use Rattle.sharing.specs.Opening.{opened};
-ghost use Rattle.party.specs.Hear.{factors-of, heard, crooked, wild-sum, split-verdict};
+ghost use Rattle.party.specs.Hear.{factors-of, heard, unopened, sum-outside, verdict-outside};
 use crate::record::Heard;
 use sharing::Opening;
 use sharing::open_amount;
@@ -22,7 +22,7 @@ pub(crate) fn heard(n: u64, round: u64, messages: &[u64]) -> Heard
     if round == 1 {
         return match open_amount(n, messages) {
             Opening::Secret(sum) => Heard::Sum(sum),
-            Opening::Inconsistent => Heard::Crooked,
+            Opening::Inconsistent => Heard::Unopened,
         };
     }
     if round <= 32 {
@@ -30,7 +30,7 @@ pub(crate) fn heard(n: u64, round: u64, messages: &[u64]) -> Heard
     }
     match open_byte(n, messages) {
         Opening::Secret(verdict) => Heard::Verdict(verdict),
-        Opening::Inconsistent => Heard::Crooked,
+        Opening::Inconsistent => Heard::Unopened,
     }
 }
 
@@ -40,7 +40,7 @@ fn factors(n: u64, messages: &[u64]) -> Heard
 {
     let count = messages.len();
     if 9 < count {
-        return Heard::Crooked;
+        return Heard::Unopened;
     }
     let mut low = [0u64; 9];
     let mut high = [0u64; 9];
@@ -54,41 +54,41 @@ fn factors(n: u64, messages: &[u64]) -> Heard
     match open_byte(n, &low[..count]) {
         Opening::Secret(d) => match open_byte(n, &high[..count]) {
             Opening::Secret(e) => Heard::Factors(d, e),
-            Opening::Inconsistent => Heard::Crooked,
+            Opening::Inconsistent => Heard::Unopened,
         },
-        Opening::Inconsistent => Heard::Crooked,
+        Opening::Inconsistent => Heard::Unopened,
     }
 }
 
-pub(crate) fn crooked(heard: Heard) -> bool
-    ensures { λ r. ⌜ r ≡ crooked heard ⌝ }
+pub(crate) fn unopened(heard: Heard) -> bool
+    ensures { λ r. ⌜ r ≡ unopened heard ⌝ }
 {
     match heard {
         Heard::Sum(_) => false,
         Heard::Factors(_, _) => false,
         Heard::Verdict(_) => false,
-        Heard::Crooked => true,
+        Heard::Unopened => true,
     }
 }
 
-pub(crate) fn wild_sum(heard: Heard) -> bool
-    ensures { λ r. ⌜ r ≡ wild-sum heard ⌝ }
+pub(crate) fn sum_outside(heard: Heard) -> bool
+    ensures { λ r. ⌜ r ≡ sum-outside heard ⌝ }
 {
     match heard {
         Heard::Sum(v) => !((LEAST <= v) & (v <= GREATEST)),
         Heard::Factors(_, _) => false,
         Heard::Verdict(_) => false,
-        Heard::Crooked => false,
+        Heard::Unopened => false,
     }
 }
 
-pub(crate) fn split_verdict(heard: Heard) -> bool
-    ensures { λ r. ⌜ r ≡ split-verdict heard ⌝ }
+pub(crate) fn verdict_outside(heard: Heard) -> bool
+    ensures { λ r. ⌜ r ≡ verdict-outside heard ⌝ }
 {
     match heard {
         Heard::Sum(_) => false,
         Heard::Factors(_, _) => false,
         Heard::Verdict(v) => 1 < v,
-        Heard::Crooked => false,
+        Heard::Unopened => false,
     }
 }

@@ -9,7 +9,7 @@ use native.Mathlib.Omega.{arith}
 use lib.Dec.{eqb, eqb·suc-suc, eqb·zero-suc}
 use lib.ListN.{length, take, drop, set, getD}
 use lib.Seq.{drop-drop, take-suc-set}
-use Rattle.plan.specs.Lines.{first-line, line-length, rest, value, shaped, numbers, bytes-of, sound, after}
+use Rattle.plan.specs.Lines.{first-line, line-length, rest, value, shaped, numbers, bytes-of, formed, after}
 
 -- lines after lines
 pub bytes-add : (a b : ℕ) (bytes : List ℕ) → bytes-of (a + b) bytes ≡ bytes-of a bytes + bytes-of b (after a bytes)
@@ -52,15 +52,15 @@ numbers-more (suc i) bytes =
     ap (λ (l : List ℕ). value (first-line bytes) ∷ l)
     (numbers-more i (rest bytes) ∙ ap (λ (l : List ℕ). numbers i (rest bytes) ++ (value (first-line l) ∷ [])) (after-rest i bytes))
 
-pub sound-more : (i : ℕ) (bytes : List ℕ)
-    → sound (suc i) bytes ≡ cond (eqb (sound i bytes) i && shaped (first-line (after i bytes))) (suc i) (sound i bytes)
-unfolding sound bytes-of
-sound-more zero bytes = refl
-sound-more (suc i) bytes =
+pub formed-more : (i : ℕ) (bytes : List ℕ)
+    → formed (suc i) bytes ≡ cond (eqb (formed i bytes) i && shaped (first-line (after i bytes))) (suc i) (formed i bytes)
+unfolding formed bytes-of
+formed-more zero bytes = refl
+formed-more (suc i) bytes =
     ap (λ (s : ℕ). cond (shaped (first-line bytes)) (suc s) 0)
-    (sound-more i (rest bytes)
-    ∙ ap (λ (l : List ℕ). cond (eqb (sound i (rest bytes)) i && shaped (first-line l)) (suc i) (sound i (rest bytes))) (after-rest i bytes))
-    ∙ cases (shaped (first-line bytes)) (shaped (first-line (after (suc i) bytes))) (sound i (rest bytes))
+    (formed-more i (rest bytes)
+    ∙ ap (λ (l : List ℕ). cond (eqb (formed i (rest bytes)) i && shaped (first-line l)) (suc i) (formed i (rest bytes))) (after-rest i bytes))
+    ∙ cases (shaped (first-line bytes)) (shaped (first-line (after (suc i) bytes))) (formed i (rest bytes))
   where
     cases : (a b : Bool) (s : ℕ)
         → cond a (suc (cond (eqb s i && b) (suc i) s)) 0 ≡ cond (eqb (cond a (suc s) 0) (suc i) && b) (suc (suc i)) (cond a (suc s) 0)
@@ -71,10 +71,10 @@ sound-more (suc i) bytes =
         out true = refl
         out false = refl
 
-pub sound-most : (m : ℕ) (bytes : List ℕ) → sound m bytes ≤ m
-unfolding sound
-sound-most zero bytes = omega arith
-sound-most (suc m) bytes = cases (shaped (first-line bytes)) (sound-most m (rest bytes))
+pub formed-most : (m : ℕ) (bytes : List ℕ) → formed m bytes ≤ m
+unfolding formed
+formed-most zero bytes = omega arith
+formed-most (suc m) bytes = cases (shaped (first-line bytes)) (formed-most m (rest bytes))
   where
     cases : (a : Bool) {s : ℕ} → s ≤ m → cond a (suc s) 0 ≤ suc m
     cases true h = omega arith
@@ -115,12 +115,12 @@ fill-more into bytes i v h e f =
     ∙ sym (numbers-more i bytes)
     ∙ ap (λ (k : ℕ). numbers k bytes) (sym (add-one i))
 
-module _ (bytes : List ℕ) (i s : ℕ) (shape : Bool) (so-far : s ≡ sound i bytes) (same : shape ≡ shaped (first-line (after i bytes))) where
-  now : sound (i + 1) bytes ≡ cond (eqb s i && shape) (i + 1) s
-  now = rw (add-one i, sound-more i bytes, so-far, same)
+module _ (bytes : List ℕ) (i s : ℕ) (shape : Bool) (so-far : s ≡ formed i bytes) (same : shape ≡ shaped (first-line (after i bytes))) where
+  now : formed (i + 1) bytes ≡ cond (eqb s i && shape) (i + 1) s
+  now = rw (add-one i, formed-more i bytes, so-far, same)
 
-  pub sound-up : (eqb s i && shape) ≡ true → i + 1 ≡ sound (i + 1) bytes
-  sound-up e = sym (now ∙ ap (λ (t : Bool). cond t (i + 1) s) e)
+  pub formed-up : (eqb s i && shape) ≡ true → i + 1 ≡ formed (i + 1) bytes
+  formed-up e = sym (now ∙ ap (λ (t : Bool). cond t (i + 1) s) e)
 
-  pub sound-stays : (eqb s i && shape) ≡ false → s ≡ sound (i + 1) bytes
-  sound-stays e = sym (now ∙ ap (λ (t : Bool). cond t (i + 1) s) e)
+  pub formed-stays : (eqb s i && shape) ≡ false → s ≡ formed (i + 1) bytes
+  formed-stays e = sym (now ∙ ap (λ (t : Bool). cond t (i + 1) s) e)

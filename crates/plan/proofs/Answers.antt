@@ -10,7 +10,7 @@ use Rattle.plan.specs.declared.lines.Line.{Line}
 use Rattle.plan.specs.declared.lines.Line.the-variants.{Number, Misshapen}
 use Rattle.plan.specs.declared.table.Fault.{Fault}
 use Rattle.plan.specs.declared.table.Fault.the-variants.{None, At}
-use Rattle.plan.specs.Lines.{lines, first-line, rest, numbers, sound, after}
+use Rattle.plan.specs.Lines.{lines, first-line, rest, numbers, formed, after}
 use Rattle.plan.specs.Plan.{Reading, faulty, accepted, check, many, prices, bids, or-fault, ending, read, read-prices, read-bids}
 use Rattle.plan.specs.Judged.{tables, good-prices, bids-fault}
 use Rattle.plan.proofs.Again.{bytes-one, after-add}
@@ -44,10 +44,10 @@ module _ (bytes : List ℕ) where
     n-range t = n-number ∙ fails (leb 3 n && leb n 9) 1 1 _ t
 
     module _ (t : (leb 3 n && leb n 9) ≡ true) where
-      pub seeds-torn : sound n (rest bytes) < n → read (lines bytes) ≡ faulty 13 (2 + sound n (rest bytes))
+      pub seeds-torn : formed n (rest bytes) < n → read (lines bytes) ≡ faulty 13 (2 + formed n (rest bytes))
       seeds-torn h = n-number ∙ passes (leb 3 n && leb n 9) 1 1 _ t ∙ many-torn n 2 (rest bytes) (λ seeds ls. read-prices n seeds ls) h
 
-      pub seeds-all : sound n (rest bytes) ≡ n
+      pub seeds-all : formed n (rest bytes) ≡ n
           → read (lines bytes) ≡ read-prices n (numbers n (rest bytes)) (lines (after n (rest bytes)))
       seeds-all h = n-number ∙ passes (leb 3 n && leb n 9) 1 1 _ t ∙ many-all n 2 (rest bytes) (λ seeds ls. read-prices n seeds ls) h
 

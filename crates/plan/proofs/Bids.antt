@@ -11,22 +11,22 @@ use borrow.Author.Tests.{eq-eqb, ne-eqb, eqb-true, eqb-false}
 use Rattle.plan.specs.declared.lines.Line.{Line}
 use Rattle.plan.specs.declared.table.Fault.{Fault}
 use Rattle.plan.specs.declared.table.Fault.the-variants.{None, At}
-use Rattle.plan.specs.Lines.{lines, numbers, bytes-of, sound, after}
+use Rattle.plan.specs.Lines.{lines, numbers, bytes-of, formed, after}
 use Rattle.plan.specs.Plan.{Reading, many, table-fault, or-fault, bids}
 use Rattle.plan.specs.Judged.{tables, bid-fault, bids-fault, or-else}
-use Rattle.plan.proofs.Again.{bytes-add, after-add, sound-most, here}
+use Rattle.plan.proofs.Again.{bytes-add, after-add, formed-most, here}
 use Rattle.plan.proofs.Sections.{either, many-all, many-torn}
 
 -- ---- one bid
 
 module _ (k line : ℕ) (bytes : List ℕ) where
-  pub torn : sound (2 * k) bytes < 2 * k → bid-fault k line bytes ≡ At 13 (line + sound (2 * k) bytes)
+  pub torn : formed (2 * k) bytes < 2 * k → bid-fault k line bytes ≡ At 13 (line + formed (2 * k) bytes)
   unfolding bid-fault
-  torn h = rw (ne-eqb (sound (2 * k) bytes) (2 * k) (λ e. omega arith))
+  torn h = rw (ne-eqb (formed (2 * k) bytes) (2 * k) (λ e. omega arith))
 
-  pub whole : sound (2 * k) bytes ≡ 2 * k → bid-fault k line bytes ≡ table-fault k line (numbers (2 * k) bytes)
+  pub whole : formed (2 * k) bytes ≡ 2 * k → bid-fault k line bytes ≡ table-fault k line (numbers (2 * k) bytes)
   unfolding bid-fault
-  whole h = rw (eq-eqb (sound (2 * k) bytes) (2 * k) h)
+  whole h = rw (eq-eqb (formed (2 * k) bytes) (2 * k) h)
 
   -- what the lines of a bid lead to
   pub one-bid : (go : List ℕ → List Line → Reading)
@@ -36,13 +36,13 @@ module _ (k line : ℕ) (bytes : List ℕ) where
   one-bid go =
       let next : List ℕ → List Line → Reading = λ table ls. or-fault (table-fault k line table) (go table ls) in
       ⊎-elim
-      (λ e. let h = eqb-true (sound (2 * k) bytes) (2 * k) e in
+      (λ e. let h = eqb-true (formed (2 * k) bytes) (2 * k) e in
       many-all (2 * k) line bytes next h
       ∙ ap (λ (f : Fault). or-fault f (go (numbers (2 * k) bytes) (lines (after (2 * k) bytes)))) (sym (whole h)))
-      (λ e. let h : sound (2 * k) bytes < 2 * k = omega (arith, sound-most (2 * k) bytes, eqb-false (sound (2 * k) bytes) (2 * k) e) in
+      (λ e. let h : formed (2 * k) bytes < 2 * k = omega (arith, formed-most (2 * k) bytes, eqb-false (formed (2 * k) bytes) (2 * k) e) in
       many-torn (2 * k) line bytes next h
       ∙ ap (λ (f : Fault). or-fault f (go (numbers (2 * k) bytes) (lines (after (2 * k) bytes)))) (sym (torn h)))
-      (either (eqb (sound (2 * k) bytes) (2 * k)))
+      (either (eqb (formed (2 * k) bytes) (2 * k)))
 
 -- ---- the bids
 

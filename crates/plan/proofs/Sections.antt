@@ -11,10 +11,10 @@ use Rattle.plan.specs.declared.lines.Line.{Line}
 use Rattle.plan.specs.declared.lines.Line.the-variants.{Number, Misshapen}
 use Rattle.plan.specs.declared.lines.Part.{Part}
 use Rattle.plan.specs.declared.lines.Part.the-variants.{Empty, Digits, Bad}
-use Rattle.plan.specs.Lines.{digit, with-digit, grown, ended, lines-after, lines, line-after, first-line, line-length, rest, value, shaped, numbers, bytes-of, sound, after}
+use Rattle.plan.specs.Lines.{digit, with-digit, grown, ended, lines-after, lines, line-after, first-line, line-length, rest, value, shaped, numbers, bytes-of, formed, after}
 use Rattle.plan.specs.Plan.{Reading, faulty, needed, many, prices, next-price, rising, ending}
 use Rattle.plan.specs.Judged.{good-prices}
-use Rattle.plan.proofs.Again.{after-rest, sound-most}
+use Rattle.plan.proofs.Again.{after-rest, formed-most}
 use Rattle.plan.proofs.Counts.{rising-most}
 
 -- ---- the lines, one at a time
@@ -90,41 +90,41 @@ module _ (at : ℕ) (go : ℕ → List Line → Reading) where
 -- ---- m lines
 
 module _ (m : ℕ) (bytes : List ℕ) where
-  sound-number : (v : ℕ) → first-line bytes ≡ Number v → sound (suc m) bytes ≡ suc (sound m (rest bytes))
-  unfolding sound
-  sound-number v e = ap (λ (l : Line). cond (shaped l) (suc (sound m (rest bytes))) 0) e
+  formed-number : (v : ℕ) → first-line bytes ≡ Number v → formed (suc m) bytes ≡ suc (formed m (rest bytes))
+  unfolding formed
+  formed-number v e = ap (λ (l : Line). cond (shaped l) (suc (formed m (rest bytes))) 0) e
 
-  sound-misshapen : first-line bytes ≡ Misshapen → sound (suc m) bytes ≡ 0
-  unfolding sound
-  sound-misshapen e = ap (λ (l : Line). cond (shaped l) (suc (sound m (rest bytes))) 0) e
+  formed-misshapen : first-line bytes ≡ Misshapen → formed (suc m) bytes ≡ 0
+  unfolding formed
+  formed-misshapen e = ap (λ (l : Line). cond (shaped l) (suc (formed m (rest bytes))) 0) e
 
   numbers-number : (v : ℕ) → first-line bytes ≡ Number v → numbers (suc m) bytes ≡ v ∷ numbers m (rest bytes)
   unfolding numbers
   numbers-number v e = ap (λ (l : Line). value l ∷ numbers m (rest bytes)) e
 
-pub many-all : (m at : ℕ) (bytes : List ℕ) (go : List ℕ → List Line → Reading) → sound m bytes ≡ m
+pub many-all : (m at : ℕ) (bytes : List ℕ) (go : List ℕ → List Line → Reading) → formed m bytes ≡ m
     → many m at (lines bytes) go ≡ go (numbers m bytes) (lines (after m bytes))
 unfolding many numbers bytes-of
 many-all zero at bytes go h = refl
 many-all (suc m) at bytes go h =
     ⊎-elim
     (λ w. needed-number at (λ v ls. many m (at + 1) ls (λ vs ls. go (v ∷ vs) ls)) bytes (w .0) (w .1)
-    ∙ many-all m (at + 1) (rest bytes) (λ vs ls. go (w .0 ∷ vs) ls) (omega (arith, sound-number m bytes (w .0) (w .1)))
+    ∙ many-all m (at + 1) (rest bytes) (λ vs ls. go (w .0 ∷ vs) ls) (omega (arith, formed-number m bytes (w .0) (w .1)))
     ∙ ap₂ (λ (vs bs : List ℕ). go vs (lines bs)) (sym (numbers-number m bytes (w .0) (w .1))) (after-rest m bytes))
-    (λ e. absurd (omega (arith, sound-misshapen m bytes e)))
+    (λ e. absurd (omega (arith, formed-misshapen m bytes e)))
     (line-of bytes)
 
-pub many-torn : (m at : ℕ) (bytes : List ℕ) (go : List ℕ → List Line → Reading) → sound m bytes < m
-    → many m at (lines bytes) go ≡ faulty 13 (at + sound m bytes)
+pub many-torn : (m at : ℕ) (bytes : List ℕ) (go : List ℕ → List Line → Reading) → formed m bytes < m
+    → many m at (lines bytes) go ≡ faulty 13 (at + formed m bytes)
 unfolding many
 many-torn zero at bytes go h = absurd (omega arith)
 many-torn (suc m) at bytes go h =
     ⊎-elim
     (λ w. needed-number at (λ v ls. many m (at + 1) ls (λ vs ls. go (v ∷ vs) ls)) bytes (w .0) (w .1)
-    ∙ many-torn m (at + 1) (rest bytes) (λ vs ls. go (w .0 ∷ vs) ls) (omega (arith, sound-number m bytes (w .0) (w .1)))
-    ∙ ap (faulty 13) (omega (arith, sound-number m bytes (w .0) (w .1))))
+    ∙ many-torn m (at + 1) (rest bytes) (λ vs ls. go (w .0 ∷ vs) ls) (omega (arith, formed-number m bytes (w .0) (w .1)))
+    ∙ ap (faulty 13) (omega (arith, formed-number m bytes (w .0) (w .1))))
     (λ e. needed-misshapen at (λ v ls. many m (at + 1) ls (λ vs ls. go (v ∷ vs) ls)) bytes e
-    ∙ ap (faulty 13) (omega (arith, sound-misshapen m bytes e)))
+    ∙ ap (faulty 13) (omega (arith, formed-misshapen m bytes e)))
     (line-of bytes)
 
 -- ---- the prices
@@ -133,16 +133,16 @@ module _ (k last : ℕ) (bytes : List ℕ) where
   good-number : (v : ℕ) → first-line bytes ≡ Number v
       → good-prices (suc k) last bytes ≡ cond (next-price last v) (suc (good-prices k v (rest bytes))) 0
   unfolding rising
-  good-number v e = ap₂ (λ (s : ℕ) (vs : List ℕ). rising last (take s vs)) (sound-number k bytes v e) (numbers-number k bytes v e)
+  good-number v e = ap₂ (λ (s : ℕ) (vs : List ℕ). rising last (take s vs)) (formed-number k bytes v e) (numbers-number k bytes v e)
 
   good-misshapen : first-line bytes ≡ Misshapen → good-prices (suc k) last bytes ≡ 0
   unfolding rising
-  good-misshapen e = ap (λ (s : ℕ). rising last (take s (numbers (suc k) bytes))) (sound-misshapen k bytes e)
+  good-misshapen e = ap (λ (s : ℕ). rising last (take s (numbers (suc k) bytes))) (formed-misshapen k bytes e)
 
 pub good-most : (k last : ℕ) (bytes : List ℕ) → good-prices k last bytes ≤ k
 good-most k last bytes =
-    let l = length-take (sound k bytes) (numbers k bytes) in
-    omega (arith, rising-most last (take (sound k bytes) (numbers k bytes)), l, sound-most k bytes)
+    let l = length-take (formed k bytes) (numbers k bytes) in
+    omega (arith, rising-most last (take (formed k bytes) (numbers k bytes)), l, formed-most k bytes)
 
 -- a test, known
 pub either : (t : Bool) → (t ≡ true) ⊎ (t ≡ false)

@@ -50,10 +50,10 @@ module _ (k line : ℕ) (table : List ℕ) where
   falls s d h =
       simp (passed-every (λ a. leb a most) table s, bend-steps (λ x y. leb y x) (take k table) d, not-steps leb (drop k table) h)
 
-  pub sound-table : Small table ≡ length table → Demand k table ≡ length (take k table) → Supply k table ≡ length (drop k table)
+  pub formed-table : Small table ≡ length table → Demand k table ≡ length (take k table) → Supply k table ≡ length (drop k table)
       → table-fault k line table ≡ None
   unfolding table-fault
-  sound-table s d h =
+  formed-table s d h =
       simp (passed-every (λ a. leb a most) table s, bend-steps (λ x y. leb y x) (take k table) d, bend-steps leb (drop k table) h)
 
   -- a table without a fault

@@ -9,7 +9,7 @@ use Rattle.plan.specs.declared.table.Fault.the-variants.{None, At}
 use Rattle.plan.specs.declared.judging.Shape.{Shape}
 use Rattle.plan.specs.declared.judging.Judged.{Judged}
 use Rattle.plan.specs.declared.judging.Judged.the-variants.{Faulty, Good}
-use Rattle.plan.specs.Lines.{lines, value, first-line, numbers, bytes-of, sound, after}
+use Rattle.plan.specs.Lines.{lines, value, first-line, numbers, bytes-of, formed, after}
 use Rattle.plan.specs.Plan.{Plan, Reading, faulty, accepted, xor-of, rising, table-fault, read}
 
 -- an accepted plan: its counts, the seeds' exclusive or, and how many bytes stand before its prices and before its bids
@@ -44,7 +44,7 @@ price-of index bytes = value (first-line (after (index - 1) bytes))
 
 -- how many of k prices that come after the last are good before the first that is not
 abbrev pub good-prices : (k last : ℕ) → List ℕ → ℕ
-good-prices k last bytes = rising last (take (sound k bytes) (numbers k bytes))
+good-prices k last bytes = rising last (take (formed k bytes) (numbers k bytes))
 
 -- m tables, one after another
 unfoldable pub tables : (k m : ℕ) → List ℕ → List (List ℕ)
@@ -54,7 +54,7 @@ tables k (suc m) bytes = numbers (2 * k) bytes ∷ tables k m (after (2 * k) byt
 -- the first fault of a bid, and of m bids
 unfoldable pub bid-fault : (k line : ℕ) → List ℕ → Fault
 bid-fault k line bytes =
-    cond (eqb (sound (2 * k) bytes) (2 * k)) (table-fault k line (numbers (2 * k) bytes)) (At 13 (line + sound (2 * k) bytes))
+    cond (eqb (formed (2 * k) bytes) (2 * k)) (table-fault k line (numbers (2 * k) bytes)) (At 13 (line + formed (2 * k) bytes))
 
 unfoldable pub or-else : Fault → Fault → Fault
 or-else None next = next

@@ -77,9 +77,9 @@ unfoldable pub bytes-of : ℕ → List ℕ → ℕ
 bytes-of zero bytes = 0
 bytes-of (suc m) bytes = line-length bytes + bytes-of m (rest bytes)
 
-unfoldable pub sound : ℕ → List ℕ → ℕ
-sound zero bytes = 0
-sound (suc m) bytes = cond (shaped (first-line bytes)) (suc (sound m (rest bytes))) 0
+unfoldable pub formed : ℕ → List ℕ → ℕ
+formed zero bytes = 0
+formed (suc m) bytes = cond (shaped (first-line bytes)) (suc (formed m (rest bytes))) 0
 
 -- what follows the first m lines
 abbrev pub after : ℕ → List ℕ → List ℕ

@@ -2,7 +2,7 @@
 ghost use mathlib.Core.Path.{_≡_};
 ghost use Prim.Native.Nat.{_+_, _*_, _≤_, _<_};
 ghost use lib.ListN.{length, drop};
-ghost use Rattle.plan.specs.Lines.{lines, numbers, bytes-of, sound};
+ghost use Rattle.plan.specs.Lines.{lines, numbers, bytes-of, formed};
 ghost use Rattle.plan.specs.Plan.{read-prices, read-bids, xor-of};
 ghost use Rattle.plan.specs.Judged.{seeds-of, prices-of, good-prices, bid-fault, bids-fault, as-judged, judged-as};
 use crate::lines::Line;
@@ -37,7 +37,7 @@ pub struct BidsRead {
 
 // How many seeds are numbers before the first line that is none, and their exclusive or.
 pub struct SeedsRead {
-    pub sound: usize,
+    pub formed: usize,
     pub xor: u64,
     pub next: usize,
 }
@@ -63,8 +63,8 @@ pub fn judge(input: &[u8]) -> Judged
     let m = n as usize;
     let mut seeds = [0u64; 9];
     let read = read_seeds(input, first.next, &mut seeds[..m]);
-    if read.sound != m {
-        return Judged::Faulty(13, 2 + read.sound as u64);
+    if read.formed != m {
+        return Judged::Faulty(13, 2 + read.formed as u64);
     }
     judge_prices(input, read.next, n, read.xor)
 }
@@ -159,11 +159,11 @@ fn read_bid(input: &[u8], at: usize, k: u64, line: u64, table: &mut [u64]) -> Bi
         × (r .next ≡ at + bytes-of (2 * k) (drop at (now (input .entry)))) ⌝ }
 {
     let read = read_numbers(input, at, table);
-    let sound = read.sound;
+    let formed = read.formed;
     let next = read.next;
-    if sound != table.len() {
+    if formed != table.len() {
         return BidsRead {
-            fault: Fault::At(13, line + sound as u64),
+            fault: Fault::At(13, line + formed as u64),
             next,
         };
     }
@@ -175,13 +175,13 @@ fn read_bid(input: &[u8], at: usize, k: u64, line: u64, table: &mut [u64]) -> Bi
 
 // Seeds are read into a lent slice, and mixed.
 fn read_seeds(input: &[u8], at: usize, seeds: &mut [u64]) -> SeedsRead
-    ensures { λ r. ⌜ (r .sound ≡ sound (length (now (seeds .entry))) (drop at (now (input .entry))))
+    ensures { λ r. ⌜ (r .formed ≡ formed (length (now (seeds .entry))) (drop at (now (input .entry))))
         × (r .xor ≡ xor-of (numbers (length (now (seeds .entry))) (drop at (now (input .entry)))))
         × (r .next ≡ at + bytes-of (length (now (seeds .entry))) (drop at (now (input .entry)))) ⌝ }
 {
     let read = read_numbers(input, at, seeds);
     SeedsRead {
-        sound: read.sound,
+        formed: read.formed,
         xor: xor_of(&seeds[..]),
         next: read.next,
     }
@@ -193,9 +193,9 @@ fn read_prices(input: &[u8], at: usize, prices: &mut [u64]) -> PricesRead
         × (r .next ≡ at + bytes-of (length (now (prices .entry))) (drop at (now (input .entry)))) ⌝ }
 {
     let read = read_numbers(input, at, prices);
-    let sound = read.sound;
+    let formed = read.formed;
     PricesRead {
-        good: rising(&prices[..sound]),
+        good: rising(&prices[..formed]),
         next: read.next,
     }
 }

@@ -2,13 +2,13 @@
 ghost use mathlib.Core.Path.{_≡_};
 ghost use Prim.Native.Nat.{_+_};
 ghost use lib.ListN.{length, drop};
-ghost use Rattle.plan.specs.Lines.{value, shaped, after, first-line, numbers, bytes-of, sound};
+ghost use Rattle.plan.specs.Lines.{value, shaped, after, first-line, numbers, bytes-of, formed};
 use crate::lines::Line;
 use crate::lines::read_line;
 
 // How many lines were numbers before the first that was not, and where the next line begins.
 pub struct Numbers {
-    pub sound: usize,
+    pub formed: usize,
     pub next: usize,
 }
 
@@ -16,22 +16,22 @@ pub struct Numbers {
 pub(crate) fn read_numbers(input: &[u8], at: usize, into: &mut [u64]) -> Numbers
     ensures { λ r. ⌜ (now (into .exit) ≡ numbers (length (now (into .entry))) (drop at (now (input .entry))))
         × (r .next ≡ at + bytes-of (length (now (into .entry))) (drop at (now (input .entry))))
-        × (r .sound ≡ sound (length (now (into .entry))) (drop at (now (input .entry)))) ⌝ }
+        × (r .formed ≡ formed (length (now (into .entry))) (drop at (now (input .entry)))) ⌝ }
 {
-    let mut sound = 0;
+    let mut formed = 0;
     let mut next = at;
     let mut i = 0;
     while i < into.len() {
         let read = read_line(input, next);
         let line = read.line;
         into[i] = value(line);
-        if (sound == i) & shaped(line) {
-            sound = i + 1;
+        if (formed == i) & shaped(line) {
+            formed = i + 1;
         }
         next = read.next;
         i += 1;
     }
-    Numbers { sound, next }
+    Numbers { formed, next }
 }
 
 // A bid's table, read again. The answer is where the next bid begins.

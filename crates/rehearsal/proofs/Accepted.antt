@@ -17,15 +17,15 @@ use Rattle.plan.specs.declared.table.Fault.{Fault}
 use Rattle.plan.specs.declared.table.Fault.the-variants.{None, At}
 use Rattle.plan.specs.declared.judging.Shape.{Shape}
 use Rattle.plan.specs.declared.judging.Judged.the-variants.{Faulty, Good}
-use Rattle.plan.specs.Lines.{lines, rest, numbers, sound, after}
+use Rattle.plan.specs.Lines.{lines, rest, numbers, formed, after}
 use Rattle.plan.specs.Plan.{Plan, Reading, faulty, accepted, read, read-prices, read-bids}
 use Rattle.plan.specs.Judged.{shape-of, as-judged, judged-as, seeds-of, prices-of, price-of, good-prices, tables, bid-fault, bids-fault, or-else}
-use Rattle.rehearsal.specs.Listing.{refused-line, probe-lines, clears-line, rounds-line, told, auction, plan-trail, printed, listing, course-trail}
+use Rattle.rehearsal.specs.Listing.{refused-line, probe-lines, clears-line, rounds-line, search-lines, auction, plan-trail, printed, listing, course-trail}
 use Rattle.rehearsal.specs.Bidden.{auction-of}
 use Rattle.rehearsal.specs.Follows.{Follows, Right}
 use Rattle.rehearsal.specs.declared.course.Course.{Course}
 use Rattle.rehearsal.proofs.Parts.{limit-nine}
-use Rattle.plan.proofs.Again.{bytes-one, after-add, sound-most, length-numbers, number-at}
+use Rattle.plan.proofs.Again.{bytes-one, after-add, formed-most, length-numbers, number-at}
 use Rattle.plan.proofs.Sections.{line-of, either, good-most}
 use Rattle.plan.proofs.Bids.{torn, whole, length-tables}
 use Rattle.plan.proofs.Tables.{faultless}
@@ -57,7 +57,7 @@ n-read bytes p e =
       next = sym (seeds-all bytes (w .0) (w .1) t h) ∙ e;
     })
     (λ h. absurd (refuses (seeds-torn bytes (w .0) (w .1) t h) e))
-    (same-or-less (sound (w .0) (rest bytes)) (w .0) (sound-most (w .0) (rest bytes))))
+    (same-or-less (formed (w .0) (rest bytes)) (w .0) (formed-most (w .0) (rest bytes))))
     (λ t. absurd (refuses (n-range bytes (w .0) (w .1) t) e))
     (either (leb 3 (w .0) && leb (w .0) 9)))
     (λ m. absurd (refuses (n-misshapen bytes m) e))
@@ -137,7 +137,7 @@ good-table k line bytes e =
     (λ h. let f = faultless k line (numbers (2 * k) bytes) (sym (whole k line bytes h) ∙ e) in
     record { long = length-numbers (2 * k) bytes; small = f .0; monotone = f .1 })
     (λ h. absurd (let z : _≡_ {A = ℕ} 0 1 = apart (torn k line bytes h) e in omega arith))
-    (same-or-less (sound (2 * k) bytes) (2 * k) (sound-most (2 * k) bytes))
+    (same-or-less (formed (2 * k) bytes) (2 * k) (formed-most (2 * k) bytes))
   where
     apart : {f : Fault} {number at : ℕ} → f ≡ At number at → f ≡ None → _≡_ {A = ℕ} 0 1
     apart e g = cc
@@ -250,33 +250,33 @@ judged-faulty bytes number line e = by (read (lines bytes)) e
         same e = (cc, cc)
     by (accepted p) e = absurd (let z : _≡_ {A = ℕ} 0 1 = cc in omega arith)
 
--- ---- a right course is told as the listing
+-- ---- a right course is search-lines as the listing
 
 same-clears : (answer a b : ℕ) → (0 < answer → a ≡ b) → clears-line answer a ≡ clears-line answer b
 unfolding clears-line
 same-clears zero a b h = refl
 same-clears (suc i) a b h = ap (clears-line (suc i)) (h (omega arith))
 
-told-listing : (bytes : List ℕ) (p : Plan) → read (lines bytes) ≡ accepted p
+search-listing : (bytes : List ℕ) (p : Plan) → read (lines bytes) ≡ accepted p
     → (probes : List (ℕ × ℕ)) (answer : ℕ) → probes ≡ plan-trail p → answer ≡ clearing-answer (auction p)
-    → told probes answer (price-of answer (drop (shape-of bytes p .«prices_at») bytes)) ≡ listing bytes
+    → search-lines probes answer (price-of answer (drop (shape-of bytes p .«prices_at») bytes)) ≡ listing bytes
 unfolding printed
-told-listing bytes p e probes answer f g =
+search-listing bytes p e probes answer f g =
     let i = clearing-answer (auction p) in
     let bs = after (p .n + 2) bytes in
     let w = clearing-within (demand (auction p)) (supply (auction p)) (p .k) in
     let price : 0 < i → price-of i bs ≡ getD (p .prices) (i - 1) 0 =
     λ h. sym (ap (λ (v : List ℕ). getD v (i - 1) 0) (accepted-plan bytes p e .prices) ∙ number-at (p .k) (i - 1) bs (omega (arith, w))) in
-    ap₂ (λ (t : List (ℕ × ℕ)) (j : ℕ). told t j (price-of j bs)) f g
+    ap₂ (λ (t : List (ℕ × ℕ)) (j : ℕ). search-lines t j (price-of j bs)) f g
     ∙ ap (λ (l : List ℕ). probe-lines 1 (plan-trail p) ++ (l ++ rounds-line (length (plan-trail p)))) (same-clears i (price-of i bs) (getD (p .prices) (i - 1) 0) price)
     ∙ sym (ap printed e)
 
 pub right-listing : (bytes : List ℕ) (shape : Shape) (c : Course) → judged-as bytes ≡ Good shape → Right bytes c
-    → told (course-trail (c .index) (c .verdict) (c .probes)) (c .clearing) (price-of (c .clearing) (drop (shape .«prices_at») bytes)) ≡ listing bytes
+    → search-lines (course-trail (c .index) (c .verdict) (c .probes)) (c .clearing) (price-of (c .clearing) (drop (shape .«prices_at») bytes)) ≡ listing bytes
 right-listing bytes shape c e r =
     let j = judged-good bytes (read (lines bytes)) shape e in
     let p = j .0 in
     let F = r .follows p (j .1) in
     let probes = course-trail (c .index) (c .verdict) (c .probes) in
-    ap (λ (s : Shape). told probes (c .clearing) (price-of (c .clearing) (drop (s .«prices_at») bytes))) (j .2)
-    ∙ told-listing bytes p (j .1) probes (c .clearing) (F .noted) (F .clears)
+    ap (λ (s : Shape). search-lines probes (c .clearing) (price-of (c .clearing) (drop (s .«prices_at») bytes))) (j .2)
+    ∙ search-listing bytes p (j .1) probes (c .clearing) (F .noted) (F .clears)

@@ -13,21 +13,21 @@ use Rattle.sharing.specs.Scheme.{threshold}
 use Rattle.comparison.specs.Probe as probe
 use Rattle.comparison.proofs.Dealt.{dealt-shared}
 use Rattle.dealer.specs.Deal.{deal-judgement, deal-left}
-use Rattle.auction.specs.Coins.{flat, sheet-words, sheet-bytes}
+use Rattle.auction.specs.Coins.{flat, drawn-words, drawn-bytes}
 use Rattle.auction.proofs.Judging.{kept-new, is-party, is-below}
 use Rattle.auction.proofs.Dealing.{bytes-length, sheet-written}
 use Rattle.auction.proofs.Sheets.{sheet-length}
 use Rattle.draws.specs.Draws.{next, next-coin, later, drawn-coins, drawn-bytes, sheet-coins, after-sheet, all-sheets}
 use Rattle.rehearsal.specs.Parties.{sheet-dealt}
 use Rattle.rehearsal.specs.Dealt.{sheet-put, sheets-of}
-use Rattle.draws.proofs.Drawn.{Word, sheet-in-range, sheet-words-drawn, sheet-bytes-drawn}
+use Rattle.draws.proofs.Drawn.{Word, sheet-in-range, words-drawn, bytes-drawn}
 
 module _ (n j : ℕ) (h3 : 3 ≤ n) (h9 : n ≤ 9) (h1 : 1 ≤ j) (hn : j ≤ n) where
   module _ (s : probe.Coins) (h : probe.InRange (threshold n) s) (sheet : List ℕ) (l : length sheet ≡ 127) where
-    accepted : deal-judgement n j (sheet-words s) (sheet-bytes s) sheet ≡ Accepted
+    accepted : deal-judgement n j (drawn-words s) (drawn-bytes s) sheet ≡ Accepted
     unfolding deal-judgement judged
     accepted =
-        let words : length (sheet-words s) ≡ 1 + threshold n = ap suc (h .of-mask .0) ∙ omega arith in
+        let words : length (drawn-words s) ≡ 1 + threshold n = ap suc (h .of-mask .0) ∙ omega arith in
         simp (
           is-party n j h3 h9 h1 hn,
           eq-eqb _ _ words,
@@ -37,7 +37,7 @@ module _ (n j : ℕ) (h3 : 3 ≤ n) (h9 : n ≤ 9) (h1 : 1 ≤ j) (hn : j ≤ n)
           is-below p (s .of-mask) (h .of-mask .1),
         )
 
-    writes : deal-left n j (sheet-words s) (sheet-bytes s) sheet ≡ probe.sheet-words j (probe.dealt s)
+    writes : deal-left n j (drawn-words s) (drawn-bytes s) sheet ≡ probe.sheet-shares j (probe.dealt s)
     writes = kept-new _ accepted _ sheet ∙ sheet-written (threshold n) j s h
 
   -- what the draws from a state on are dealt as
@@ -49,7 +49,7 @@ module _ (n j : ℕ) (h3 : 3 ≤ n) (h9 : n ≤ 9) (h1 : 1 ≤ j) (hn : j ≤ n)
   dealt-put state at words drawn sheets w l ew ed =
       let s : probe.Coins = sheet-coins (threshold n) state in
       ap₂ (λ (x y : List ℕ). take at sheets ++ (deal-left n j x y (take 127 (drop at sheets)) ++ drop (at + 127) sheets))
-      (ew ∙ sym (sheet-words-drawn (threshold n) state)) (ed ∙ sym (sheet-bytes-drawn (threshold n) state))
+      (ew ∙ sym (words-drawn (threshold n) state)) (ed ∙ sym (bytes-drawn (threshold n) state))
       ∙ ap (λ (x : List ℕ). take at sheets ++ (x ++ drop (at + 127) sheets))
       (writes s (sheet-in-range (threshold n) state w) (take 127 (drop at sheets))
       (length-take-le 127 (drop at sheets) (omega (arith, length-drop at sheets))))
@@ -60,7 +60,7 @@ pub one-sheet : (t j state m i : ℕ) (xs : List ℕ) (whole : List ℕ) → Wor
     → take (127 * (i + 1)) (sheet-put t state j (127 * i) xs) ++ sheets-of j (all-sheets t (m - (i + 1)) (after-sheet t state)) ≡ whole
 unfolding sheet-put sheets-of all-sheets flat
 one-sheet t j state m i xs whole w h l e =
-    let W : List ℕ = probe.sheet-words j (probe.dealt (sheet-coins t state)) in
+    let W : List ℕ = probe.sheet-shares j (probe.dealt (sheet-coins t state)) in
     let front : List ℕ = take (127 * i) xs in
     let rest : List ℕ = sheets-of j (all-sheets t (m - (i + 1)) (after-sheet t state)) in
     let k : m - i ≡ suc (m - (i + 1)) = omega arith in

@@ -17,7 +17,7 @@ use Rattle.party.specs.Open.{fresh, open-reply, open-left}
 use Rattle.party.specs.Add.{add-reply, add-left}
 use Rattle.auction.specs.Auction.{Auction, GoodTable, IsAuction}
 use Rattle.auction.specs.Coins.{Coins, InRange, flat}
-use Rattle.auction.specs.Told.{Seat, returned, shares-for, added}
+use Rattle.auction.specs.Canonical.{Seat, returned, shares-for, added}
 use Rattle.auction.proofs.Closed.{entries, added-polynomials, totals-after, at-party, no-totals, polynomials, fresh-stage, record-at, sheets-at, seat}
 use Rattle.auction.proofs.Judging.{kept-new, returned-next}
 use Rattle.auction.proofs.Totals.{GoodBid, Held, entries-held, added-held, no-totals-held}

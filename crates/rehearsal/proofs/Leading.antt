@@ -29,7 +29,7 @@ use Rattle.refusal.specs.declared.Judgement.{Judgement}
 use Rattle.refusal.specs.declared.Judgement.the-variants.{Accepted}
 use Rattle.auction.specs.Auction.{Auction, IsAuction, demand, supply, clearing-answer}
 use Rattle.auction.specs.Coins.{Coins, InRange}
-use Rattle.auction.specs.Told.{Seat}
+use Rattle.auction.specs.Canonical.{Seat}
 use Rattle.auction.proofs.Closed.{fresh-stage, record-at, seat}
 use Rattle.auction.proofs.Totals.{totals-monotone}
 use Rattle.auction.proofs.Step.{Sane, fresh-sane, sound-at}

@@ -15,8 +15,8 @@ use Rattle.comparison.specs.Probe.{Probe}
 use Rattle.party.specs.declared.record.Party.{Party}
 use Rattle.auction.specs.Auction.{Auction, IsAuction}
 use Rattle.auction.specs.Coins.{Coins, InRange}
-use Rattle.auction.specs.Told as told
-use Rattle.auction.specs.Told.{word-by}
+use Rattle.auction.specs.Canonical as canonical
+use Rattle.auction.specs.Canonical.{word-by}
 use Rattle.auction.proofs.Closed.{polynomials, probe-at, Stage, fresh-stage}
 use Rattle.auction.proofs.Step.{Step}
 use Rattle.auction.proofs.Round.{Ready, stage-of, words-at, first-step, product-step, last-step}
@@ -45,11 +45,11 @@ module _ (a : Auction) (c : Coins) (σ τ : Stage) (w : ℕ → ℕ) (S : Step a
   pub round-stands : (after : List Party)
       → All (a .n) (λ i. getD after i none ≡ heard-by (a .k) parties totals sheets (all-said (a .n) (a .k) parties totals sheets) i)
       → Stands a c τ after totals sheets
-  unfolding heard-by told.heard
+  unfolding heard-by canonical.heard
   round-stands after e i h =
       ap (λ (q : Party). record { party = q; totals = part (2 * a .k) i totals; sheets = part (127 * limit (a .k)) i sheets })
       (e i h ∙ ap (λ (x : List ℕ). heard-by (a .k) parties totals sheets x i) words-said)
-      ∙ ap (told.heard a c (map w (points (a .n)))) (H i h)
+      ∙ ap (canonical.heard a c (map w (points (a .n)))) (H i h)
       ∙ S .next (i + 1) (omega arith) (omega arith)
 
 -- ---- the rounds of a probe

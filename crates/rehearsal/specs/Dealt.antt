@@ -8,8 +8,8 @@ use Rattle.draws.specs.Draws.{sheet-coins}
 
 -- a party's sheets, with the one at a place made of the draws from a state on
 unfoldable pub sheet-put : (t state own at : ℕ) → List ℕ → List ℕ
-sheet-put t state own at sheets = take at sheets ++ (probe.sheet-words own (probe.dealt (sheet-coins t state)) ++ drop (at + 127) sheets)
+sheet-put t state own at sheets = take at sheets ++ (probe.sheet-shares own (probe.dealt (sheet-coins t state)) ++ drop (at + 127) sheets)
 
 -- all of a party's sheets
 unfoldable pub sheets-of : ℕ → List probe.Coins → List ℕ
-sheets-of own ss = flat (map (λ s. probe.sheet-words own (probe.dealt s)) ss)
+sheets-of own ss = flat (map (λ s. probe.sheet-shares own (probe.dealt s)) ss)

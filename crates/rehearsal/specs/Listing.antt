@@ -44,8 +44,8 @@ unfoldable pub rounds-line : (probes : ℕ) → List ℕ
 rounds-line probes = (114 ∷ 111 ∷ 117 ∷ 110 ∷ 100 ∷ 115 ∷ 32 ∷ []) ++ (decimal (33 * probes) ++ newline)
 
 -- what is printed of a search: its probes, the answer with its price, and the rounds
-abbrev pub told : List (ℕ × ℕ) → (answer price : ℕ) → List ℕ
-told probes answer price = probe-lines 1 probes ++ (clears-line answer price ++ rounds-line (length probes))
+abbrev pub search-lines : List (ℕ × ℕ) → (answer price : ℕ) → List ℕ
+search-lines probes answer price = probe-lines 1 probes ++ (clears-line answer price ++ rounds-line (length probes))
 
 -- the auction of a plan, which no seed changes
 abbrev pub auction : Plan → Auction
@@ -57,7 +57,7 @@ plan-trail p = trail (promise (demand (auction p)) (supply (auction p))) (limit 
 
 unfoldable pub printed : Reading → List ℕ
 printed (faulty number line) = refused-line number line
-printed (accepted p) = told (plan-trail p) (clearing-answer (auction p)) (getD (p .prices) (clearing-answer (auction p) - 1) 0)
+printed (accepted p) = search-lines (plan-trail p) (clearing-answer (auction p)) (getD (p .prices) (clearing-answer (auction p) - 1) 0)
 
 -- the bytes of the listing, from the bytes of the input
 abbrev pub listing : List ℕ → List ℕ

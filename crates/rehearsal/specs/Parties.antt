@@ -10,7 +10,7 @@ use Rattle.party.specs.declared.record.Party.{Party}
 use Rattle.party.specs.Add.{add-reply, add-left}
 use Rattle.party.specs.Say.{say-reply}
 use Rattle.party.specs.Hear.{hear-reply}
-use Rattle.auction.specs.Told.{returned, word}
+use Rattle.auction.specs.Canonical.{returned, word}
 
 -- the record of nobody, before sessions are opened
 abbrev pub none : Party

@@ -13,7 +13,7 @@ use Rattle.comparison.specs.Probe.{secret, last-polynomial}
 use Rattle.party.specs.declared.record.Party.{Party}
 use Rattle.auction.specs.Auction.{Auction, IsAuction}
 use Rattle.auction.specs.Coins.{Coins, InRange}
-use Rattle.auction.specs.Told.{Seat}
+use Rattle.auction.specs.Canonical.{Seat}
 use Rattle.auction.proofs.Closed.{polynomials, probe-at, Stage, fresh-stage, seat}
 use Rattle.auction.proofs.Round.{Ready}
 use Rattle.rehearsal.specs.Parties.{none, All, part}

@@ -2,7 +2,7 @@
 ghost use mathlib.Core.Path.{_≡_};
 ghost use Prim.Native.Nat.{_+_, _*_, _≤_};
 ghost use lib.ListN.{length, drop, getD, replicate};
-ghost use Rattle.auction.specs.Told.{returned};
+ghost use Rattle.auction.specs.Canonical.{returned};
 ghost use Rattle.party.specs.Add.{add-reply, add-left};
 ghost use Rattle.sharing.specs.Scheme.{threshold};
 ghost use Rattle.rehearsal.specs.Bidden.{Adds};

@@ -2,7 +2,7 @@
 ghost use Prim.Native.Nat.{_+_, _≤_};
 ghost use lib.ListN.{length, drop};
 ghost use Rattle.rehearsal.specs.Text.{Wrote};
-ghost use Rattle.rehearsal.specs.Listing.{refused-line, probe-line, probe-lines, clears-line, rounds-line, course-trail, told};
+ghost use Rattle.rehearsal.specs.Listing.{refused-line, probe-line, probe-lines, clears-line, rounds-line, course-trail, search-lines};
 ghost use Rattle.plan.specs.Judged.{price-of};
 use crate::text::append;
 use crate::text::append_number;
@@ -32,7 +32,7 @@ pub(crate) fn write_refused(number: u64, line: u64, out: &mut [u8]) -> usize
 pub(crate) fn write_course(input: &[u8], shape: Shape, course: Course, out: &mut [u8]) -> usize
     requires { ⌜ (course .probes ≤ 9) × (824 ≤ length (now out)) ⌝ }
     ensures { λ r. ⌜ Wrote (now (out .entry)) 0
-        (told (course-trail (course .index) (course .verdict) (course .probes)) (course .clearing)
+        (search-lines (course-trail (course .index) (course .verdict) (course .probes)) (course .clearing)
         (price-of (course .clearing) (drop (shape .«prices_at») (now (input .entry)))))
         (now (out .exit)) r ⌝ }
 {

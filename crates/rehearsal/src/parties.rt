@@ -3,7 +3,7 @@
 ghost use mathlib.Core.Path.{_≡_};
 ghost use Prim.Native.Nat.{_+_, _*_, _≤_};
 ghost use lib.ListN.{length, getD};
-ghost use Rattle.auction.specs.Told.{returned, word};
+ghost use Rattle.auction.specs.Canonical.{returned, word};
 ghost use Rattle.party.specs.Open.{open-reply, open-left};
 ghost use Rattle.rehearsal.specs.Parties.{none, All, part};
 use party::Party;

@@ -10,7 +10,7 @@ use Rattle.search.specs.declared.Bracket.{Bracket}
 use Rattle.search.specs.Bracket.{start, middle, over, step}
 use Rattle.search.specs.Limit.{limit}
 use Rattle.search.specs.Clearing.{clearing, Monotone}
-use Rattle.search.specs.Search.{promise, follow, Heard, trail, verdicts}
+use Rattle.search.specs.Search.{promise, follow, Heard, trail, trail-verdicts}
 use Rattle.search.proofs.Narrowing.{Encloses, encloses-start, encloses-step, over-false, middle-above, middle-below, enough}
 use Rattle.search.proofs.Clearing.{verdict-by-clearing}
 use Rattle.search.proofs.Price.{encloses-heard, searched}
@@ -31,35 +31,35 @@ module _ (given : ℕ → ℕ) where
   trail-going q b e = rw (e, trail)
 
   -- a verdict of a trail is the one given at its index
-  pub trail-given : (q : ℕ) (b : Bracket) → verdicts (trail given q b) ≡ map given (map (λ p. p .0) (trail given q b))
+  pub trail-given : (q : ℕ) (b : Bracket) → trail-verdicts (trail given q b) ≡ map given (map (λ p. p .0) (trail given q b))
   unfolding trail
   trail-given zero b = refl
   trail-given (suc q) b = split (over b) refl (trail-given q (next b))
     where
-      split : (o : Bool) → over b ≡ o → verdicts (trail given q (next b)) ≡ map given (map (λ p. p .0) (trail given q (next b)))
-          → verdicts (trail given (suc q) b) ≡ map given (map (λ p. p .0) (trail given (suc q) b))
+      split : (o : Bool) → over b ≡ o → trail-verdicts (trail given q (next b)) ≡ map given (map (λ p. p .0) (trail given q (next b)))
+          → trail-verdicts (trail given (suc q) b) ≡ map given (map (λ p. p .0) (trail given (suc q) b))
       split true o e = rw (trail-over (suc q) b o) refl
       split false o e = rw (trail-going q b o) (ap (λ (l : List ℕ). given (middle b) ∷ l) e)
 
   -- a trail is what a search hears, cut short or not
-  pub trail-heard : (q : ℕ) (b : Bracket) → Heard given b (verdicts (trail given q b))
+  pub trail-heard : (q : ℕ) (b : Bracket) → Heard given b (trail-verdicts (trail given q b))
   unfolding Heard trail
   trail-heard zero b = tt
   trail-heard (suc q) b = split (over b) refl (trail-heard q (next b))
     where
-      split : (t : Bool) → over b ≡ t → Heard given (next b) (verdicts (trail given q (next b))) → Heard given b (verdicts (trail given (suc q) b))
+      split : (t : Bool) → over b ≡ t → Heard given (next b) (trail-verdicts (trail given q (next b))) → Heard given b (trail-verdicts (trail given (suc q) b))
       split true o h = rw (trail-over (suc q) b o) tt
       split false o h = rw (trail-going q b o) (o, refl, h)
 
   -- what a search hears until it is over, or until q verdicts, is the trail
   pub heard-trail : (q : ℕ) (b : Bracket) (vs : List ℕ) → Heard given b vs → length vs ≤ q → (over (follow b vs) ≡ false → length vs ≡ q)
-      → verdicts (trail given q b) ≡ vs
+      → trail-verdicts (trail given q b) ≡ vs
   unfolding Heard follow trail
   heard-trail zero b [] h le cut = refl
   heard-trail zero b (v ∷ vs) h le cut = absurd (omega arith)
   heard-trail (suc q) b [] h le cut = split (over b) refl
     where
-      split : (t : Bool) → over b ≡ t → verdicts (trail given (suc q) b) ≡ []
+      split : (t : Bool) → over b ≡ t → trail-verdicts (trail given (suc q) b) ≡ []
       split true o = rw (trail-over (suc q) b o)
       split false o = absurd (omega (arith, cut o))
   heard-trail (suc q) b (v ∷ vs) (going, e, h) le cut =
@@ -70,29 +70,29 @@ module _ (given : ℕ → ℕ) where
     marked i = eqb (given i) 1
 
     -- as many probes as the limit are enough, whatever verdicts are given
-    ends : (q : ℕ) {m : ℕ} (b : Bracket) → Encloses marked k m b → q + m ≡ limit k → over (follow b (verdicts (trail given q b))) ≡ true
+    ends : (q : ℕ) {m : ℕ} (b : Bracket) → Encloses marked k m b → q + m ≡ limit k → over (follow b (trail-verdicts (trail given q b))) ≡ true
     unfolding follow trail
     ends zero b E e = enough marked k E (omega arith)
     ends (suc q) {m} b E e = split (over b) refl (λ E′. ends q {m = suc m} (next b) E′ (omega arith))
       where
-        split : (t : Bool) → over b ≡ t → (Encloses marked k (suc m) (next b) → over (follow (next b) (verdicts (trail given q (next b)))) ≡ true)
-            → over (follow b (verdicts (trail given (suc q) b))) ≡ true
+        split : (t : Bool) → over b ≡ t → (Encloses marked k (suc m) (next b) → over (follow (next b) (trail-verdicts (trail given q (next b)))) ≡ true)
+            → over (follow b (trail-verdicts (trail given (suc q) b))) ≡ true
         split true o later = rw (trail-over (suc q) b o) o
         split false o later = rw (trail-going q b o) (later (encloses-step marked k E o (given (middle b)) refl))
 
-    pub trail-ends : over (follow (start k) (verdicts (trail given (limit k) (start k)))) ≡ true
+    pub trail-ends : over (follow (start k) (trail-verdicts (trail given (limit k) (start k)))) ≡ true
     trail-ends = ends (limit k) (start k) (encloses-start marked k) (omega arith)
 
     -- what a search hears until it is over is the whole trail
-    pub heard-whole : (vs : List ℕ) → Heard given (start k) vs → over (follow (start k) vs) ≡ true → verdicts (trail given (limit k) (start k)) ≡ vs
+    pub heard-whole : (vs : List ℕ) → Heard given (start k) vs → over (follow (start k) vs) ≡ true → trail-verdicts (trail given (limit k) (start k)) ≡ vs
     heard-whole vs h o =
         heard-trail (limit k) (start k) vs h (encloses-heard given marked (λ i. refl) k vs h .few) (λ going. absurd (true≢false (sym o ∙ going)))
 
 -- the whole search ends at the clearing answer
 pub trail-price : {demand supply : ℕ → ℕ} {k : ℕ} → Monotone demand supply k
-    → follow (start k) (verdicts (trail (promise demand supply) (limit k) (start k))) .lo ≡ clearing demand supply k
+    → follow (start k) (trail-verdicts (trail (promise demand supply) (limit k) (start k))) .lo ≡ clearing demand supply k
 trail-price {demand} {supply} {k} M =
-    searched M (verdicts (trail (promise demand supply) (limit k) (start k))) (trail-heard (promise demand supply) (limit k) (start k))
+    searched M (trail-verdicts (trail (promise demand supply) (limit k) (start k))) (trail-heard (promise demand supply) (limit k) (start k))
     .answer (trail-ends (promise demand supply) k)
 
 -- ---- two searches
@@ -132,5 +132,5 @@ module _ {demand supply demand′ supply′ : ℕ → ℕ} {k : ℕ} (M : Monoto
       → vs ≡ vs′
   heard-by-clearing vs vs′ h o h′ o′ =
       sym (heard-whole (promise demand supply) k vs h o)
-      ∙ ap verdicts (trail-by-clearing (limit k))
+      ∙ ap trail-verdicts (trail-by-clearing (limit k))
       ∙ heard-whole (promise demand′ supply′) k vs′ h′ o′

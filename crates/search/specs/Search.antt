@@ -30,8 +30,8 @@ trail given (suc q) b =
     let i : ℕ = middle b in
     elim (over b) [ true ↦ [] | false ↦ (i, given i) ∷ trail given q (step b (given i)) ]
 
-abbrev pub verdicts : List (ℕ × ℕ) → List ℕ
-verdicts t = map (λ p. p .1) t
+abbrev pub trail-verdicts : List (ℕ × ℕ) → List ℕ
+trail-verdicts t = map (λ p. p .1) t
 
 -- what holds of the bracket b to which m promised verdicts have led a search of k indices (proofs/Price.antt)
 pub record Searched (demand supply : ℕ → ℕ) (k m : ℕ) (b : Bracket) : Type 0 where

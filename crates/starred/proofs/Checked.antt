@@ -31,7 +31,7 @@ use Rattle.party.specs.Record.{sound}
 use Rattle.party.specs.Open.{fresh}
 use Rattle.party.specs.Say as saying
 use Rattle.party.specs.Say.{current, in-field, message, say-judgement, say-reply}
-use Rattle.party.specs.Hear.{heard, crooked, hear-judgement}
+use Rattle.party.specs.Hear.{heard, unopened, hear-judgement}
 use Rattle.party.proofs.Judging.{refuses, passes}
 use Rattle.party.proofs.Soundness.{sound-of}
 use Rattle.party.proofs.Laws.{says}
@@ -52,7 +52,7 @@ refused q totals sheets n-is round-is e =
     let whole : sound q ≡ true = sound-of q (says q totals sheets (s .0) .sound) in
     let enough : sound q && not (long (q .n) with-73) ≡ false = rw (whole, n-is) in
     let own : not (eqb (getD with-73 (q .own - 1) 0) (message q totals (current q sheets))) ≡ false = ap not (eq-eqb _ _ (s .1)) in
-    let crooks : crooked (heard (q .n) (q .round) with-73) ≡ true = rw (n-is, round-is, inconsistent) in
+    let crooks : unopened (heard (q .n) (q .round) with-73) ≡ true = rw (n-is, round-is, inconsistent) in
     ap codeOf (by-messages q totals sheets with-73 enough (s .0) ∙ passes _ _ _ own ∙ refuses _ _ _ crooks)
 
 said : say-reply (fresh 5 1 1) (0 ∷ 0 ∷ []) ((offset - 12) ∷ replicate 126 0) ≡ Message 12

@@ -15,7 +15,7 @@ use Rattle.party.specs.declared.record.Heard.{Heard}
 use Rattle.party.specs.declared.record.Reply.the-variants.{Next}
 use Rattle.party.specs.Record.{sound}
 use Rattle.party.specs.Say.{say-judgement, message, current}
-use Rattle.party.specs.Hear.{heard, crooked, wild-sum, split-verdict, hear-judgement, after}
+use Rattle.party.specs.Hear.{heard, unopened, sum-outside, verdict-outside, hear-judgement, after}
 use Rattle.party.proofs.Judging.{refuses, passes, all-passed, next-accepted, next-refused}
 use Rattle.party.proofs.Soundness.{sound-of, probing}
 use Rattle.party.proofs.Words.{all-below-of, current-there, current-long}
@@ -61,24 +61,24 @@ module _ (c : tie.After-known-told) where
 
 -- where the messages have been opened
 module _ (c : tie.After-heard) where
-  abbrev told : tie.After-known-told
-  told = c .before .before .before
+  abbrev own-known : tie.After-known-told
+  own-known = c .before .before .before
 
-  agreed : not (eqb (getD (messages told) (q told .own - 1) 0) (message (q told) (totals told) (current (q told) (sheets told)))) ≡ false
-  agreed = ap not (eq-eqb _ _ (c .before .if2 .left ∙ own-said told .1))
+  agreed : not (eqb (getD (messages own-known) (q own-known .own - 1) 0) (message (q own-known) (totals own-known) (current (q own-known) (sheets own-known)))) ≡ false
+  agreed = ap not (eq-eqb _ _ (c .before .if2 .left ∙ own-said own-known .1))
 
   -- what a test of the opening gave
-  seen : (test : Heard → Bool) (r b : Bool) → r ≡ test (c .heard .result) → r ≡ b → test (heard (q told .n) (q told .round) (messages told)) ≡ b
+  seen : (test : Heard → Bool) (r b : Bool) → r ≡ test (c .heard .result) → r ≡ b → test (heard (q own-known .n) (q own-known .round) (messages own-known)) ≡ b
   seen test r b e f = ap test (sym (c .heard .ensures)) ∙ sym e ∙ f
 
-straight : (c : tie.Else3) → crooked (heard (q (told (c .before .before)) .n) (q (told (c .before .before)) .round) (messages (told (c .before .before)))) ≡ false
-straight c = seen (c .before .before) crooked _ false (c .before .crooked .ensures) (c .if3 .left)
+straight : (c : tie.Else3) → unopened (heard (q (own-known (c .before .before)) .n) (q (own-known (c .before .before)) .round) (messages (own-known (c .before .before)))) ≡ false
+straight c = seen (c .before .before) unopened _ false (c .before .unopened .ensures) (c .if3 .left)
 
-tame : (c : tie.Else4) → wild-sum (heard (q (told (c .before .before .before .before)) .n) (q (told (c .before .before .before .before)) .round) (messages (told (c .before .before .before .before)))) ≡ false
-tame c = seen (c .before .before .before .before) wild-sum _ false (c .before .wild-sum .ensures) (c .if4 .left)
+tame : (c : tie.Else4) → sum-outside (heard (q (own-known (c .before .before .before .before)) .n) (q (own-known (c .before .before .before .before)) .round) (messages (own-known (c .before .before .before .before)))) ≡ false
+tame c = seen (c .before .before .before .before) sum-outside _ false (c .before .sum-outside .ensures) (c .if4 .left)
 
-whole : (c : tie.Else5) → split-verdict (heard (q (told (c .before .before .before .before .before .before)) .n) (q (told (c .before .before .before .before .before .before)) .round) (messages (told (c .before .before .before .before .before .before)))) ≡ false
-whole c = seen (c .before .before .before .before .before .before) split-verdict _ false (c .before .split-verdict .ensures) (c .if5 .left)
+whole : (c : tie.Else5) → verdict-outside (heard (q (own-known (c .before .before .before .before .before .before)) .n) (q (own-known (c .before .before .before .before .before .before)) .round) (messages (own-known (c .before .before .before .before .before .before)))) ≡ false
+whole c = seen (c .before .before .before .before .before .before) verdict-outside _ false (c .before .verdict-outside .ensures) (c .if5 .left)
 
 sound-requires : tie.Need-sound-requires
 sound-requires c κs = search needs
@@ -125,45 +125,45 @@ returns-3 c =
 heard-requires : tie.Need-heard-requires
 heard-requires c κs = search needs
 
-crooked-requires : tie.Need-crooked-requires
-crooked-requires c κs = search needs
+unopened-requires : tie.Need-unopened-requires
+unopened-requires c κs = search needs
 
 returns-4 : tie.Need-returns-4
 returns-4 c =
     let h = c .before .before in
-    sym (next-refused _ _ _ (listening (told h) ∙ passes _ _ _ (agreed h) ∙ refuses _ _ _ (seen h crooked _ true (c .before .crooked .ensures) (c .if3 .taken))))
+    sym (next-refused _ _ _ (listening (own-known h) ∙ passes _ _ _ (agreed h) ∙ refuses _ _ _ (seen h unopened _ true (c .before .unopened .ensures) (c .if3 .taken))))
 
-wild-sum-requires : tie.Need-wild-sum-requires
-wild-sum-requires c κs = search needs
+sum-outside-requires : tie.Need-sum-outside-requires
+sum-outside-requires c κs = search needs
 
 returns-5 : tie.Need-returns-5
 returns-5 c =
     let h = c .before .before .before .before in
     sym
     (next-refused _ _ _
-    (listening (told h) ∙ passes _ _ _ (agreed h) ∙ passes _ _ _ (straight (c .before .before)) ∙ refuses _ _ _ (seen h wild-sum _ true (c .before .wild-sum .ensures) (c .if4 .taken))))
+    (listening (own-known h) ∙ passes _ _ _ (agreed h) ∙ passes _ _ _ (straight (c .before .before)) ∙ refuses _ _ _ (seen h sum-outside _ true (c .before .sum-outside .ensures) (c .if4 .taken))))
 
-split-verdict-requires : tie.Need-split-verdict-requires
-split-verdict-requires c κs = search needs
+verdict-outside-requires : tie.Need-verdict-outside-requires
+verdict-outside-requires c κs = search needs
 
 returns-6 : tie.Need-returns-6
 returns-6 c =
     let h = c .before .before .before .before .before .before in
     sym
     (next-refused _ _ _
-    (listening (told h) ∙ passes _ _ _ (agreed h) ∙ passes _ _ _ (straight (c .before .before .before .before)) ∙ passes _ _ _ (tame (c .before .before))
-    ∙ refuses _ _ _ (seen h split-verdict _ true (c .before .split-verdict .ensures) (c .if5 .taken))))
+    (listening (own-known h) ∙ passes _ _ _ (agreed h) ∙ passes _ _ _ (straight (c .before .before .before .before)) ∙ passes _ _ _ (tame (c .before .before))
+    ∙ refuses _ _ _ (seen h verdict-outside _ true (c .before .verdict-outside .ensures) (c .if5 .taken))))
 
 current-requires : tie.Need-current-requires
 current-requires c κs =
-    let k = told (c .before .before .before .before .before .before) in
+    let k = own-known (c .before .before .before .before .before .before) in
     let f = facts k in
     current-there (q k) (sheets k) (probing (q k) (f .sound) (f .going)) (f .sheets-long)
 
 after-requires : tie.Need-after-requires
 after-requires c κs =
     let h = c .before .before .before .before .before .before .before in
-    let k = told h in
+    let k = own-known h in
     let f = facts k in (
       sound-of (q k) (f .sound),
       ap length (c .current .ensures) ∙ current-long (q k) (sheets k) (probing (q k) (f .sound) (f .going)) (f .sheets-long),
@@ -174,7 +174,7 @@ after-requires c κs =
 returns-7 : tie.Need-returns-7
 returns-7 c =
     let h = c .before .before .before .before .before .before .before .before in
-    let k = told h in
+    let k = own-known h in
     ap Next (c .after .ensures ∙ ap₂ (after (q k)) (c .before .current .ensures) (h .heard .ensures))
     ∙ sym
     (next-accepted _ _
@@ -196,11 +196,11 @@ hear-spec =
     shared-slice-read-word
     returns-3
     heard-requires
-    crooked-requires
+    unopened-requires
     returns-4
-    wild-sum-requires
+    sum-outside-requires
     returns-5
-    split-verdict-requires
+    verdict-outside-requires
     returns-6
     current-requires
     after-requires

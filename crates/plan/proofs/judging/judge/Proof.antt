@@ -11,10 +11,10 @@ use borrow.Author.Tests.{not-true, not-false, leb-true}
 use Rattle.sharing.proofs.Terms.{and-right}
 use Rattle.plan.specs.declared.lines.Line.the-variants.{Number}
 use Rattle.plan.specs.declared.judging.Judged.the-variants.{Faulty}
-use Rattle.plan.specs.Lines.{lines, first-line, line-length, rest, numbers, bytes-of, sound, after}
+use Rattle.plan.specs.Lines.{lines, first-line, line-length, rest, numbers, bytes-of, formed, after}
 use Rattle.plan.specs.Plan.{xor-of, read-prices}
 use Rattle.plan.specs.Judged.{as-judged}
-use Rattle.plan.proofs.Again.{bytes-one, bytes-first, sound-most}
+use Rattle.plan.proofs.Again.{bytes-one, bytes-first, formed-most}
 use Rattle.plan.proofs.Answers.{n-misshapen, n-range, seeds-torn, seeds-all}
 use borrow.Author.Needs.{needs}
 use Rattle.plan.proofs.judging.judge.Statement.{statement}
@@ -50,10 +50,10 @@ at-most c = leb-true _ _ (and-right (leb 3 (n-of (c .before))) _ (in-range c))
 abbrev passed : tie.After-read-seeds → tie.Else1
 passed c = c .before .before
 
-snd : (c : tie.After-read-seeds) → c .read-seeds .result .sound ≡ sound (n-of (passed c .before)) (rest (lent (line (passed c .before))))
+snd : (c : tie.After-read-seeds) → c .read-seeds .result .formed ≡ formed (n-of (passed c .before)) (rest (lent (line (passed c .before))))
 snd c =
     c .read-seeds .ensures .0
-    ∙ ap₂ (λ (m j : ℕ). sound m (drop j (lent (line (passed c .before))))) (length-take-le _ _ (at-most (passed c))) (second (line (passed c .before)))
+    ∙ ap₂ (λ (m j : ℕ). formed m (drop j (lent (line (passed c .before))))) (length-take-le _ _ (at-most (passed c))) (second (line (passed c .before)))
 
 xor : (c : tie.After-read-seeds)
     → c .read-seeds .result .xor ≡ xor-of (numbers (n-of (passed c .before)) (rest (lent (line (passed c .before)))))
@@ -105,15 +105,15 @@ read-seeds-requires c κs = search needs
 add-t15 : tie.Need-add-t15
 add-t15 c =
     let r = c .before .before .before in
-    omega (arith, snd r, sound-most (n-of (passed r .before)) (rest (lent (line (passed r .before)))), at-most (passed r))
+    omega (arith, snd r, formed-most (n-of (passed r .before)) (rest (lent (line (passed r .before)))), at-most (passed r))
 
 returns-3 : tie.Need-returns-3
 unfolding as-judged
 returns-3 c =
     let r = c .before .before .before in
     let k = passed r .before in
-    let h : sound (n-of k) (rest (lent (line k))) ≡ n-of k → ⊥ = λ e. c .if2 .taken (snd r ∙ e) in
-    let l : sound (n-of k) (rest (lent (line k))) < n-of k = omega (arith, sound-most (n-of k) (rest (lent (line k)))) in
+    let h : formed (n-of k) (rest (lent (line k))) ≡ n-of k → ⊥ = λ e. c .if2 .taken (snd r ∙ e) in
+    let l : formed (n-of k) (rest (lent (line k))) < n-of k = omega (arith, formed-most (n-of k) (rest (lent (line k)))) in
     ap (λ (j : ℕ). Faulty 13 (2 + j)) (snd r) ∙ sym (ap (as-judged (lent (line k))) (seeds-torn (lent (line k)) (n-of k) (is-n k) (in-range (passed r)) l))
 
 judge-prices-requires : tie.Need-judge-prices-requires

@@ -5,9 +5,9 @@ use Prim.Native.Nat.{ℕ, _+_, _*_, _<_}
 use native.Mathlib.Omega.{arith}
 use lib.ListN.{length, drop}
 use Rattle.plan.specs.declared.table.Fault.the-variants.{At}
-use Rattle.plan.specs.Lines.{numbers, bytes-of, sound}
+use Rattle.plan.specs.Lines.{numbers, bytes-of, formed}
 use Rattle.plan.specs.Plan.{table-fault}
-use Rattle.plan.proofs.Again.{sound-most, length-numbers}
+use Rattle.plan.proofs.Again.{formed-most, length-numbers}
 use Rattle.plan.proofs.Bids.{torn, whole}
 use borrow.Author.Needs.{needs}
 use Rattle.plan.proofs.judging.read_bid.Statement.{statement}
@@ -20,8 +20,8 @@ abbrev bytes : tie.After-read-numbers → List ℕ
 bytes c = drop (given c .args .at) (given c .args .input .now)
 
 -- what was read, by the number of prices
-snd : (c : tie.After-read-numbers) → c .read-numbers .result .sound ≡ sound (2 * given c .args .k) (bytes c)
-snd c = c .read-numbers .ensures .2 ∙ ap (λ (j : ℕ). sound j (bytes c)) (given c .pre .2)
+snd : (c : tie.After-read-numbers) → c .read-numbers .result .formed ≡ formed (2 * given c .args .k) (bytes c)
+snd c = c .read-numbers .ensures .2 ∙ ap (λ (j : ℕ). formed j (bytes c)) (given c .pre .2)
 
 nxt : (c : tie.After-read-numbers) → c .read-numbers .result .next ≡ given c .args .at + bytes-of (2 * given c .args .k) (bytes c)
 nxt c = c .read-numbers .ensures .1 ∙ ap (λ (j : ℕ). given c .args .at + bytes-of j (bytes c)) (given c .pre .2)
@@ -36,7 +36,7 @@ read-numbers-requires : tie.Need-read-numbers-requires
 read-numbers-requires c κs = search needs
 
 add-t14 : tie.Need-add-t14
-add-t14 c = omega (arith, snd (c .before .before .before), sound-most (2 * given (c .before .before .before) .args .k) (bytes (c .before .before .before)), given (c .before .before .before) .pre)
+add-t14 c = omega (arith, snd (c .before .before .before), formed-most (2 * given (c .before .before .before) .args .k) (bytes (c .before .before .before)), given (c .before .before .before) .pre)
 
 same-length : tie.Need-same-length
 same-length c = search needs
@@ -45,8 +45,8 @@ returns : tie.Need-returns
 returns c =
     let r = c .before .before .before in
     let s = given r in
-    let n : sound (2 * s .args .k) (bytes r) ≡ 2 * s .args .k → ⊥ = λ e. c .if1 .taken (snd r ∙ e ∙ sym (len r)) in
-    let h : sound (2 * s .args .k) (bytes r) < 2 * s .args .k = omega (arith, sound-most (2 * s .args .k) (bytes r)) in
+    let n : formed (2 * s .args .k) (bytes r) ≡ 2 * s .args .k → ⊥ = λ e. c .if1 .taken (snd r ∙ e ∙ sym (len r)) in
+    let h : formed (2 * s .args .k) (bytes r) < 2 * s .args .k = omega (arith, formed-most (2 * s .args .k) (bytes r)) in
     (ap (λ (j : ℕ). At 13 (s .args .line + j)) (snd r) ∙ sym (torn (s .args .k) (s .args .line) (bytes r) h), nxt r)
 
 table-fault-requires : tie.Need-table-fault-requires

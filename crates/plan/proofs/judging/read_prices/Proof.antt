@@ -5,16 +5,16 @@ use Prim.Native.Nat.{ℕ, _≤_}
 use native.Mathlib.Omega.{arith}
 use lib.ListN.{length, take, drop}
 use lib.Seq.{length-take-le}
-use Rattle.plan.specs.Lines.{numbers, sound}
+use Rattle.plan.specs.Lines.{numbers, formed}
 use Rattle.plan.specs.Plan.{rising}
-use Rattle.plan.proofs.Again.{sound-most, length-numbers}
+use Rattle.plan.proofs.Again.{formed-most, length-numbers}
 use borrow.Author.Needs.{needs}
 use Rattle.plan.proofs.judging.read_prices.Statement.{statement}
 use Rattle.plan.proofs.judging.read_prices.Tie as tie
 
--- no more lines are sound than were read
-sound-fits : (xs : List ℕ) (m : ℕ) (bytes : List ℕ) (s : ℕ) → xs ≡ numbers m bytes → s ≡ sound m bytes → s ≤ length xs
-sound-fits xs m bytes s e f = omega (arith, ap length e ∙ length-numbers m bytes, sound-most m bytes)
+-- no more lines are formed than were read
+formed-fits : (xs : List ℕ) (m : ℕ) (bytes : List ℕ) (s : ℕ) → xs ≡ numbers m bytes → s ≡ formed m bytes → s ≤ length xs
+formed-fits xs m bytes s e f = omega (arith, ap length e ∙ length-numbers m bytes, formed-most m bytes)
 
 read-numbers-requires : tie.Need-read-numbers-requires
 read-numbers-requires c κs = search needs
@@ -23,13 +23,13 @@ slice-reshare-prefix-rising : tie.Need-slice-reshare-prefix-rising
 slice-reshare-prefix-rising c =
     let r = c .before .before .read-numbers in
     let a = c .before .before .before .before .before .before .args in
-    sound-fits _ (length (a .prices .now)) (drop (a .at) (a .input .now)) _ (r .ensures .0) (r .ensures .2)
+    formed-fits _ (length (a .prices .now)) (drop (a .at) (a .input .now)) _ (r .ensures .0) (r .ensures .2)
 
 slice-aggregate-rising : tie.Need-slice-aggregate-rising
 slice-aggregate-rising c =
     let r = c .before .before .before .read-numbers in
     let a = c .before .before .before .before .before .before .before .args in
-    sym (length-take-le _ _ (sound-fits _ (length (a .prices .now)) (drop (a .at) (a .input .now)) _ (r .ensures .0) (r .ensures .2)))
+    sym (length-take-le _ _ (formed-fits _ (length (a .prices .now)) (drop (a .at) (a .input .now)) _ (r .ensures .0) (r .ensures .2)))
 
 rising-requires : tie.Need-rising-requires
 rising-requires c κs = search needs

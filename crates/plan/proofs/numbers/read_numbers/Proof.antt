@@ -7,22 +7,22 @@ use native.Mathlib.Omega.{arith}
 use lib.ListN.{length, take, drop, length-set}
 use lib.Seq.{take-all}
 use Rattle.plan.specs.Lines.{value, shaped, numbers, bytes-of}
-use Rattle.plan.specs.Lines.{sound as sound-of}
-use Rattle.plan.proofs.Again.{first-here, led-more, fill-more, sound-up, sound-stays}
+use Rattle.plan.specs.Lines.{formed as formed-of}
+use Rattle.plan.proofs.Again.{first-here, led-more, fill-more, formed-up, formed-stays}
 use borrow.Author.Needs.{needs}
 use Rattle.plan.proofs.numbers.read_numbers.Statement.{statement}
 use Rattle.plan.proofs.numbers.read_numbers.Tie as tie
 
 abbrev Inv-loop : tie.InvT-loop
-Inv-loop input at into₀ sound₀ next₀ i₀ into sound next i =
+Inv-loop input at into₀ formed₀ next₀ i₀ into formed next i =
     (i ≤ length into₀) × (length into ≡ length into₀) × (take i into ≡ numbers i (drop at input))
-    × (next ≡ at + bytes-of i (drop at input)) × (sound ≡ sound-of i (drop at input))
+    × (next ≡ at + bytes-of i (drop at input)) × (formed ≡ formed-of i (drop at input))
 
 abbrev μ-loop : tie.MeasureT-loop
-μ-loop input at into₀ sound₀ next₀ i₀ into sound next i = length into₀ - i
+μ-loop input at into₀ formed₀ next₀ i₀ into formed next i = length into₀ - i
 
 loop-holds : tie.Need-loop-holds Inv-loop μ-loop
-unfolding numbers bytes-of sound-of
+unfolding numbers bytes-of formed-of
 loop-holds c = (omega arith, refl, refl, sym (add-zero _), refl)
 
 read-line-requires : tie.Need-read-line-requires Inv-loop μ-loop
@@ -40,8 +40,8 @@ slice-write-into c = search needs
 shaped-requires : tie.Need-shaped-requires Inv-loop μ-loop
 shaped-requires c κs = search needs
 
-add-sound : tie.Need-add-sound Inv-loop μ-loop
-add-sound c = omega (arith, c .before .before .before .before .before .before .before .before .good)
+add-formed : tie.Need-add-formed Inv-loop μ-loop
+add-formed c = omega (arith, c .before .before .before .before .before .before .before .before .good)
 
 add-i : tie.Need-add-i Inv-loop μ-loop
 add-i c = omega (arith, c .before .before .before .before .before .before .before .before .good)
@@ -62,8 +62,8 @@ loop-again c =
       fill-more (l .into) (drop (a .at) (a .input .now)) (l .i) _ h (l .inv .2) (c .before .before .value .ensures ∙ ap value first),
       led-more (a .input .now) (a .at) (l .i) (l .next) (l .inv .3) _ (r .ensures .1),
       ⊎-elim
-          (λ w. w .1 ∙ sound-up (drop (a .at) (a .input .now)) (l .i) (l .sound) _ (l .inv .4) (c .before .shaped .ensures ∙ ap shaped first) (w .0 .taken))
-          (λ w. w .1 ∙ sound-stays (drop (a .at) (a .input .now)) (l .i) (l .sound) _ (l .inv .4) (c .before .shaped .ensures ∙ ap shaped first) (w .0 .left))
+          (λ w. w .1 ∙ formed-up (drop (a .at) (a .input .now)) (l .i) (l .formed) _ (l .inv .4) (c .before .shaped .ensures ∙ ap shaped first) (w .0 .taken))
+          (λ w. w .1 ∙ formed-stays (drop (a .at) (a .input .now)) (l .i) (l .formed) _ (l .inv .4) (c .before .shaped .ensures ∙ ap shaped first) (w .0 .left))
           (c .if1 .came),
     )
 
@@ -78,7 +78,7 @@ returns c =
     let bytes = drop (a .at) (a .input .now) in (
       sym (take-all (l .i) (l .into) (omega arith)) ∙ l .inv .2 ∙ ap (λ (m : ℕ). numbers m bytes) e,
       l .inv .3 ∙ ap (λ (m : ℕ). a .at + bytes-of m bytes) e,
-      l .inv .4 ∙ ap (λ (m : ℕ). sound-of m bytes) e,
+      l .inv .4 ∙ ap (λ (m : ℕ). formed-of m bytes) e,
     )
 
 pub read-numbers-spec : {M : Type 1} → statement M
@@ -93,7 +93,7 @@ read-numbers-spec =
     mul-into
     slice-write-into
     shaped-requires
-    add-sound
+    add-formed
     add-i
     loop-less
     loop-again

@@ -9,7 +9,7 @@ use Rattle.bid.specs.Table.{most}
 use Rattle.plan.specs.declared.table.Fault.the-variants.{At}
 use Rattle.plan.specs.Plan.{passed, bend}
 use Rattle.plan.proofs.Counts.{passed-most, bend-most}
-use Rattle.plan.proofs.Tables.{large, rises, falls, sound-table}
+use Rattle.plan.proofs.Tables.{large, rises, falls, formed-table}
 use borrow.Author.Needs.{needs}
 use Rattle.plan.proofs.table.table_fault.Statement.{statement}
 use Rattle.plan.proofs.table.table_fault.Tie as tie
@@ -122,7 +122,7 @@ returns-4 c =
     let a = s .args in
     let e2 = c .before .before .before in
     sym
-    (sound-table (a .half) (a .line) (a .table .now) (amounts-all (e2 .before .before .before)) (demand-all e2)
+    (formed-table (a .half) (a .line) (a .table .now) (amounts-all (e2 .before .before .before)) (demand-all e2)
     (sym (supply (c .before)) ∙ c .if3 .left ∙ sym (length-drop (a .half) (a .table .now))))
 
 pub table-fault-spec : {M : Type 1} → statement M

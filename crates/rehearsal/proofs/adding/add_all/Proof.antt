@@ -4,7 +4,7 @@ use mathlib.Core.List.{List}
 use Prim.Native.Nat.{ℕ, _+_, _-_, _*_, _≤_, _<_}
 use native.Mathlib.Omega.{arith}
 use lib.ListN.{length, getD}
-use Rattle.auction.specs.Told.{returned}
+use Rattle.auction.specs.Canonical.{returned}
 use Rattle.party.specs.declared.record.Party.{Party}
 use Rattle.party.specs.Add.{add-reply, add-left}
 use Rattle.rehearsal.specs.Parties.{none, shares-of, party-added, totals-added}

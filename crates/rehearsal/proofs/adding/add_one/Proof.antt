@@ -4,7 +4,7 @@ use Prim.Native.Nat.{ℕ, _*_, _≤_}
 use native.Mathlib.Omega.{arith}
 use lib.ListN.{length, take, length-replicate}
 use lib.Seq.{length-take-le}
-use Rattle.auction.specs.Told.{returned}
+use Rattle.auction.specs.Canonical.{returned}
 use Rattle.bid.specs.Split.{split-left}
 use Rattle.party.specs.Add.{add-reply, add-left}
 use Rattle.rehearsal.specs.Parties.{shares-of}

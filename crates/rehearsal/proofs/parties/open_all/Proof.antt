@@ -3,7 +3,7 @@ use mathlib.Core.Path.{_≡_, ap, ap₂, _∙_}
 use Prim.Native.Nat.{_+_, _-_, _*_, _≤_, _<_}
 use native.Mathlib.Omega.{arith}
 use lib.ListN.{length}
-use Rattle.auction.specs.Told.{returned}
+use Rattle.auction.specs.Canonical.{returned}
 use Rattle.party.specs.Open.{open-reply, open-left}
 use Rattle.rehearsal.specs.Parties.{none, part}
 use Rattle.rehearsal.proofs.Parts.{room, Spread, spread-start, spread-more, lent, Rowed, rowed-start, rowed-more}

@@ -1,6 +1,6 @@
 -- `returned` meets its contract. Assumes nothing.
 use mathlib.Core.Path.{sym, ap}
-use Rattle.auction.specs.Told.{returned}
+use Rattle.auction.specs.Canonical.{returned}
 use borrow.Author.Needs.{needs}
 use Rattle.rehearsal.proofs.parties.returned.Statement.{statement}
 use Rattle.rehearsal.proofs.parties.returned.Tie as tie

@@ -1,6 +1,6 @@
 -- `word` meets its contract. Assumes nothing.
 use mathlib.Core.Path.{sym, ap}
-use Rattle.auction.specs.Told.{word}
+use Rattle.auction.specs.Canonical.{word}
 use borrow.Author.Needs.{needs}
 use Rattle.rehearsal.proofs.parties.word.Statement.{statement}
 use Rattle.rehearsal.proofs.parties.word.Tie as tie

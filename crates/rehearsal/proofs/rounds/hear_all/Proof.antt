@@ -7,7 +7,7 @@ use lib.ListN.{length, getD}
 use Rattle.search.specs.Limit.{limit}
 use Rattle.party.specs.declared.record.Party.{Party}
 use Rattle.party.specs.Hear.{hear-reply}
-use Rattle.auction.specs.Told.{returned}
+use Rattle.auction.specs.Canonical.{returned}
 use Rattle.rehearsal.specs.Parties.{none, heard-by}
 use Rattle.rehearsal.proofs.Parts.{room, Rowed, rowed-start, rowed-more, part-read, limit-nine}
 use borrow.Author.Needs.{needs}

@@ -7,7 +7,7 @@ use lib.ListN.{length, getD}
 use Rattle.search.specs.Limit.{limit}
 use Rattle.party.specs.declared.record.Party.{Party}
 use Rattle.party.specs.Say.{say-reply}
-use Rattle.auction.specs.Told.{word}
+use Rattle.auction.specs.Canonical.{word}
 use Rattle.rehearsal.specs.Parties.{none, all-said, said-by}
 use Rattle.rehearsal.proofs.Parts.{room, Rowed, rowed-start, rowed-more, rowed-all, part-read, limit-nine}
 use borrow.Author.Needs.{needs}

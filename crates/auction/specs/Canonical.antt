@@ -21,7 +21,7 @@ use Rattle.party.specs.Add.{add-reply, add-left}
 use Rattle.party.specs.Say.{say-reply}
 use Rattle.party.specs.Hear.{hear-reply}
 use Rattle.auction.specs.Auction.{Auction}
-use Rattle.auction.specs.Coins.{Coins, flat, sheet-words, sheet-bytes}
+use Rattle.auction.specs.Coins.{Coins, flat, drawn-words, drawn-bytes}
 use Rattle.auction.specs.Call.{Call, open-call, split-call, deal-call, add-call, say-call, hear-call, answer-call}
 
 -- the record that a call returned or, refused, left
@@ -81,10 +81,10 @@ module _ (a : Auction) (c : Coins) where
 
   -- "The dealer writes every keeper's sheets, from one set of draws per probe."
   unfoldable pub deal-for : Seat → probe.Coins → Call
-  deal-for s k = deal-call (a .n) (s .party .own) (sheet-words k) (sheet-bytes k) (replicate 127 0)
+  deal-for s k = deal-call (a .n) (s .party .own) (drawn-words k) (drawn-bytes k) (replicate 127 0)
 
   unfoldable pub sheet-for : Seat → probe.Coins → List ℕ
-  sheet-for s k = deal-left (a .n) (s .party .own) (sheet-words k) (sheet-bytes k) (replicate 127 0)
+  sheet-for s k = deal-left (a .n) (s .party .own) (drawn-words k) (drawn-bytes k) (replicate 127 0)
 
   unfoldable pub dealt : Seat → Seat
   dealt s = record { party = s .party; totals = s .totals; sheets = flat (map (sheet-for s) (c .sheets)) }
@@ -128,5 +128,5 @@ module _ (a : Auction) (c : Coins) where
   from-bids [] ss = deals ss ++ from-rounds (enough-rounds a) (map dealt ss)
   from-bids (b ∷ bs) ss = map (split-for b) ss ++ (map (add-by b) ss ++ from-bids bs (map (added b) ss))
 
-  unfoldable pub told : List Call
-  told = map (λ j. open-call (a .n) j (a .k) blank) (points (a .n)) ++ from-bids (zip (a .bids) (c .bids)) (map seated (points (a .n)))
+  unfoldable pub canonical : List Call
+  canonical = map (λ j. open-call (a .n) j (a .k) blank) (points (a .n)) ++ from-bids (zip (a .bids) (c .bids)) (map seated (points (a .n)))

@@ -1,9 +1,9 @@
--- `wild_sum` meets its contract. Assumes nothing.
+-- `sum_outside` meets its contract. Assumes nothing.
 use mathlib.Core.Path.{sym, ap}
-use Rattle.party.specs.Hear.{wild-sum}
+use Rattle.party.specs.Hear.{sum-outside}
 use borrow.Author.Needs.{needs}
-use Rattle.party.proofs.round.wild_sum.Statement.{statement}
-use Rattle.party.proofs.round.wild_sum.Tie as tie
+use Rattle.party.proofs.round.sum_outside.Statement.{statement}
+use Rattle.party.proofs.round.sum_outside.Tie as tie
 
 enum-known-heard : tie.Need-enum-known-heard
 enum-known-heard c = search needs
@@ -18,7 +18,7 @@ enum-told-3 : tie.Need-enum-told-3
 enum-told-3 c = search needs
 
 returns : tie.Need-returns
-returns c = sym (ap wild-sum (c .before .heard .given .1))
+returns c = sym (ap sum-outside (c .before .heard .given .1))
 
 returns-2 : tie.Need-returns-2
 returns-2 c = search needs
@@ -29,8 +29,8 @@ returns-3 c = search needs
 returns-4 : tie.Need-returns-4
 returns-4 c = search needs
 
-pub wild-sum-spec : {M : Type 1} → statement M
-wild-sum-spec =
+pub sum-outside-spec : {M : Type 1} → statement M
+sum-outside-spec =
     tie.close
     (tie.spec
     enum-known-heard

@@ -1,9 +1,9 @@
--- `split_verdict` meets its contract. Assumes nothing.
+-- `verdict_outside` meets its contract. Assumes nothing.
 use mathlib.Core.Path.{sym, ap}
-use Rattle.party.specs.Hear.{split-verdict}
+use Rattle.party.specs.Hear.{verdict-outside}
 use borrow.Author.Needs.{needs}
-use Rattle.party.proofs.round.split_verdict.Statement.{statement}
-use Rattle.party.proofs.round.split_verdict.Tie as tie
+use Rattle.party.proofs.round.verdict_outside.Statement.{statement}
+use Rattle.party.proofs.round.verdict_outside.Tie as tie
 
 enum-told : tie.Need-enum-told
 enum-told c = search needs
@@ -24,13 +24,13 @@ returns-2 : tie.Need-returns-2
 returns-2 c = search needs
 
 returns-3 : tie.Need-returns-3
-returns-3 c = sym (ap split-verdict (c .before .heard .given .1))
+returns-3 c = sym (ap verdict-outside (c .before .heard .given .1))
 
 returns-4 : tie.Need-returns-4
 returns-4 c = search needs
 
-pub split-verdict-spec : {M : Type 1} → statement M
-split-verdict-spec =
+pub verdict-outside-spec : {M : Type 1} → statement M
+verdict-outside-spec =
     tie.close
     (tie.spec
     enum-told

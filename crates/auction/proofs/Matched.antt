@@ -5,7 +5,7 @@ use Prim.Native.Nat.{ℕ, _+_, _-_, _^_}
 use Rattle.fields.proofs.Fields.{amount-field}
 use Rattle.sharing.proofs.Laws.{recolour}
 use Rattle.comparison.specs.Probe as probe
-use Rattle.comparison.specs.Matching.{moved, matched}
+use Rattle.comparison.proofs.Matched.{moved, matched}
 use Rattle.auction.specs.Auction.{Auction, demand, supply}
 use Rattle.auction.specs.Coins.{Coins}
 use Rattle.auction.specs.Demands.{probed}
