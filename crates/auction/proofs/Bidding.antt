@@ -9,14 +9,14 @@ use lib.ListN.{length, replicate, length-append, length-map, length-replicate}
 use lib.Seq.{take-at, drop-at}
 use borrow.Author.Tests.{le-leb, lt-leb, lt-ltb, eq-eqb, ne-eqb}
 use Rattle.fields.specs.Amount.{p, amounts}
-use Rattle.fields.specs.Below.{AllBelow}
+use Rattle.ranges.specs.Below.{AllBelow}
 use Rattle.fields.proofs.Fields.{amount-field}
 use Rattle.refusal.specs.Judging.{judged}
 use Rattle.refusal.specs.declared.Judgement.the-variants.{Accepted}
 use Rattle.sharing.specs.Polynomial.{value, share-each}
 use Rattle.sharing.specs.Linear.{sums}
 use Rattle.sharing.specs.Scheme.{threshold}
-use Rattle.sharing.specs.Sizes.{party}
+use Rattle.ranges.specs.Sizes.{party}
 use Rattle.sharing.proofs.Laws.{value-lt, value-sums}
 use Rattle.search.specs.Limit.{limit}
 use Rattle.search.proofs.Logarithm.{limit-half}

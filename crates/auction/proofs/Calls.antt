@@ -8,9 +8,9 @@ use native.Mathlib.Decide.{decLt}
 use native.Mathlib.Omega.{arith}
 use lib.Dec.{eqb}
 use borrow.Author.Tests.{eq-eqb, ne-eqb}
-use Rattle.sharing.specs.Lists.{from}
+use Rattle.ranges.specs.Lists.{from}
 use Rattle.sharing.specs.Scheme.{points}
-use Rattle.sharing.proofs.Terms.{and-left, and-right}
+use Rattle.ranges.proofs.Loops.{and-left, and-right}
 use Rattle.comparison.specs.Probe.{Each}
 use Rattle.auction.specs.Call.{Call, accepted, whose, of-party, of-service, given}
 use Rattle.auction.specs.Run.{select, own, services}

@@ -8,7 +8,7 @@ use Rattle.fields.specs.Amount.{amounts}
 use Rattle.fields.specs.Byte.{bytes}
 use Rattle.sharing.specs.Polynomial.{value}
 use Rattle.sharing.specs.Linear.{sums}
-use Rattle.sharing.specs.Lists.{from}
+use Rattle.ranges.specs.Lists.{from}
 use Rattle.sharing.specs.Scheme.{threshold, points}
 use Rattle.search.specs.declared.Bracket.{Bracket}
 use Rattle.search.specs.Bracket.{start, middle, over, step}

@@ -11,14 +11,14 @@ use Rattle.fields.specs.Amount.{p, amounts}
 use Rattle.fields.specs.Byte.{product, bytes}
 use Rattle.refusal.specs.Judging.{judged}
 use Rattle.refusal.specs.declared.Judgement.the-variants.{Accepted}
-use Rattle.sharing.specs.Lists.{from}
+use Rattle.ranges.specs.Lists.{from}
 use Rattle.sharing.specs.Polynomial.{value, share-each}
 use Rattle.sharing.specs.Scheme.{threshold}
 use Rattle.comparison.specs.Probe as probe
 use Rattle.comparison.specs.Probe.{Each, Group, TripleCoins, TripleInRange, bit-polynomials, triple-polynomials, triple-words}
 use Rattle.fields.specs.Bits.{bit}
 use Rattle.dealer.specs.Deal.{deal-judgement, byte-shares, triple, triples, preprocessing, deal-left}
-use Rattle.auction.specs.Coins.{flat, drawn-words, triple-bytes, drawn-bytes}
+use Rattle.auction.specs.Coins.{flat, coin-words, triple-bytes, coin-bytes}
 use Rattle.auction.proofs.Judging.{kept-new, is-party, is-below}
 use Rattle.auction.proofs.Bidding.{flat-length}
 
@@ -34,8 +34,8 @@ triples-length t [] h = omega arith
 triples-length t (c ∷ cs) h =
     length-append (triple-bytes c) (flat (map triple-bytes cs)) ∙ omega (arith, triple-length t c (h .0), triples-length t cs (h .1))
 
-pub bytes-length : (t : ℕ) (s : probe.Coins) → probe.InRange t s → length (drawn-bytes s) ≡ 126 * t + 62
-unfolding drawn-bytes
+pub bytes-length : (t : ℕ) (s : probe.Coins) → probe.InRange t s → length (coin-bytes s) ≡ 126 * t + 62
+unfolding coin-bytes
 bytes-length t s h =
     length-append (flat (s .of-bits)) (flat (map triple-bytes (s .triples)))
     ∙ ap₂ _+_ (flat-length 256 t (s .of-bits) (h .of-bits) ∙ ap (λ (z : ℕ). z * t) (h .bits-long))
@@ -89,8 +89,8 @@ triples-written t j (suc m) (c ∷ cs) l h =
 -- ---- a sheet
 
 pub sheet-written : (t j : ℕ) (s : probe.Coins) → probe.InRange t s
-    → preprocessing t j (drawn-words s) (drawn-bytes s) ≡ probe.sheet-shares j (probe.dealt s)
-unfolding preprocessing drawn-bytes probe.sheet-shares probe.dealt
+    → preprocessing t j (coin-words s) (coin-bytes s) ≡ probe.sheet-shares j (probe.dealt s)
+unfolding preprocessing coin-bytes probe.sheet-shares probe.dealt
 sheet-written t j s h =
     let many : length (flat (s .of-bits)) ≡ 33 * t = flat-length 256 t (s .of-bits) (h .of-bits) ∙ ap (λ (z : ℕ). z * t) (h .bits-long) in
     ap₂ (λ (u v : List ℕ). value amounts (s .mask ∷ s .of-mask) j ∷ (u ++ v))
@@ -99,10 +99,10 @@ sheet-written t j s h =
     ∙ triples-written t j 31 (s .triples) (h .triples-long) (h .triples))
 
 module _ (n j : ℕ) (h3 : 3 ≤ n) (h9 : n ≤ 9) (h1 : 1 ≤ j) (hn : j ≤ n) (s : probe.Coins) (h : probe.InRange (threshold n) s) where
-  pub deal-accepted : deal-judgement n j (drawn-words s) (drawn-bytes s) (replicate 127 0) ≡ Accepted
+  pub deal-accepted : deal-judgement n j (coin-words s) (coin-bytes s) (replicate 127 0) ≡ Accepted
   unfolding deal-judgement judged
   deal-accepted =
-      let words : length (drawn-words s) ≡ 1 + threshold n = ap suc (h .of-mask .0) ∙ omega arith in
+      let words : length (coin-words s) ≡ 1 + threshold n = ap suc (h .of-mask .0) ∙ omega arith in
       simp (
         is-party n j h3 h9 h1 hn,
         eq-eqb _ _ words,
@@ -111,5 +111,5 @@ module _ (n j : ℕ) (h3 : 3 ≤ n) (h9 : n ≤ 9) (h1 : 1 ≤ j) (hn : j ≤ n)
         is-below p (s .of-mask) (h .of-mask .1),
       )
 
-  pub deal-writes : deal-left n j (drawn-words s) (drawn-bytes s) (replicate 127 0) ≡ probe.sheet-shares j (probe.dealt s)
+  pub deal-writes : deal-left n j (coin-words s) (coin-bytes s) (replicate 127 0) ≡ probe.sheet-shares j (probe.dealt s)
   deal-writes = kept-new _ deal-accepted _ (replicate 127 0) ∙ sheet-written (threshold n) j s h

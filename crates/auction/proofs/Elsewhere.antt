@@ -8,7 +8,7 @@ use lib.Dec.{eqb}
 use borrow.Author.Tests.{ne-eqb}
 use Rattle.refusal.specs.declared.Judgement.{Judgement}
 use Rattle.refusal.specs.declared.Judgement.the-variants.{Accepted, Refused}
-use Rattle.sharing.specs.Lists.{from}
+use Rattle.ranges.specs.Lists.{from}
 use Rattle.sharing.specs.Scheme.{points}
 use Rattle.comparison.specs.Probe.{Each}
 use Rattle.party.specs.declared.record.Party.{Party}

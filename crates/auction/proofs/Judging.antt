@@ -5,9 +5,9 @@ use Prim.Native.Nat.{ℕ, _≤_}
 use Rattle.refusal.specs.Judging.{kept}
 use Rattle.refusal.specs.declared.Judgement.{Judgement}
 use Rattle.refusal.specs.declared.Judgement.the-variants.{Accepted}
-use Rattle.sharing.specs.Sizes.{party}
-use Rattle.sharing.proofs.Ranges as ranges
-pub use Rattle.sharing.proofs.Ranges.{is-listed, is-below}
+use Rattle.ranges.specs.Sizes.{party}
+use Rattle.ranges.proofs.Ranges as ranges
+pub use Rattle.ranges.proofs.Ranges.{is-listed, is-below}
 use Rattle.party.specs.declared.record.Party.{Party}
 use Rattle.party.specs.Record.{next-or}
 use Rattle.auction.specs.Call.{Call, judgement, is-accepted, accepted}

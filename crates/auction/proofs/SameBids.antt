@@ -10,13 +10,13 @@ use lib.Dec.{leb}
 use lib.ListN.{length, getD, List·getD-map}
 use borrow.Author.Tests.{leb-true}
 use Rattle.fields.specs.Amount.{p, amounts}
-use Rattle.fields.specs.Below.{AllBelow}
+use Rattle.ranges.specs.Below.{AllBelow}
 use Rattle.fields.proofs.Fields.{amount-field}
-use Rattle.sharing.specs.Lists.{every}
+use Rattle.ranges.specs.Lists.{every}
 use Rattle.sharing.specs.Polynomial.{value, shares}
 use Rattle.sharing.proofs.Points.{Different}
 use Rattle.sharing.proofs.Laws.{value-sums}
-use Rattle.sharing.proofs.Terms.{and-left, and-right}
+use Rattle.ranges.proofs.Loops.{and-left, and-right}
 use Rattle.comparison.specs.Probe.{Each, Group}
 use Rattle.comparison.proofs.Values.{Shared}
 use Rattle.comparison.proofs.Agreement.{In, map-same, alike-recolour, recolour-group}

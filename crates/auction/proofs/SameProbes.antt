@@ -14,7 +14,7 @@ use Rattle.fields.specs.Amount.{amounts}
 use Rattle.sharing.specs.Polynomial.{shares}
 use Rattle.sharing.specs.Scheme.{threshold}
 use Rattle.sharing.specs.Parties.{Parties}
-use Rattle.sharing.proofs.Terms.{and-left, and-right}
+use Rattle.ranges.proofs.Loops.{and-left, and-right}
 use Rattle.verdict.specs.Verdict.{verdict}
 use Rattle.search.specs.declared.Bracket.{Bracket}
 use Rattle.search.specs.Bracket.{middle, over, step}

@@ -11,7 +11,7 @@ use lib.Seq.{take-at, drop-at, ext-getD}
 use Rattle.fields.specs.Byte.{product, bytes}
 use Rattle.fields.proofs.Fields.{amount-field, byte-field}
 use Rattle.sharing.specs.Polynomial.{value}
-use Rattle.sharing.specs.Lists.{from}
+use Rattle.ranges.specs.Lists.{from}
 use Rattle.sharing.specs.Scheme.{points}
 use Rattle.sharing.proofs.Rows.{length-from}
 use Rattle.fields.specs.Bits.{bit}

@@ -7,8 +7,8 @@ use native.Mathlib.Nat.{add-zero, zero-add}
 use native.Mathlib.Omega.{arith}
 use lib.Dec.{eqb}
 use lib.ListN.{length, drop, length-append, length-map}
-use Rattle.sharing.specs.Lists.{from}
-use Rattle.sharing.proofs.Terms.{length-from}
+use Rattle.ranges.specs.Lists.{from}
+use Rattle.ranges.proofs.Loops.{length-from}
 use Rattle.search.specs.declared.Bracket.{Bracket}
 use Rattle.search.specs.Bracket.{start, middle, over, step}
 use Rattle.search.specs.Limit.{limit}

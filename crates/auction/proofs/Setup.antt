@@ -12,7 +12,7 @@ use Rattle.search.specs.Bracket.{start}
 use Rattle.comparison.specs.Probe as probe
 use Rattle.comparison.specs.Probe.{Each}
 use Rattle.auction.specs.Auction.{Auction, IsAuction}
-use Rattle.auction.specs.Coins.{Coins, InRange, flat, drawn-words, drawn-bytes}
+use Rattle.auction.specs.Coins.{Coins, InRange, flat, coin-words, coin-bytes}
 use Rattle.auction.specs.Call.{Call, open-call, split-call, deal-call, add-call, judgement, accepted, whose, of-party, given}
 use Rattle.auction.specs.Canonical.{Seat, blank, seated, split-for, add-by, added, deal-for, sheet-for, dealt, enough-rounds, from-rounds, deals, from-bids, canonical}
 use Rattle.auction.specs.Run.{select, own}
@@ -44,7 +44,7 @@ module _ (a : Auction) (c : Coins) where
   add-at b m fs j = add-call (holding (a .n) (a .k) m j) (at-party j fs) (at-party j (entries (b .0) (b .1)))
 
   unfoldable pub deal-at : ℕ → probe.Coins → Call
-  deal-at j s = deal-call (a .n) j (drawn-words s) (drawn-bytes s) (replicate 127 0)
+  deal-at j s = deal-call (a .n) j (coin-words s) (coin-bytes s) (replicate 127 0)
 
   unfoldable pub bid-calls : List (List ℕ × List (List ℕ)) → (m : ℕ) (fs : List (List ℕ)) → List Call
   bid-calls [] m fs = []

@@ -8,7 +8,7 @@ use lib.ListN.{length, take, drop, getD, length-append, length-map, List·getD-a
 use lib.Seq.{take-at, drop-append-add, getD-append-add}
 use Rattle.fields.specs.Amount.{p, amounts}
 use Rattle.fields.specs.Byte.{bytes}
-use Rattle.fields.specs.Below.{AllBelow}
+use Rattle.ranges.specs.Below.{AllBelow}
 use Rattle.fields.proofs.Fields.{amount-field, byte-field}
 use Rattle.sharing.specs.Polynomial.{value}
 use Rattle.sharing.proofs.Laws.{value-lt}

@@ -10,11 +10,11 @@ use Rattle.refusal.specs.Judging.{judged}
 use Rattle.refusal.specs.declared.Judgement.the-variants.{Accepted}
 use Rattle.fields.specs.Amount.{amounts}
 use Rattle.fields.specs.Byte.{bytes}
-use Rattle.fields.specs.Below.{AllBelow}
+use Rattle.ranges.specs.Below.{AllBelow}
 use Rattle.sharing.specs.Polynomial.{value}
-use Rattle.sharing.specs.Lists.{from}
+use Rattle.ranges.specs.Lists.{from}
 use Rattle.sharing.specs.Scheme.{threshold, points}
-use Rattle.sharing.proofs.Terms.{length-from}
+use Rattle.ranges.proofs.Loops.{length-from}
 use Rattle.search.specs.declared.Bracket.{Bracket}
 use Rattle.search.specs.Bracket.{middle, over}
 use Rattle.search.specs.Limit.{limit}

@@ -11,18 +11,19 @@ use lib.ListN.{length, replicate, take, drop, getD, length-replicate, length-dro
 use lib.Seq.{length-take-le, getD-take, getD-drop}
 use borrow.Author.Tests.{leb-true}
 use Rattle.fields.specs.Amount.{p, amounts}
-use Rattle.fields.specs.Below.{AllBelow}
+use Rattle.ranges.specs.Below.{AllBelow}
 use Rattle.fields.proofs.Fields.{amount-field}
-use Rattle.sharing.specs.Lists.{every}
+use Rattle.ranges.specs.Lists.{every}
 use Rattle.sharing.specs.Linear.{sums}
 use Rattle.sharing.specs.Scheme.{threshold}
 use Rattle.sharing.proofs.Laws.{sums-length, sums-lt}
-use Rattle.sharing.proofs.Terms.{and-left, and-right}
+use Rattle.ranges.proofs.Loops.{and-left, and-right}
 use Rattle.search.specs.Clearing.{Monotone}
 use Rattle.comparison.specs.Probe.{Each, Group, secret}
 use Rattle.comparison.proofs.Values.{Shared}
 use Rattle.comparison.proofs.Dealt.{each-at, shared-cons}
-use Rattle.bid.specs.Table.{most, steps, monotone}
+use Rattle.ranges.specs.Steps.{steps}
+use Rattle.bid.specs.Table.{most, monotone}
 use Rattle.auction.specs.Auction.{Auction, GoodTable, IsAuction, sum, demand, supply}
 use Rattle.auction.specs.Coins.{Coins, InRange}
 use Rattle.auction.proofs.Closed.{entries, added-polynomials, totals-after, no-totals, polynomials}

@@ -21,7 +21,7 @@ use Rattle.party.specs.Add.{add-reply, add-left}
 use Rattle.party.specs.Say.{say-reply}
 use Rattle.party.specs.Hear.{hear-reply}
 use Rattle.auction.specs.Auction.{Auction}
-use Rattle.auction.specs.Coins.{Coins, flat, drawn-words, drawn-bytes}
+use Rattle.auction.specs.Coins.{Coins, flat, coin-words, coin-bytes}
 use Rattle.auction.specs.Call.{Call, open-call, split-call, deal-call, add-call, say-call, hear-call, answer-call}
 
 -- the record that a call returned or, refused, left
@@ -81,10 +81,10 @@ module _ (a : Auction) (c : Coins) where
 
   -- "The dealer writes every keeper's sheets, from one set of draws per probe."
   unfoldable pub deal-for : Seat → probe.Coins → Call
-  deal-for s k = deal-call (a .n) (s .party .own) (drawn-words k) (drawn-bytes k) (replicate 127 0)
+  deal-for s k = deal-call (a .n) (s .party .own) (coin-words k) (coin-bytes k) (replicate 127 0)
 
   unfoldable pub sheet-for : Seat → probe.Coins → List ℕ
-  sheet-for s k = deal-left (a .n) (s .party .own) (drawn-words k) (drawn-bytes k) (replicate 127 0)
+  sheet-for s k = deal-left (a .n) (s .party .own) (coin-words k) (coin-bytes k) (replicate 127 0)
 
   unfoldable pub dealt : Seat → Seat
   dealt s = record { party = s .party; totals = s .totals; sheets = flat (map (sheet-for s) (c .sheets)) }

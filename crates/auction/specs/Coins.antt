@@ -27,13 +27,13 @@ flat [] = []
 flat (xs ∷ xss) = xs ++ flat xss
 
 -- "the mask b (below 2^58), then its t coefficients"
-abbrev pub drawn-words : probe.Coins → List ℕ
-drawn-words c = c .mask ∷ c .of-mask
+abbrev pub coin-words : probe.Coins → List ℕ
+coin-words c = c .mask ∷ c .of-mask
 
 -- "alpha, beta and t coefficients each for alpha, beta, gamma"
 abbrev pub triple-bytes : TripleCoins → List ℕ
 triple-bytes c = c .alpha ∷ c .beta ∷ (c .of-alpha ++ (c .of-beta ++ c .of-gamma))
 
 -- "t coefficients for each of bits 1 to 33 of b .. then for i = 2 to 32" those of a triple
-unfoldable pub drawn-bytes : probe.Coins → List ℕ
-drawn-bytes c = flat (c .of-bits) ++ flat (map triple-bytes (c .triples))
+unfoldable pub coin-bytes : probe.Coins → List ℕ
+coin-bytes c = flat (c .of-bits) ++ flat (map triple-bytes (c .triples))

@@ -10,23 +10,24 @@ use lib.ListN.{length, take, drop, getD, length-drop}
 use lib.Seq.{length-take-le, getD-take, getD-drop}
 use borrow.Author.Tests.{leb-true, le-leb, eqb-true, eq-eqb, not-false}
 use Rattle.fields.specs.Amount.{p, amounts}
-use Rattle.fields.specs.Below.{AllBelow}
+use Rattle.ranges.specs.Below.{AllBelow}
 use Rattle.refusal.specs.Judging.{judged}
 use Rattle.refusal.specs.declared.Judgement.the-variants.{Accepted}
 use Rattle.refusal.specs.declared.Refusal.the-variants.{OutOfRange, WrongLength, CoinOutOfRange, AmountTooLarge, NotMonotone}
-use Rattle.sharing.specs.Lists.{every}
+use Rattle.ranges.specs.Lists.{every}
 use Rattle.sharing.proofs.Shares.{length-each, each-at}
 use Rattle.sharing.specs.Polynomial.{value, share-each}
 use Rattle.sharing.specs.Scheme.{threshold, points, amount-scheme}
 use Rattle.sharing.specs.Opening.{opened}
 use Rattle.sharing.specs.declared.opening.Opening.the-variants.{Secret}
-use Rattle.sharing.specs.Sizes.{party, listed, long}
+use Rattle.ranges.specs.Sizes.{party, listed, long}
 use Rattle.sharing.proofs.Laws.{amount-fits, opens}
-use Rattle.sharing.proofs.Terms.{and-left, and-right}
-use Rattle.bid.specs.Table.{most, steps, never-rising, never-falling, monotone}
+use Rattle.ranges.proofs.Loops.{and-left, and-right}
+use Rattle.ranges.specs.Steps.{steps, never-rising, never-falling}
+use Rattle.bid.specs.Table.{most, monotone}
 use Rattle.bid.specs.Split.{split-judgement, bid-shares}
 use Rattle.refusal.proofs.Judging.{passed}
-use Rattle.sharing.proofs.Ranges.{IsParty, a-party, is-party, all-below, is-below, below-take, below-drop, below-at}
+use Rattle.ranges.proofs.Ranges.{IsParty, a-party, is-party, all-below, is-below, below-take, below-drop, below-at}
 
 -- ---- the shares, entry by entry
 

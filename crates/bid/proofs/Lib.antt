@@ -1,3 +1,2 @@
--- Laws of splitting a bid, which other crates cite, and lemmas that its proofs share.
+-- Laws of splitting a bid, which other crates cite.
 pub mod Laws
-mod Steps

@@ -7,10 +7,10 @@ use Rattle.fields.specs.Amount.{p, amounts}
 use Rattle.refusal.specs.Judging.{_⇒_, judged, kept}
 use Rattle.refusal.specs.declared.Judgement.{Judgement}
 use Rattle.refusal.specs.declared.Refusal.the-variants.{OutOfRange, WrongLength, CoinOutOfRange, AmountTooLarge, NotMonotone}
-use Rattle.sharing.specs.Lists.{every}
+use Rattle.ranges.specs.Lists.{every}
 use Rattle.sharing.specs.Polynomial.{share-each}
 use Rattle.sharing.specs.Scheme.{threshold}
-use Rattle.sharing.specs.Sizes.{party, listed, long}
+use Rattle.ranges.specs.Sizes.{party, listed, long}
 use Rattle.bid.specs.Table.{most, monotone}
 
 -- The refusals of `split`, lowest number first. "Draws are 2k groups of t words below p."

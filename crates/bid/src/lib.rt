@@ -5,15 +5,15 @@ ghost use Prim.Native.Nat.{_*_, _≤_};
 ghost use lib.ListN.{length};
 ghost use Rattle.fields.specs.Amount.{amounts};
 ghost use Rattle.sharing.specs.Polynomial.{value};
-ghost use Rattle.bid.specs.Table.{never-rising, never-falling};
 ghost use Rattle.bid.specs.Split.{split-judgement, bid-shares, split-left};
 use fields::AmountShare;
+use fields::P;
+use ranges::all_below;
+use ranges::first_bend;
+use ranges::on_list;
 use refusal::Judgement;
 use refusal::Refusal;
-use sharing::all_below;
 use sharing::threshold;
-
-const P: u64 = (1 << 61) - 1;
 
 // Half of a word.
 const HALF: u64 = 1 << 32;
@@ -45,7 +45,7 @@ pub fn split(
 fn judge(n: u64, own: u64, k: u64, table: &[u64], coins: &[u64], shares: &[u64]) -> Judgement
     ensures { λ r. ⌜ r ≡ split-judgement n own k (now (table .entry)) (now (coins .entry)) (now (shares .entry)) ⌝ }
 {
-    if !((3 <= n) & (n <= 9) & (1 <= own) & (own <= n) & ((1 <= k) & (k <= 1024))) {
+    if !on_list(n, own, k) {
         return Judgement::Refused(Refusal::OutOfRange);
     }
     let entries = 2 * k as usize;
@@ -60,36 +60,10 @@ fn judge(n: u64, own: u64, k: u64, table: &[u64], coins: &[u64], shares: &[u64])
         return Judgement::Refused(Refusal::AmountTooLarge);
     }
     let half = k as usize;
-    if !(never_rising(&table[..half]) & never_falling(&table[half..])) {
+    if !((first_bend(&table[..half], false) == half) & (first_bend(&table[half..], true) == half)) {
         return Judgement::Refused(Refusal::NotMonotone);
     }
     Judgement::Accepted
-}
-
-fn never_rising(demand: &[u64]) -> bool
-    ensures { λ r. ⌜ r ≡ never-rising (now (demand .entry)) ⌝ }
-{
-    let mut i = 0;
-    while i + 1 < demand.len() {
-        if demand[i] < demand[i + 1] {
-            return false;
-        }
-        i += 1;
-    }
-    true
-}
-
-fn never_falling(supply: &[u64]) -> bool
-    ensures { λ r. ⌜ r ≡ never-falling (now (supply .entry)) ⌝ }
-{
-    let mut i = 0;
-    while i + 1 < supply.len() {
-        if supply[i + 1] < supply[i] {
-            return false;
-        }
-        i += 1;
-    }
-    true
 }
 
 // Each amount takes the next t coins.

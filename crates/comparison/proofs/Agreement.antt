@@ -12,7 +12,7 @@ use Rattle.fields.specs.Amount.{amounts}
 use Rattle.fields.specs.Byte.{xor, product, bytes}
 use Rattle.fields.proofs.Fields.{amount-field, byte-field}
 use Rattle.sharing.specs.Polynomial.{value}
-use Rattle.sharing.specs.Lists.{from}
+use Rattle.ranges.specs.Lists.{from}
 use Rattle.sharing.specs.Scheme.{points}
 use Rattle.sharing.specs.Linear.{sums, negatives, scaled}
 use Rattle.sharing.proofs.Points.{Different, different-points}

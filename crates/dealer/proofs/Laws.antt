@@ -11,25 +11,25 @@ use lib.Seq.{drop-cons, drop-drop, length-take-le, getD-append-add}
 use borrow.Author.Tests.{ltb-true, lt-ltb, eqb-true, eq-eqb, not-false}
 use Rattle.fields.specs.Amount.{p, amounts}
 use Rattle.fields.specs.Byte.{bytes}
-use Rattle.fields.specs.Below.{AllBelow}
+use Rattle.ranges.specs.Below.{AllBelow}
 use Rattle.fields.proofs.Fields.{byte-field}
 use Rattle.refusal.specs.Judging.{judged}
 use Rattle.refusal.specs.declared.Judgement.the-variants.{Accepted}
 use Rattle.refusal.specs.declared.Refusal.the-variants.{OutOfRange, WrongLength, CoinOutOfRange}
-use Rattle.sharing.specs.Lists.{from, every}
+use Rattle.ranges.specs.Lists.{from, every}
 use Rattle.sharing.proofs.Shares.{length-each, each-at}
 use Rattle.sharing.specs.Polynomial.{value, share-each}
 use Rattle.sharing.specs.Scheme.{Scheme, threshold, points, amount-scheme, byte-scheme}
 use Rattle.sharing.specs.Opening.{opened}
 use Rattle.sharing.specs.declared.opening.Opening.{Opening}
 use Rattle.sharing.specs.declared.opening.Opening.the-variants.{Secret}
-use Rattle.sharing.specs.Sizes.{party, long}
+use Rattle.ranges.specs.Sizes.{party, long}
 use Rattle.sharing.proofs.Laws.{value-lt, amount-fits, byte-fits, opens}
-use Rattle.sharing.proofs.Terms.{and-left, and-right}
+use Rattle.ranges.proofs.Loops.{and-left, and-right}
 use Rattle.fields.specs.Bits.{bit}
 use Rattle.dealer.specs.Deal.{deal-judgement, byte-shares, mask-bits, triple-secrets, triple, triples, preprocessing}
 use Rattle.refusal.proofs.Judging.{passed}
-use Rattle.sharing.proofs.Ranges.{IsParty, a-party, is-party, all-below, is-below, below-take, below-drop, below-at, below-more}
+use Rattle.ranges.proofs.Ranges.{IsParty, a-party, is-party, all-below, is-below, below-take, below-drop, below-at, below-more}
 
 -- ---- shares of bytes, one after the other
 

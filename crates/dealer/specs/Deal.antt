@@ -11,10 +11,10 @@ use Rattle.fields.specs.Byte.{product, bytes}
 use Rattle.refusal.specs.Judging.{_⇒_, judged, kept}
 use Rattle.refusal.specs.declared.Judgement.{Judgement}
 use Rattle.refusal.specs.declared.Refusal.the-variants.{OutOfRange, WrongLength, CoinOutOfRange}
-use Rattle.sharing.specs.Lists.{from, every}
+use Rattle.ranges.specs.Lists.{from, every}
 use Rattle.sharing.specs.Polynomial.{value, share-each}
 use Rattle.sharing.specs.Scheme.{threshold}
-use Rattle.sharing.specs.Sizes.{party, long}
+use Rattle.ranges.specs.Sizes.{party, long}
 
 -- The refusals of `deal`, lowest number first. "the mask b (below 2^58), then its t coefficients", which are below p.
 -- "That is 1 + t words and 126t + 62 bytes."

@@ -5,14 +5,14 @@ ghost use Prim.Native.Nat.{_+_, _*_, _≤_, _<_};
 ghost use lib.ListN.{length};
 ghost use Rattle.dealer.specs.Deal.{deal-judgement, byte-shares, mask-bits, triple, triples, preprocessing, deal-left};
 use fields::BitShare;
+use fields::P;
+use ranges::all_below;
+use ranges::is_party;
 use refusal::Judgement;
 use refusal::Refusal;
-use sharing::all_below;
 use sharing::share_amount;
 use sharing::share_byte;
 use sharing::threshold;
-
-const P: u64 = (1 << 61) - 1;
 
 // A mask is below this.
 const MASKS: u64 = 1 << 58;
@@ -37,7 +37,7 @@ pub fn deal(n: u64, own: u64, words: &[u64], bytes: &[u8], sheet: &mut [u64]) ->
 fn judge(n: u64, own: u64, words: &[u64], bytes: &[u8], sheet: &[u64]) -> Judgement
     ensures { λ r. ⌜ r ≡ deal-judgement n own (now (words .entry)) (now (bytes .entry)) (now (sheet .entry)) ⌝ }
 {
-    if !((3 <= n) & (n <= 9) & (1 <= own) & (own <= n)) {
+    if !is_party(n, own) {
         return Judgement::Refused(Refusal::OutOfRange);
     }
     let t = threshold(n) as usize;

@@ -13,14 +13,14 @@ use lib.ListN.{length, take, set, length-set}
 use lib.Seq.{take-all, take-suc-set}
 use borrow.Author.Tests.{eq-eqb, ne-eqb}
 use Rattle.fields.specs.Amount.{p}
-use Rattle.fields.specs.Below.{AllBelow}
+use Rattle.ranges.specs.Below.{AllBelow}
 use Rattle.fields.proofs.Test.{below, at}
 use Rattle.sharing.specs.Scheme.{threshold}
 use Rattle.search.specs.Limit.{limit}
 use Rattle.comparison.specs.Probe as probe
 use Rattle.comparison.specs.Probe.{Group, Each, TripleInRange}
 use Rattle.auction.specs.Auction.{Auction}
-use Rattle.auction.specs.Coins.{InRange, flat, drawn-words, triple-bytes, drawn-bytes}
+use Rattle.auction.specs.Coins.{InRange, flat, coin-words, triple-bytes, coin-bytes}
 use Rattle.draws.specs.Draws.{xor-up, xor-down, next, first-state, next-coin, later, drawn, groups, bid-coins, after-bids, triple-coins, triples, sheet-coins, after-sheet, all-sheets, auction-coins}
 
 -- ---- lists of draws
@@ -294,12 +294,12 @@ triples-flat t (suc m) x =
     rw e
     (ap₂ _++_ (triple-flat t x) (triples-flat t m (later next (2 + 3 * t) x)) ∙ sym (drawn-more next 256 (2 + 3 * t) (m * (2 + 3 * t)) x))
 
-pub words-drawn : (t x : ℕ) → drawn-words (sheet-coins t x) ≡ next x % 2 ^ 58 ∷ drawn next-coin (2 ^ 61) t (next x)
+pub words-drawn : (t x : ℕ) → coin-words (sheet-coins t x) ≡ next x % 2 ^ 58 ∷ drawn next-coin (2 ^ 61) t (next x)
 unfolding sheet-coins
 words-drawn t x = refl
 
-pub bytes-drawn : (t x : ℕ) → drawn-bytes (sheet-coins t x) ≡ drawn next 256 (126 * t + 62) (later next-coin t (next x))
-unfolding sheet-coins drawn-bytes
+pub bytes-drawn : (t x : ℕ) → coin-bytes (sheet-coins t x) ≡ drawn next 256 (126 * t + 62) (later next-coin t (next x))
+unfolding sheet-coins coin-bytes
 bytes-drawn t x =
     let y = later next-coin t (next x) in
     let e : 126 * t + 62 ≡ 33 * t + 31 * (2 + 3 * t) = omega arith in

@@ -3,8 +3,7 @@ ghost use mathlib.Core.Path.{_≡_};
 ghost use Prim.Native.Nat.{_+_, _^_, _<_};
 ghost use lib.ListN.{length};
 ghost use Rattle.draws.specs.Draws.{next, first-state, next-coin, later, drawn-coins, drawn-bytes};
-
-const P: u64 = (1 << 61) - 1;
+use fields::P;
 
 // Zero would stay zero.
 pub fn first_state(seed: u64) -> u64

@@ -12,7 +12,7 @@ use Rattle.refusal.specs.declared.Refusal.the-variants as refusal
 use Rattle.refusal.specs.declared.Judgement.{Judgement}
 use Rattle.refusal.specs.declared.Judgement.the-variants.{Accepted, Refused}
 use Rattle.refusal.proofs.Judging.{refuses, passes, all-passed}
-use Rattle.sharing.specs.Sizes.{party, listed, long}
+use Rattle.ranges.specs.Sizes.{party, listed, long}
 use Rattle.party.specs.declared.record.Party.{Party}
 use Rattle.party.specs.declared.record.Reply.{Reply}
 use Rattle.party.specs.declared.record.Answer.the-variants as answer

@@ -7,7 +7,7 @@ use Rattle.refusal.specs.Refusal.{numberOf}
 use Rattle.refusal.specs.Judging.{_⇒_, judged}
 use Rattle.refusal.specs.declared.Judgement.{Judgement}
 use Rattle.refusal.specs.declared.Refusal.the-variants.{WrongLength}
-use Rattle.sharing.specs.Sizes.{long}
+use Rattle.ranges.specs.Sizes.{long}
 use Rattle.party.specs.declared.record.Party.{Party}
 use Rattle.party.specs.declared.record.Reply.{Reply}
 use Rattle.party.specs.declared.record.Reply.the-variants.{Next, Refused}

@@ -9,13 +9,13 @@ use lib.Dec.{leb, ltb, eqb}
 use lib.ListN.{length, take, set, getD, length-map, List·getD-map}
 use lib.Seq.{take-all}
 use borrow.Author.Tests.{leb-true, leb-false, eqb-true, eqb-false, le-leb, lt-leb, eq-eqb, ne-eqb}
-use Rattle.sharing.specs.Lists.{every}
+use Rattle.ranges.specs.Lists.{every}
 use Rattle.sharing.specs.Scheme.{Scheme, amount-scheme, byte-scheme}
 use Rattle.sharing.specs.Opening.{readable, opened}
 use Rattle.sharing.specs.declared.opening.Opening.{Opening}
 use Rattle.sharing.specs.declared.opening.Opening.the-variants.{Secret, Inconsistent}
 use Rattle.sharing.proofs.Laws.{byte-fits, exactly}
-use Rattle.sharing.proofs.Terms.{fill}
+use Rattle.ranges.proofs.Loops.{fill}
 use Rattle.party.specs.declared.record.Heard.the-variants.{Sum, Factors, Verdict}
 use Rattle.party.specs.Hear.{sum-of, factors-of, verdict-of, heard, Possible}
 use Rattle.party.proofs.Judging.{and-true}

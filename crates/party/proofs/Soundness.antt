@@ -6,7 +6,8 @@ use native.Mathlib.Numerals.{lt-of-le-of-ne}
 use native.Mathlib.Omega.{arith}
 use lib.Dec.{ltb, eqb}
 use borrow.Author.Tests.{ltb-true, ltb-false, leb-true, eqb-true, not-true, lt-ltb, le-ltb, le-leb, eq-eqb}
-use Rattle.sharing.specs.Sizes.{party, listed}
+use Rattle.ranges.specs.Sizes.{party, listed}
+pub use Rattle.ranges.proofs.Ranges.{OnList, on-list, on-list-of}
 use Rattle.search.specs.Bracket.{middle, over}
 use Rattle.search.specs.Limit.{limit}
 use Rattle.search.proofs.Logarithm.{limit-least}
@@ -14,45 +15,6 @@ use Rattle.search.proofs.Narrowing.{over-false, middle-above, middle-below}
 use Rattle.party.specs.declared.record.Party.{Party}
 use Rattle.party.specs.Record.{bracket, sound}
 use Rattle.party.proofs.Judging.{and-true}
-
--- one of n parties, and k listed prices
-pub record OnList (n own k : ℕ) : Type 0 where
-  pub parties-least : 3 ≤ n
-  pub parties-most : n ≤ 9
-  pub own-least : 1 ≤ own
-  pub own-most : own ≤ n
-  pub prices-least : 1 ≤ k
-  pub prices-most : k ≤ 1024
-
-module _ (n own k : ℕ) where
-  pub on-list : party n own && listed k ≡ true → OnList n own k
-  unfolding party listed
-  on-list e =
-      let both = and-true _ _ e in
-      let a = and-true _ _ (both .0) in
-      let b = and-true _ _ (a .0) in
-      let c = and-true _ _ (b .0) in
-      let d = and-true _ _ (both .1) in
-      record {
-        parties-least = leb-true 3 n (c .0);
-        parties-most = leb-true n 9 (c .1);
-        own-least = leb-true 1 own (b .1);
-        own-most = leb-true own n (a .1);
-        prices-least = leb-true 1 k (d .0);
-        prices-most = leb-true k 1024 (d .1);
-      }
-
-  pub on-list-of : OnList n own k → party n own && listed k ≡ true
-  unfolding party listed
-  on-list-of h =
-      rw (
-        le-leb 3 n (h .parties-least),
-        le-leb n 9 (h .parties-most),
-        le-leb 1 own (h .own-least),
-        le-leb own n (h .own-most),
-        le-leb 1 k (h .prices-least),
-        le-leb k 1024 (h .prices-most),
-      )
 
 pub record Sound (q : Party) : Type 0 where
   pub listed : OnList (q .n) (q .own) (q .k)

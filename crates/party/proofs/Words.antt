@@ -10,11 +10,11 @@ use lib.ListN.{length, drop, getD, length-drop}
 use lib.Seq.{getD-drop, length-take-le}
 use borrow.Author.Tests.{ltb-true, eqb-true, lt-ltb, eq-eqb}
 use Rattle.fields.specs.Amount.{p, amounts}
-use Rattle.fields.specs.Below.{AllBelow}
+use Rattle.ranges.specs.Below.{AllBelow}
 use Rattle.sharing.specs.Linear.{sums}
-use Rattle.sharing.specs.Lists.{every}
-use Rattle.sharing.proofs.Terms.{every-at}
-pub use Rattle.sharing.proofs.Ranges.{all-below, is-below as all-below-of}
+use Rattle.ranges.specs.Lists.{every}
+use Rattle.ranges.proofs.Loops.{every-at}
+pub use Rattle.ranges.proofs.Ranges.{all-below, is-below as all-below-of}
 use Rattle.search.specs.Limit.{limit}
 use Rattle.party.specs.declared.record.Party.{Party}
 use Rattle.party.specs.Say.{demand-share, supply-share, current, mask-share, in-field}

@@ -8,7 +8,7 @@ use Rattle.fields.specs.Byte.{bytes}
 use Rattle.refusal.specs.Judging.{_⇒_, judged}
 use Rattle.refusal.specs.declared.Judgement.{Judgement}
 use Rattle.refusal.specs.declared.Refusal.the-variants as refusal
-use Rattle.sharing.specs.Sizes.{long}
+use Rattle.ranges.specs.Sizes.{long}
 use Rattle.sharing.specs.Scheme.{amount-scheme, byte-scheme}
 use Rattle.sharing.specs.Opening.{opened}
 use Rattle.sharing.specs.declared.opening.Opening.{Opening}

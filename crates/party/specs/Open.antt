@@ -6,7 +6,7 @@ use lib.ListN.{replicate}
 use Rattle.refusal.specs.Judging.{_⇒_, judged, kept}
 use Rattle.refusal.specs.declared.Judgement.{Judgement}
 use Rattle.refusal.specs.declared.Refusal.the-variants.{OutOfRange, WrongLength}
-use Rattle.sharing.specs.Sizes.{party, listed, long}
+use Rattle.ranges.specs.Sizes.{party, listed, long}
 use Rattle.party.specs.declared.record.Party.{Party}
 use Rattle.party.specs.declared.record.Reply.{Reply}
 use Rattle.party.specs.Record.{next-or}

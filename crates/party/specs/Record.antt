@@ -4,7 +4,7 @@ use Prim.Native.Nat.{_+_, _-_, _^_}
 use lib.Dec.{leb, ltb, eqb}
 use Rattle.refusal.specs.declared.Judgement.{Judgement}
 use Rattle.refusal.specs.declared.Judgement.the-variants.{Accepted, Refused}
-use Rattle.sharing.specs.Sizes.{party, listed}
+use Rattle.ranges.specs.Sizes.{party, listed}
 use Rattle.search.specs.declared.Bracket.{Bracket}
 use Rattle.search.specs.Limit.{limit}
 use Rattle.party.specs.declared.record.Party.{Party}

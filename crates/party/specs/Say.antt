@@ -10,8 +10,8 @@ use Rattle.refusal.specs.Judging.{_⇒_, judged}
 use Rattle.refusal.specs.declared.Judgement.{Judgement}
 use Rattle.refusal.specs.declared.Judgement.the-variants as judgement
 use Rattle.refusal.specs.declared.Refusal.the-variants.{OutOfRange, WrongLength, OutOfTurn, ShareOutOfRange}
-use Rattle.sharing.specs.Lists.{every}
-use Rattle.sharing.specs.Sizes.{long}
+use Rattle.ranges.specs.Lists.{every}
+use Rattle.ranges.specs.Sizes.{long}
 use Rattle.comparison.specs.Local.{on-shares}
 use Rattle.comparison.specs.Rounds.{masked, left, right, both, last}
 use Rattle.search.specs.Bracket.{middle, over}

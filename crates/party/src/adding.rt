@@ -4,14 +4,14 @@ ghost use lib.ListN.{length};
 ghost use Rattle.fields.specs.Amount.{amounts};
 ghost use Rattle.sharing.specs.Linear.{sums};
 ghost use Rattle.party.specs.Add.{add-judgement, add-reply, add-left};
-use crate::message::P;
 use crate::record::Party;
 use crate::record::Reply;
 use crate::sound::sound;
 use fields::AmountShare;
+use fields::P;
+use ranges::all_below;
 use refusal::Judgement;
 use refusal::Refusal;
-use sharing::all_below;
 
 // Adds a party's shares of a bid to its totals, and counts the bid. Nothing is written unless all
 // of the call is accepted.

@@ -4,7 +4,7 @@ ghost use mathlib.Core.Bool.{true};
 ghost use Prim.Native.Nat.{_+_, _^_, _<_};
 ghost use lib.Dec.{ltb};
 ghost use lib.ListN.{length, drop};
-ghost use Rattle.sharing.specs.Lists.{every};
+ghost use Rattle.ranges.specs.Lists.{every};
 ghost use Rattle.party.specs.Record.{sound};
 ghost use Rattle.party.specs.Hear.{in-round, decided, after, Possible};
 use crate::record::Heard;

@@ -24,4 +24,3 @@ pub use record::Party;
 pub use record::Reply;
 pub use record::Said;
 pub use saying::say;
-pub use sound::on_list;

@@ -15,11 +15,9 @@ use comparison::last;
 use comparison::masked;
 use fields::AmountShare;
 use fields::BitShare;
+use fields::P;
+use ranges::all_below;
 use search::middle;
-use sharing::all_below;
-
-// Shares of amounts are below it.
-pub const P: u64 = (1 << 61) - 1;
 
 // Total demand at the probed index. Indices count from 1.
 pub(crate) fn demand_share(q: Party, totals: &[u64]) -> u64

@@ -4,7 +4,7 @@ ghost use lib.ListN.{length, replicate};
 ghost use Rattle.party.specs.Open.{open-reply, open-left};
 use crate::record::Party;
 use crate::record::Reply;
-use crate::sound::on_list;
+use ranges::on_list;
 use refusal::Refusal;
 
 // Zeroes the totals and gives the record that the session starts with.

@@ -1,9 +1,8 @@
 // When a record is sound. Every call judges the record it is given before anything else.
 ghost use mathlib.Core.Path.{_≡_};
-ghost use mathlib.Core.Bool.{_&&_};
-ghost use Rattle.sharing.specs.Sizes.{party, listed};
 ghost use Rattle.party.specs.Record.{bracket, sound};
 use crate::record::Party;
+use ranges::on_list;
 use search::Bracket;
 use search::limit;
 
@@ -15,13 +14,6 @@ pub(crate) fn bracket(q: Party) -> Bracket
     ensures { λ r. ⌜ r ≡ bracket q ⌝ }
 {
     Bracket { lo: q.lo, hi: q.hi }
-}
-
-// One of n parties, and k listed prices.
-pub fn on_list(n: u64, own: u64, k: u64) -> bool
-    ensures { λ r. ⌜ r ≡ (party n own && listed k) ⌝ }
-{
-    (3 <= n) & (n <= 9) & (1 <= own) & (own <= n) & ((1 <= k) & (k <= 1024))
 }
 
 // Every field is in its range. k + 1 and hi - lo are computed only of a k and an order that allow it.

@@ -9,8 +9,8 @@ use lib.Dec.{leb, ltb, eqb}
 use lib.ListN.{length, take, drop}
 use lib.Seq.{take-nil}
 use borrow.Author.Tests.{ltb-false, leb-true, eqb-false}
-use Rattle.sharing.specs.Lists.{every}
-use Rattle.sharing.proofs.Terms.{and-left, and-right}
+use Rattle.ranges.specs.Lists.{every}
+use Rattle.ranges.proofs.Loops.{and-left, and-right}
 use Rattle.bid.specs.Table.{most}
 use Rattle.plan.specs.declared.lines.Line.{Line}
 use Rattle.plan.specs.declared.lines.Line.the-variants.{Number, Misshapen}

@@ -7,12 +7,14 @@ use Prim.Native.Nat.{ℕ, _+_}
 use native.Mathlib.Omega.{arith}
 use lib.Dec.{leb}
 use lib.ListN.{length, take, drop}
-use Rattle.sharing.specs.Lists.{every}
-use Rattle.bid.specs.Table.{most, steps, monotone}
+use Rattle.ranges.specs.Lists.{every}
+use Rattle.ranges.specs.Steps.{steps, bend}
+use Rattle.ranges.proofs.Bends.{bend-steps, steps-bend}
+use Rattle.bid.specs.Table.{most, monotone}
 use Rattle.plan.specs.declared.table.Fault.{Fault}
 use Rattle.plan.specs.declared.table.Fault.the-variants.{None, At}
-use Rattle.plan.specs.Plan.{passed, bend, table-fault}
-use Rattle.plan.proofs.Counts.{passed-every, every-passed, bend-steps, steps-bend}
+use Rattle.plan.specs.Plan.{passed, table-fault}
+use Rattle.plan.proofs.Counts.{passed-every, every-passed}
 use Rattle.plan.proofs.Sections.{either}
 
 not-every : (test : ℕ → Bool) (xs : List ℕ) → (passed test xs ≡ length xs → ⊥) → every test xs ≡ false

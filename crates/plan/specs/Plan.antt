@@ -6,8 +6,9 @@ use Prim.Native.Nat.{ℕ, zero, suc, _+_, _*_}
 use lib.Bits.{bitXor}
 use lib.Dec.{leb, ltb}
 use lib.ListN.{take, drop}
-use Rattle.sharing.specs.Lists.{every}
-use Rattle.bid.specs.Table.{most, never-rising, never-falling}
+use Rattle.ranges.specs.Lists.{every}
+use Rattle.ranges.specs.Steps.{bend, never-rising, never-falling}
+use Rattle.bid.specs.Table.{most}
 use Rattle.plan.specs.declared.lines.Line.{Line}
 use Rattle.plan.specs.declared.lines.Line.the-variants.{Number, Misshapen}
 use Rattle.plan.specs.declared.table.Fault.{Fault}
@@ -55,12 +56,6 @@ prices (suc k) last at ls go =
 unfoldable pub passed : (ℕ → Bool) → List ℕ → ℕ
 passed test [] = 0
 passed test (x ∷ xs) = cond (test x) (suc (passed test xs)) 0
-
--- how many numbers stand before the later one of the first step that does not pass a test
-unfoldable pub bend : (ℕ → ℕ → Bool) → List ℕ → ℕ
-bend test [] = 0
-bend test (x ∷ []) = 1
-bend test (x ∷ y ∷ ys) = cond (test x y) (suc (bend test (y ∷ ys))) 1
 
 -- Of a bid that begins at a line and was "read whole before judging": 6 at the first amount that is too large, "then 7", at "the later
 -- amount", of the demand and then of the supply.

@@ -4,7 +4,8 @@ ghost use Prim.Native.Nat.{_≤_, _<_};
 ghost use lib.Dec.{leb};
 ghost use lib.ListN.{length};
 ghost use Rattle.bid.specs.Table.{most};
-ghost use Rattle.plan.specs.Plan.{passed, bend, rising, table-fault, xor-of};
+ghost use Rattle.plan.specs.Plan.{passed, rising, table-fault, xor-of};
+use ranges::first_bend;
 
 // Amounts are tenths of an hour, and no amount is larger.
 const MOST: u64 = 4_194_303;
@@ -24,11 +25,11 @@ pub(crate) fn table_fault(table: &[u64], half: usize, line: u64) -> Fault
     if small != table.len() {
         return Fault::At(6, line + small as u64);
     }
-    let demand = first_rise(&table[..half]);
+    let demand = first_bend(&table[..half], false);
     if demand != half {
         return Fault::At(7, line + demand as u64);
     }
-    let supply = first_fall(&table[half..]);
+    let supply = first_bend(&table[half..], true);
     if supply != table.len() - half {
         return Fault::At(7, line + (half + supply) as u64);
     }
@@ -47,34 +48,6 @@ fn first_large(table: &[u64]) -> usize
         i += 1;
     }
     i
-}
-
-// How many amounts stand before the first that is above the one before it.
-fn first_rise(demand: &[u64]) -> usize
-    ensures { λ r. ⌜ r ≡ bend (λ x y. leb y x) (now (demand .entry)) ⌝ }
-{
-    let mut i = 0;
-    while i + 1 < demand.len() {
-        if demand[i] < demand[i + 1] {
-            return i + 1;
-        }
-        i += 1;
-    }
-    demand.len()
-}
-
-// How many amounts stand before the first that is below the one before it.
-fn first_fall(supply: &[u64]) -> usize
-    ensures { λ r. ⌜ r ≡ bend leb (now (supply .entry)) ⌝ }
-{
-    let mut i = 0;
-    while i + 1 < supply.len() {
-        if supply[i + 1] < supply[i] {
-            return i + 1;
-        }
-        i += 1;
-    }
-    supply.len()
 }
 
 // How many prices rise, each above the one before it and at most 1,000,000 pence, before the first

@@ -9,7 +9,7 @@ use native.Mathlib.Omega.{arith}
 use lib.Dec.{leb, eqb}
 use lib.ListN.{length, drop, getD}
 use borrow.Author.Tests.{leb-true, leb-false, eqb-true, eqb-false}
-use Rattle.sharing.proofs.Terms.{and-left, and-right}
+use Rattle.ranges.proofs.Loops.{and-left, and-right}
 use Rattle.search.specs.Limit.{limit}
 use Rattle.search.proofs.Clearing.{clearing-within}
 use Rattle.auction.specs.Auction.{Auction, GoodTable, IsAuction, demand, supply, clearing-answer}

@@ -13,7 +13,7 @@ use Rattle.sharing.specs.Scheme.{threshold}
 use Rattle.comparison.specs.Probe as probe
 use Rattle.comparison.proofs.Dealt.{dealt-shared}
 use Rattle.dealer.specs.Deal.{deal-judgement, deal-left}
-use Rattle.auction.specs.Coins.{flat, drawn-words, drawn-bytes}
+use Rattle.auction.specs.Coins.{flat, coin-words, coin-bytes}
 use Rattle.auction.proofs.Judging.{kept-new, is-party, is-below}
 use Rattle.auction.proofs.Dealing.{bytes-length, sheet-written}
 use Rattle.auction.proofs.Sheets.{sheet-length}
@@ -24,10 +24,10 @@ use Rattle.draws.proofs.Drawn.{Word, sheet-in-range, words-drawn, bytes-drawn}
 
 module _ (n j : ℕ) (h3 : 3 ≤ n) (h9 : n ≤ 9) (h1 : 1 ≤ j) (hn : j ≤ n) where
   module _ (s : probe.Coins) (h : probe.InRange (threshold n) s) (sheet : List ℕ) (l : length sheet ≡ 127) where
-    accepted : deal-judgement n j (drawn-words s) (drawn-bytes s) sheet ≡ Accepted
+    accepted : deal-judgement n j (coin-words s) (coin-bytes s) sheet ≡ Accepted
     unfolding deal-judgement judged
     accepted =
-        let words : length (drawn-words s) ≡ 1 + threshold n = ap suc (h .of-mask .0) ∙ omega arith in
+        let words : length (coin-words s) ≡ 1 + threshold n = ap suc (h .of-mask .0) ∙ omega arith in
         simp (
           is-party n j h3 h9 h1 hn,
           eq-eqb _ _ words,
@@ -37,7 +37,7 @@ module _ (n j : ℕ) (h3 : 3 ≤ n) (h9 : n ≤ 9) (h1 : 1 ≤ j) (hn : j ≤ n)
           is-below p (s .of-mask) (h .of-mask .1),
         )
 
-    writes : deal-left n j (drawn-words s) (drawn-bytes s) sheet ≡ probe.sheet-shares j (probe.dealt s)
+    writes : deal-left n j (coin-words s) (coin-bytes s) sheet ≡ probe.sheet-shares j (probe.dealt s)
     writes = kept-new _ accepted _ sheet ∙ sheet-written (threshold n) j s h
 
   -- what the draws from a state on are dealt as

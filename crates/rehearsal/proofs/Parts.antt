@@ -9,8 +9,8 @@ use native.Mathlib.Omega.{arith}
 use lib.ListN.{length, take, drop, set, getD, replicate, length-drop, length-set, length-map, length-append, take-append-drop}
 use lib.Seq.{length-take-le, take-append-le, drop-append-le, take-at, drop-at, drop-drop, getD-set-same, getD-set-other, ext-getD}
 use borrow.Rule.Slice.PartMut.{putMid, same-len-mid, drop-put}
-use Rattle.sharing.specs.Lists.{from}
-use Rattle.sharing.proofs.Terms.{length-from}
+use Rattle.ranges.specs.Lists.{from}
+use Rattle.ranges.proofs.Loops.{length-from}
 use Rattle.search.specs.Limit.{limit}
 use Rattle.search.proofs.Logarithm.{limit-least}
 use Rattle.rehearsal.specs.Parties.{part}

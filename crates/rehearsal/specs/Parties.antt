@@ -2,7 +2,7 @@
 use mathlib.Core.List.{List, map, _++_}
 use Prim.Native.Nat.{ℕ, _+_, _*_, _<_}
 use lib.ListN.{take, drop, getD, replicate}
-use Rattle.sharing.specs.Lists.{from}
+use Rattle.ranges.specs.Lists.{from}
 use Rattle.search.specs.Limit.{limit}
 use Rattle.bid.specs.Split.{split-left}
 use Rattle.dealer.specs.Deal.{deal-left}

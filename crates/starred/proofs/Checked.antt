@@ -11,9 +11,9 @@ use Rattle.fields.specs.Amount.{p}
 use Rattle.fields.specs.Byte.{xor, xtimes, terms, product}
 use Rattle.refusal.specs.Refusal.{codeOf}
 use Rattle.refusal.specs.Judging.{judged}
-use Rattle.sharing.specs.Lists.{from, every}
+use Rattle.ranges.specs.Lists.{from, every}
 use Rattle.sharing.specs.Polynomial.{value}
-use Rattle.sharing.specs.Sizes.{party, listed, long}
+use Rattle.ranges.specs.Sizes.{party, listed, long}
 use Rattle.sharing.specs.Scheme.{amount-scheme}
 use Rattle.sharing.specs.Opening.{products, total, moments, readable, settled, opened}
 use Rattle.sharing.specs.declared.opening.Opening.the-variants.{Inconsistent}
@@ -66,16 +66,16 @@ line : (demand supply mask T v : ℕ) → demand < 2 ^ 32 → supply < 2 ^ 32 �
 line demand supply mask T v hd hs sum verdict-is t ds ss c gd gs ranged mask-is =
     let q : Probe = compared demand supply ds ss c in
     let h : promise.Compares t demand supply c q =
-        record {
-          demand-shared = shared-cons demand ds (omega arith) gd;
-          supply-shared = shared-cons supply ss (omega arith) gs;
-          demand-is = refl;
-          supply-is = refl;
-          demand-lt = hd;
-          supply-lt = hs;
-          ranged = ranged;
-          sheet-is = refl;
-        } in
+    record {
+      demand-shared = shared-cons demand ds (omega arith) gd;
+      supply-shared = shared-cons supply ss (omega arith) gs;
+      demand-is = refl;
+      supply-is = refl;
+      demand-lt = hd;
+      supply-lt = hs;
+      ranged = ranged;
+      sheet-is = refl;
+    } in
     (omega (arith, sum-law t demand supply c q h), promised t demand supply c q h ∙ verdict-is)
 
 -- ---- the list

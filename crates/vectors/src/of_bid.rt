@@ -3,8 +3,7 @@
 ghost use Prim.Native.Nat.{_≤_};
 ghost use lib.ListN.{length};
 use crate::line;
-
-const P: u64 = 0x1fff_ffff_ffff_ffff;
+use fields::P;
 
 const MAX: u64 = 0xffff_ffff_ffff_ffff;
 

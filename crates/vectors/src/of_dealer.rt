@@ -1,8 +1,7 @@
 // Dealing: its limits and worked sheets. A call prints its refusal's number, or 0.
 ghost use Prim.Native.Nat.{_≤_};
 use crate::line;
-
-const P: u64 = 0x1fff_ffff_ffff_ffff;
+use fields::P;
 
 // The first number that is no mask.
 const MASKS: u64 = 1 << 58;

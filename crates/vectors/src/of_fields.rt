@@ -2,8 +2,7 @@
 use crate::line;
 use fields::AmountShare;
 use fields::BitShare;
-
-const P: u64 = 0x1fff_ffff_ffff_ffff;
+use fields::P;
 
 const MAX: u64 = 0xffff_ffff_ffff_ffff;
 

@@ -6,9 +6,8 @@ use crate::line;
 use crate::of_dealer::fill;
 use crate::of_party::code;
 use crate::of_party::record;
+use fields::P;
 use party::Party;
-
-const P: u64 = 0x1fff_ffff_ffff_ffff;
 
 // 2^59 + 2^32 - 7 + 5 - 3.
 const SUM: u64 = (1 << 59) + (1 << 32) - 5;

@@ -2,12 +2,11 @@
 // one place, and worked answers. A call prints its refusal's number, or 0.
 ghost use Prim.Native.Nat.{_≤_, _<_};
 use crate::line;
+use fields::P;
 use party::Answer;
 use party::Party;
 use party::Reply;
 use party::Said;
-
-const P: u64 = 0x1fff_ffff_ffff_ffff;
 
 // The sums that a record may hold are below it.
 const SUMS: u64 = (1 << 59) + (1 << 33);

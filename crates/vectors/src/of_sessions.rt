@@ -9,14 +9,13 @@ ghost use Prim.Native.Nat.{_≤_, _<_};
 ghost use lib.ListN.{length};
 use crate::line;
 use fields::AmountShare;
+use fields::P;
 use party::Answer;
 use party::Party;
 use party::Reply;
 use party::Said;
 use refusal::Judgement;
 use search::Bracket;
-
-const P: u64 = 0x1fff_ffff_ffff_ffff;
 
 // A table has 8 amounts, and so has a party's book of totals. Four prices take at most 3 probes, so a
 // party has 3 sheets of 127 words, 381 in all. There is room for nine parties.

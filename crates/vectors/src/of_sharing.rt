@@ -1,8 +1,7 @@
 // Shares, and what words open to.
 use crate::line;
+use fields::P;
 use sharing::Opening;
-
-const P: u64 = 0x1fff_ffff_ffff_ffff;
 
 pub(crate) fn print() {
     line::title(b"shares of 7 with 3, 2:");

@@ -1,25 +1,27 @@
 -- `judge` meets its contract: each return answers one test of the list. Assumes nothing.
 use mathlib.Core.Path.{_≡_, sym, ap, ap₂, _∙_}
 use mathlib.Core.List.{List, [], _∷_}
-use mathlib.Core.Bool.{Bool, false, not, _&&_}
+use mathlib.Core.Bool.{Bool, true, false, not, _&&_}
 use Prim.Native.Nat.{ℕ, _-_, _*_, _≤_}
 use native.Mathlib.Nat.{mul-le-mul}
 use native.Mathlib.Omega.{arith}
-use lib.Dec.{leb, ltb}
-use lib.ListN.{length, drop, length-drop}
+use lib.Dec.{leb, ltb, eqb}
+use lib.ListN.{length, take, drop, length-drop}
 use lib.Seq.{length-take-le, take-all}
 use borrow.Author.Tests.{not-false, eqb-true}
 use Rattle.fields.specs.Amount.{p}
 use Rattle.refusal.specs.Judging.{_⇒_, judged}
 use Rattle.refusal.specs.declared.Refusal.the-variants.{NotMonotone}
-use Rattle.sharing.specs.Lists.{every}
+use Rattle.ranges.specs.Lists.{every}
 use Rattle.sharing.specs.Scheme.{threshold}
-use Rattle.sharing.specs.Sizes.{party, listed, long}
-use Rattle.sharing.proofs.Terms.{and-left, and-right}
-use Rattle.bid.specs.Table.{most, never-falling, monotone}
+use Rattle.ranges.specs.Sizes.{party, listed, long}
+use Rattle.ranges.proofs.Loops.{and-left, and-right}
+use Rattle.ranges.specs.Steps.{in-order, steps, bend}
+use Rattle.ranges.proofs.Bends.{steps-by-bend}
+use Rattle.bid.specs.Table.{most, monotone}
 use Rattle.bid.specs.Split.{split-judgement}
 use Rattle.refusal.proofs.Judging.{refuses, passes, all-passed}
-use Rattle.sharing.proofs.Ranges.{a-party}
+use Rattle.ranges.proofs.Ranges.{a-party}
 use Rattle.bid.proofs.Laws.{a-list, at-most}
 use borrow.Author.Needs.{needs}
 use Rattle.bid.proofs.judge.Statement.{statement}
@@ -27,7 +29,7 @@ use Rattle.bid.proofs.judge.Tie as tie
 
 -- what the call was given, from the place after each test
 abbrev given1 : tie.Else1 → tie.Start
-given1 c = c .before .before .before .before
+given1 c = c .before .before .before .before .before
 
 abbrev given2 : tie.Else2 → tie.Start
 given2 c = given1 (c .before .before)
@@ -40,8 +42,7 @@ given4 c = given3 (c .before .before)
 
 -- each test that was passed, by its fault
 range : (c : tie.Else1) → not (party (given1 c .args .n) (given1 c .args .own) && listed (given1 c .args .k)) ≡ false
-unfolding party listed
-range c = c .if1 .left
+range c = ap not (sym (c .before .on-list .ensures)) ∙ c .if1 .left
 
 missized : ℕ → ℕ → List ℕ → List ℕ → List ℕ → Bool
 missized k t table coins shares = not (long (2 * k) table && long (2 * k * t) coins && long (2 * k) shares)
@@ -74,29 +75,43 @@ few-parties : (c : tie.Else1) → given1 c .args .n ≤ 9
 few-parties c = a-party _ _ (and-left (party _ _) (listed _) (not-false (party _ _ && listed _) (range c))) .parties-most
 
 -- the table has two halves
-half : (c : tie.Else2) → given2 c .args .k ≤ length (given2 c .args .table .now)
+two-halves : (c : tie.Else2) → length (given2 c .args .table .now) ≡ 2 * given2 c .args .k
 unfolding missized
-half c =
+two-halves c =
     let a = given2 c .args in
     let e = not-false (long (2 * a .k) (a .table .now) && long (2 * a .k * threshold (a .n)) (a .coins .now) && long (2 * a .k) (a .shares .now)) (sized c) in
     let l = and-left (long (2 * a .k) (a .table .now)) (long (2 * a .k * threshold (a .n)) (a .coins .now)) (and-left _ (long (2 * a .k) (a .shares .now)) e) in
-    omega (arith, eqb-true (length (a .table .now)) (2 * a .k) l)
+    eqb-true (length (a .table .now)) (2 * a .k) l
+
+half : (c : tie.Else2) → given2 c .args .k ≤ length (given2 c .args .table .now)
+half c = omega (arith, two-halves c)
 
 -- and they were lent
-abbrev tested : tie.After-never-falling → tie.Else4
+abbrev tested : tie.After-first-bend2 → tie.Else4
 tested c = c .before .before .before .before
 
-halves : (c : tie.After-never-falling)
-    → c .before .before .never-rising .result && c .never-falling .result ≡ monotone (given4 (tested c) .args .k) (given4 (tested c) .args .table .now)
-unfolding monotone
+-- as many amounts as the length stand before the first bend exactly where there is none
+no-bend : (rising : Bool) (part : List ℕ) (r k : ℕ) → r ≡ bend (in-order rising) part → length part ≡ k → eqb r k ≡ steps (in-order rising) part
+no-bend rising part r k e l = ap₂ eqb e (sym l) ∙ steps-by-bend (in-order rising) part
+
+halves : (c : tie.After-first-bend2)
+    → eqb (c .before .before .first-bend .result) (given4 (tested c) .args .k) && eqb (c .first-bend2 .result) (given4 (tested c) .args .k)
+    ≡ monotone (given4 (tested c) .args .k) (given4 (tested c) .args .table .now)
+unfolding monotone missized
 halves c =
     let a = given4 (tested c) .args in
-    ap₂ _&&_ (c .before .before .never-rising .ensures)
-    (c .never-falling .ensures ∙ ap never-falling (take-all (length (a .table .now) - a .k) (drop (a .k) (a .table .now)) (omega (arith, length-drop (a .k) (a .table .now)))))
+    let h = half (tested c .before .before .before .before) in
+    let two = two-halves (tested c .before .before .before .before) in
+    let rest = take-all (length (a .table .now) - a .k) (drop (a .k) (a .table .now)) (omega (arith, length-drop (a .k) (a .table .now))) in
+    ap₂ _&&_ (no-bend false (take (a .k) (a .table .now)) _ (a .k) (c .before .before .first-bend .ensures) (length-take-le _ _ h))
+    (no-bend true (drop (a .k) (a .table .now)) _ (a .k) (c .first-bend2 .ensures ∙ ap (bend (in-order true)) rest) (length-drop (a .k) (a .table .now) ∙ omega (arith, two)))
+
+on-list-requires : tie.Need-on-list-requires
+on-list-requires c κs = search needs
 
 returns : tie.Need-returns
-unfolding split-judgement party listed
-returns c = sym (refuses _ _ _ (c .if1 .taken))
+unfolding split-judgement
+returns c = sym (refuses _ _ _ (ap not (sym (c .before .on-list .ensures)) ∙ c .if1 .taken))
 
 mul-entries : tie.Need-mul-entries
 mul-entries c = omega (arith, few c)
@@ -137,26 +152,26 @@ returns-4 c =
     (passes _ _ _ (range (c .before .before .before .before .before .before)) ∙ passes _ _ _ (sized (c .before .before .before .before))
     ∙ passes _ _ _ (drawn (c .before .before)) ∙ refuses _ _ _ (ap not (at-most _ ∙ sym (c .before .all-below2 .ensures)) ∙ c .if4 .taken))
 
-slice-aggregate-never-rising : tie.Need-slice-aggregate-never-rising
-slice-aggregate-never-rising c = sym (length-take-le _ _ (half (c .before .before .before .before .before)))
+slice-aggregate-first-bend : tie.Need-slice-aggregate-first-bend
+slice-aggregate-first-bend c = sym (length-take-le _ _ (half (c .before .before .before .before .before)))
 
-never-rising-requires : tie.Need-never-rising-requires
-never-rising-requires c κs = search needs
+first-bend-requires : tie.Need-first-bend-requires
+first-bend-requires c κs = search needs
 
-mul-never-falling : tie.Need-mul-never-falling
-mul-never-falling c = omega (arith, few (c .before .before .before .before .before .before .before .before))
+mul-first-bend : tie.Need-mul-first-bend
+mul-first-bend c = omega (arith, few (c .before .before .before .before .before .before .before .before))
 
-sub-never-falling : tie.Need-sub-never-falling
-sub-never-falling c = half (c .before .before .before .before .before .before)
+sub-first-bend : tie.Need-sub-first-bend
+sub-first-bend c = half (c .before .before .before .before .before .before)
 
-part-never-falling-start : tie.Need-part-never-falling-start
-part-never-falling-start c = half (c .before .before .before .before .before .before)
+part-first-bend-start : tie.Need-part-first-bend-start
+part-first-bend-start c = half (c .before .before .before .before .before .before)
 
-part-never-falling-end : tie.Need-part-never-falling-end
-part-never-falling-end c = search needs
+part-first-bend-end : tie.Need-part-first-bend-end
+part-first-bend-end c = search needs
 
-never-falling-requires : tie.Need-never-falling-requires
-never-falling-requires c κs = search needs
+first-bend-requires-2 : tie.Need-first-bend-requires-2
+first-bend-requires-2 c κs = search needs
 
 returns-5 : tie.Need-returns-5
 returns-5 c = sym (stepped (tested (c .before)) ∙ refuses _ _ _ (ap not (sym (halves (c .before))) ∙ c .if5 .taken))
@@ -168,6 +183,7 @@ pub judge-spec : {M : Type 1} → statement M
 judge-spec =
     tie.close
     (tie.spec
+    on-list-requires
     returns
     mul-entries
     threshold-requires
@@ -178,12 +194,12 @@ judge-spec =
     add-all-below
     all-below-requires-2
     returns-4
-    slice-aggregate-never-rising
-    never-rising-requires
-    mul-never-falling
-    sub-never-falling
-    part-never-falling-start
-    part-never-falling-end
-    never-falling-requires
+    slice-aggregate-first-bend
+    first-bend-requires
+    mul-first-bend
+    sub-first-bend
+    part-first-bend-start
+    part-first-bend-end
+    first-bend-requires-2
     returns-5
     returns-6)

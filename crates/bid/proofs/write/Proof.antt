@@ -8,7 +8,7 @@ use lib.ListN.{length, take, drop, length-set, length-take}
 use lib.Seq.{take-all}
 use Rattle.fields.specs.Amount.{amounts}
 use Rattle.sharing.specs.Polynomial.{value}
-use Rattle.sharing.proofs.Terms.{fill}
+use Rattle.ranges.proofs.Loops.{fill}
 use Rattle.bid.specs.Split.{bid-shares}
 use Rattle.bid.proofs.Laws.{length-shares, entry}
 use borrow.Author.Needs.{needs}

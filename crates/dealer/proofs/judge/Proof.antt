@@ -9,28 +9,27 @@ use lib.ListN.{length, drop, getD, length-drop}
 use lib.Seq.{take-all}
 use borrow.Author.Tests.{not-false, eqb-true}
 use Rattle.fields.specs.Amount.{p}
-use Rattle.sharing.specs.Lists.{every}
+use Rattle.ranges.specs.Lists.{every}
 use Rattle.sharing.specs.Scheme.{threshold}
-use Rattle.sharing.specs.Sizes.{party, long}
-use Rattle.sharing.proofs.Terms.{and-left}
+use Rattle.ranges.specs.Sizes.{party, long}
+use Rattle.ranges.proofs.Loops.{and-left}
 use Rattle.dealer.specs.Deal.{deal-judgement}
 use Rattle.refusal.proofs.Judging.{refuses, passes, all-passed}
-use Rattle.sharing.proofs.Ranges.{a-party}
+use Rattle.ranges.proofs.Ranges.{a-party}
 use borrow.Author.Needs.{needs}
 use Rattle.dealer.proofs.judge.Statement.{statement}
 use Rattle.dealer.proofs.judge.Tie as tie
 
 -- what the call was given, from the place after each test
 abbrev given1 : tie.Else1 → tie.Start
-given1 c = c .before .before .before .before
+given1 c = c .before .before .before .before .before
 
 abbrev given2 : tie.Else2 → tie.Start
 given2 c = given1 (c .before .before)
 
 -- each test that was passed, by its fault
 range : (c : tie.Else1) → not (party (given1 c .args .n) (given1 c .args .own)) ≡ false
-unfolding party
-range c = c .if1 .left
+range c = ap not (sym (c .before .is-party .ensures)) ∙ c .if1 .left
 
 few : (c : tie.Else1) → given1 c .args .n ≤ 9
 few c = a-party _ _ (not-false (party _ _) (range c)) .parties-most
@@ -64,9 +63,12 @@ drawn c =
     ap (λ (b : Bool). ltb (getD words 0 0) (2 ^ 58) && b)
     (c .all-below .ensures ∙ ap (every (λ x. ltb x p)) (take-all (length words - 1) (drop 1 words) (omega (arith, length-drop 1 words))))
 
+is-party-requires : tie.Need-is-party-requires
+is-party-requires c κs = search needs
+
 returns : tie.Need-returns
-unfolding deal-judgement party
-returns c = sym (refuses _ _ _ (c .if1 .taken))
+unfolding deal-judgement
+returns c = sym (refuses _ _ _ (ap not (sym (c .before .is-party .ensures)) ∙ c .if1 .taken))
 
 threshold-requires : tie.Need-threshold-requires
 threshold-requires c κs = search needs
@@ -115,6 +117,7 @@ pub judge-spec : {M : Type 1} → statement M
 judge-spec =
     tie.close
     (tie.spec
+    is-party-requires
     returns
     threshold-requires
     add-if2

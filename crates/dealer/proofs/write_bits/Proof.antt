@@ -10,7 +10,7 @@ use lib.ListN.{length, take, drop, length-set}
 use lib.Seq.{take-all}
 use Rattle.fields.specs.Byte.{bytes}
 use Rattle.sharing.specs.Polynomial.{value}
-use Rattle.sharing.proofs.Terms.{fill}
+use Rattle.ranges.proofs.Loops.{fill}
 use Rattle.fields.specs.Bits.{bit}
 use Rattle.dealer.specs.Deal.{byte-shares, mask-bits}
 use Rattle.dealer.proofs.Laws.{length-shares, share-at, length-bits, bit-at}

@@ -8,7 +8,7 @@ use Rattle.fields.specs.Amount.{amounts}
 use Rattle.fields.proofs.Fields.{amount-field}
 use Rattle.sharing.specs.Linear.{sums}
 use Rattle.sharing.proofs.Laws.{sums-length}
-use Rattle.sharing.proofs.Terms.{fill, fill-past, same-at}
+use Rattle.ranges.proofs.Loops.{fill, fill-past, same-at}
 use Rattle.party.proofs.Words.{sum-at}
 use borrow.Author.Needs.{needs}
 use Rattle.party.proofs.adding.add_words.Statement.{statement}

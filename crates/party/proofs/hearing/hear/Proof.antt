@@ -9,7 +9,7 @@ use lib.ListN.{length, drop, getD}
 use borrow.Author.Tests.{eqb-true, eq-eqb, ne-eqb}
 use Rattle.refusal.specs.Judging.{judged}
 use Rattle.refusal.specs.declared.Judgement.the-variants.{Accepted}
-use Rattle.sharing.specs.Sizes.{long}
+use Rattle.ranges.specs.Sizes.{long}
 use Rattle.party.specs.declared.record.Party.{Party}
 use Rattle.party.specs.declared.record.Heard.{Heard}
 use Rattle.party.specs.declared.record.Reply.the-variants.{Next}

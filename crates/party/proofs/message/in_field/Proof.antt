@@ -7,7 +7,7 @@ use lib.Dec.{ltb, eqb}
 use lib.ListN.{length, drop, length-drop}
 use lib.Seq.{take-all}
 use Rattle.fields.specs.Amount.{p}
-use Rattle.sharing.specs.Lists.{every}
+use Rattle.ranges.specs.Lists.{every}
 use Rattle.party.specs.Say.{in-field, mask-share}
 use borrow.Author.Needs.{needs}
 use Rattle.party.proofs.message.in_field.Statement.{statement}

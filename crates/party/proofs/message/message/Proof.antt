@@ -5,7 +5,7 @@ use Prim.Native.Nat.{ℕ}
 use native.Mathlib.Omega.{arith}
 use lib.Dec.{ltb}
 use lib.ListN.{drop}
-use Rattle.sharing.specs.Lists.{every}
+use Rattle.ranges.specs.Lists.{every}
 use Rattle.fields.specs.Amount.{amounts}
 use Rattle.fields.specs.Byte.{bytes}
 use Rattle.comparison.specs.Local.{on-shares}

@@ -4,7 +4,7 @@ use Prim.Native.Nat.{ℕ, _-_, _≤_, _<_}
 use native.Mathlib.Omega.{arith}
 use lib.ListN.{length, take, replicate, length-set, length-replicate, getD-replicate}
 use lib.Seq.{take-all}
-use Rattle.sharing.proofs.Terms.{fill}
+use Rattle.ranges.proofs.Loops.{fill}
 use borrow.Author.Needs.{needs}
 use Rattle.party.proofs.opening.clear.Statement.{statement}
 use Rattle.party.proofs.opening.clear.Tie as tie

@@ -5,7 +5,7 @@ use Prim.Native.Nat.{ℕ, _≤_}
 use native.Mathlib.Omega.{arith}
 use lib.ListN.{replicate}
 use borrow.Author.Tests.{not-false, eq-eqb, ne-eqb}
-use Rattle.sharing.specs.Sizes.{party, listed}
+use Rattle.ranges.specs.Sizes.{party, listed}
 use Rattle.party.specs.Open.{open-judgement, fresh}
 use Rattle.party.proofs.Judging.{refuses, passes, all-passed, kept-new, kept-old, next-accepted, next-refused}
 use Rattle.party.proofs.Soundness.{on-list}

@@ -6,7 +6,7 @@ use native.Mathlib.Omega.{arith}
 use lib.ListN.{length}
 use denote.Ref.{now}
 use borrow.Author.Tests.{not-false, eqb-true}
-use Rattle.sharing.specs.Sizes.{long}
+use Rattle.ranges.specs.Sizes.{long}
 use Rattle.search.specs.Bracket.{over}
 use Rattle.search.specs.Limit.{limit}
 use Rattle.party.specs.declared.record.Said.the-variants.{Message}

@@ -6,7 +6,7 @@ use native.Mathlib.Nat.{le-of-lt}
 use native.Mathlib.Omega.{arith}
 use lib.Dec.{leb, ltb, eqb}
 use borrow.Author.Tests.{not-true, not-false, ltb-true}
-use Rattle.sharing.specs.Sizes.{party, listed}
+use Rattle.ranges.specs.Sizes.{party, listed}
 use Rattle.search.specs.Limit.{limit}
 use Rattle.party.specs.declared.record.Party.{Party}
 use Rattle.party.specs.Record.{sound}

@@ -8,7 +8,7 @@ use lib.Dec.{leb}
 use lib.ListN.{drop}
 use lib.Seq.{length-take-le, drop-drop}
 use borrow.Author.Tests.{not-true, not-false, leb-true}
-use Rattle.sharing.proofs.Terms.{and-right}
+use Rattle.ranges.proofs.Loops.{and-right}
 use Rattle.plan.specs.declared.lines.Line.the-variants.{Number}
 use Rattle.plan.specs.declared.judging.Judged.the-variants.{Faulty}
 use Rattle.plan.specs.Lines.{lines, first-line, line-length, rest, numbers, bytes-of, after}

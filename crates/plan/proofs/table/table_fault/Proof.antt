@@ -5,10 +5,12 @@ use native.Mathlib.Omega.{arith}
 use lib.Dec.{leb}
 use lib.ListN.{length, take, drop, length-drop}
 use lib.Seq.{length-take-le, take-all}
+use Rattle.ranges.specs.Steps.{bend}
+use Rattle.ranges.proofs.Bends.{bend-most}
 use Rattle.bid.specs.Table.{most}
 use Rattle.plan.specs.declared.table.Fault.the-variants.{At}
-use Rattle.plan.specs.Plan.{passed, bend}
-use Rattle.plan.proofs.Counts.{passed-most, bend-most}
+use Rattle.plan.specs.Plan.{passed}
+use Rattle.plan.proofs.Counts.{passed-most}
 use Rattle.plan.proofs.Tables.{large, rises, falls, formed-table}
 use borrow.Author.Needs.{needs}
 use Rattle.plan.proofs.table.table_fault.Statement.{statement}
@@ -18,23 +20,23 @@ use Rattle.plan.proofs.table.table_fault.Tie as tie
 abbrev given1 : tie.After-first-large → tie.Start
 given1 c = c .before .before
 
-abbrev given2 : tie.After-first-rise → tie.Start
+abbrev given2 : tie.After-first-bend → tie.Start
 given2 c = given1 (c .before .before .before)
 
-abbrev given3 : tie.After-first-fall → tie.Start
+abbrev given3 : tie.After-first-bend2 → tie.Start
 given3 c = given2 (c .before .before .before)
 
 -- the counts, each by its definition
 amounts : (c : tie.After-first-large) → c .first-large .result ≡ passed (λ a. leb a most) (given1 c .args .table .now)
 amounts c = c .first-large .ensures
 
-demand : (c : tie.After-first-rise) → c .first-rise .result ≡ bend (λ x y. leb y x) (take (given2 c .args .half) (given2 c .args .table .now))
-demand c = c .first-rise .ensures
+demand : (c : tie.After-first-bend) → c .first-bend .result ≡ bend (λ x y. leb y x) (take (given2 c .args .half) (given2 c .args .table .now))
+demand c = c .first-bend .ensures
 
-supply : (c : tie.After-first-fall) → c .first-fall .result ≡ bend leb (drop (given3 c .args .half) (given3 c .args .table .now))
+supply : (c : tie.After-first-bend2) → c .first-bend2 .result ≡ bend leb (drop (given3 c .args .half) (given3 c .args .table .now))
 supply c =
     let a = given3 c .args in
-    c .first-fall .ensures
+    c .first-bend2 .ensures
     ∙ ap (bend leb) (take-all (length (a .table .now) - a .half) (drop (a .half) (a .table .now)) (omega (arith, length-drop (a .half) (a .table .now))))
 
 -- the tests that were passed
@@ -60,11 +62,11 @@ returns c =
     let a = given1 (c .before) .args in
     ap (λ (r : ℕ). At 6 (a .line + r)) (amounts (c .before)) ∙ sym (large (a .half) (a .line) (a .table .now) (λ e. c .if1 .taken (amounts (c .before) ∙ e)))
 
-slice-aggregate-first-rise : tie.Need-slice-aggregate-first-rise
-slice-aggregate-first-rise c = sym (length-take-le _ _ (c .before .before .before .before .pre .0))
+slice-aggregate-first-bend : tie.Need-slice-aggregate-first-bend
+slice-aggregate-first-bend c = sym (length-take-le _ _ (c .before .before .before .before .pre .0))
 
-first-rise-requires : tie.Need-first-rise-requires
-first-rise-requires c κs = search needs
+first-bend-requires : tie.Need-first-bend-requires
+first-bend-requires c κs = search needs
 
 add-t14 : tie.Need-add-t14
 add-t14 c =
@@ -78,20 +80,20 @@ returns-2 c =
     ap (λ (r : ℕ). At 7 (a .line + r)) (demand (c .before))
     ∙ sym (rises (a .half) (a .line) (a .table .now) (amounts-all (c .before .before .before)) (λ e. c .if2 .taken (demand (c .before) ∙ e ∙ half-length s)))
 
-mul-first-fall : tie.Need-mul-first-fall
-mul-first-fall c = search needs
+mul-first-bend : tie.Need-mul-first-bend
+mul-first-bend c = search needs
 
-sub-first-fall : tie.Need-sub-first-fall
-sub-first-fall c = search needs
+sub-first-bend : tie.Need-sub-first-bend
+sub-first-bend c = search needs
 
-part-first-fall-start : tie.Need-part-first-fall-start
-part-first-fall-start c = search needs
+part-first-bend-start : tie.Need-part-first-bend-start
+part-first-bend-start c = search needs
 
-part-first-fall-end : tie.Need-part-first-fall-end
-part-first-fall-end c = search needs
+part-first-bend-end : tie.Need-part-first-bend-end
+part-first-bend-end c = search needs
 
-first-fall-requires : tie.Need-first-fall-requires
-first-fall-requires c κs = search needs
+first-bend-requires-2 : tie.Need-first-bend-requires-2
+first-bend-requires-2 c κs = search needs
 
 sub-if3 : tie.Need-sub-if3
 sub-if3 c = search needs
@@ -132,15 +134,15 @@ table-fault-spec =
     first-large-requires
     add-t10
     returns
-    slice-aggregate-first-rise
-    first-rise-requires
+    slice-aggregate-first-bend
+    first-bend-requires
     add-t14
     returns-2
-    mul-first-fall
-    sub-first-fall
-    part-first-fall-start
-    part-first-fall-end
-    first-fall-requires
+    mul-first-bend
+    sub-first-bend
+    part-first-bend-start
+    part-first-bend-end
+    first-bend-requires-2
     sub-if3
     add-t19
     add-t21

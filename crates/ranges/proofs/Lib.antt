@@ -1,0 +1,4 @@
+-- Laws of lists and ranges that other crates cite.
+pub mod Loops
+pub mod Bends
+pub mod Ranges

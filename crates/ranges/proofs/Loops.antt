@@ -1,0 +1,66 @@
+-- Lists of numbers that a loop tests from the left or fills. Assumes nothing.
+use mathlib.Core.Path.{_≡_, refl, sym, ap, ap₂, _∙_}
+use mathlib.Core.Bool.{Bool, true, false, _&&_}
+use mathlib.Core.List.{List, [], _∷_, _++_}
+use Prim.Native.Nat.{ℕ, zero, suc, _+_, _<_}
+use native.Mathlib.Nat.{add-zero}
+use native.Mathlib.Numerals.{add-one}
+use native.Mathlib.Omega.{arith}
+use lib.ListN.{length, take, drop, set, getD}
+use lib.Seq.{drop-cons, drop-drop, drop-set-lt, getD-drop, take-suc, take-suc-set}
+use Rattle.ranges.specs.Lists.{from, every}
+
+pub and-left : (a b : Bool) → (a && b) ≡ true → a ≡ true
+and-left true b e = refl
+and-left false b e = e
+
+pub and-right : (a b : Bool) → (a && b) ≡ true → b ≡ true
+and-right true b e = e
+and-right false b e = cc
+
+-- one place more of a list that is to be filled
+pub fill : (out target : List ℕ) (i v : ℕ) → i < length out → i < length target → v ≡ getD target i 0 → take i out ≡ take i target
+    → take (i + 1) (set out i v) ≡ take (i + 1) target
+fill out target i v ho ht e h =
+    ap (λ (k : ℕ). take k (set out i v)) (add-one i)
+    ∙ take-suc-set out i v ho
+    ∙ ap₂ (λ (l : List ℕ) (x : ℕ). l ++ (x ∷ [])) h e
+    ∙ sym (take-suc target i 0 ht)
+    ∙ ap (λ (k : ℕ). take k target) (sym (add-one i))
+
+-- the places past it are as they were
+pub fill-past : (out old : List ℕ) (i v : ℕ) → drop i out ≡ drop i old → drop (i + 1) (set out i v) ≡ drop (i + 1) old
+fill-past out old i v e = drop-set-lt (i + 1) out i v (omega arith) ∙ sym (drop-drop 1 i out) ∙ ap (drop 1) e ∙ drop-drop 1 i old
+
+pub same-at : (out old : List ℕ) (i : ℕ) → drop i out ≡ drop i old → getD out i 0 ≡ getD old i 0
+same-at out old i e = at out ∙ ap (λ (l : List ℕ). getD l 0 0) e ∙ sym (at old)
+  where
+    at : (l : List ℕ) → getD l i 0 ≡ getD (drop i l) 0 0
+    at l = rw (getD-drop, add-zero)
+
+pub length-from : (a m : ℕ) → length (from a m) ≡ m
+unfolding from
+length-from a zero = refl
+length-from a (suc m) = ap suc (length-from (suc a) m)
+
+pub getD-from : (a m i : ℕ) → i < m → getD (from a m) i 0 ≡ a + i
+unfolding from
+getD-from a zero i h = absurd (omega arith)
+getD-from a (suc m) zero h = omega arith
+getD-from a (suc m) (suc i) h = getD-from (suc a) m i (omega arith) ∙ omega arith
+
+-- every number of a list is tested from the left
+pub every-more : (test : ℕ → Bool) (xs : List ℕ) (i : ℕ) → i < length xs → test (getD xs i 0) ≡ true → every test (drop i xs) ≡ every test (drop (i + 1) xs)
+unfolding every
+every-more test xs i h e = rw (add-one, drop-cons xs i 0 h, e)
+
+pub every-fails : (test : ℕ → Bool) (xs : List ℕ) (i : ℕ) → i < length xs → test (getD xs i 0) ≡ false → every test (drop i xs) ≡ false
+unfolding every
+every-fails test xs i h e = rw (drop-cons xs i 0 h, e)
+
+-- of a list that passes, each number does
+pub every-at : (test : ℕ → Bool) (xs : List ℕ) (i : ℕ) → every test xs ≡ true → i < length xs → test (getD xs i 0) ≡ true
+unfolding every
+every-at test [] i e h = absurd (omega arith)
+every-at test (x ∷ xs) zero e h = and-left (test x) (every test xs) e
+every-at test (x ∷ xs) (suc i) e h = every-at test xs i (and-right (test x) (every test xs) e) (omega arith)
