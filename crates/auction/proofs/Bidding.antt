@@ -24,15 +24,17 @@ use Rattle.comparison.specs.Probe.{Each, Group}
 use Rattle.comparison.proofs.Values.{Shared}
 use Rattle.bid.specs.Table.{monotone}
 use Rattle.bid.specs.Split.{split-judgement, bid-shares, split-left}
-use Rattle.party.specs.declared.record.Party.{Party}
-use Rattle.party.specs.Record.{sound}
-use Rattle.party.specs.Open.{open-judgement, fresh}
-use Rattle.party.specs.Add.{add-judgement, counted, add-reply, add-left}
+use Rattle.session.specs.declared.record.Party.{Party}
+use Rattle.session.specs.Record.{sound}
+use Rattle.session.specs.Open.{open-judgement, fresh}
+use Rattle.session.specs.Open as opening
+use Rattle.session.specs.Add.{add-judgement, add-reply, add-left}
+use Rattle.session.specs.Updates.{counted}
 use Rattle.auction.specs.Auction.{Auction, IsAuction}
 use Rattle.auction.specs.Coins.{Coins, flat}
-use Rattle.auction.specs.Canonical.{Seat, returned, blank, seated, shares-for, added}
+use Rattle.auction.specs.Canonical.{Seat, blank, seated, shares-for, added}
 use Rattle.auction.proofs.Closed.{entries, added-polynomials, at-party, no-totals}
-use Rattle.auction.proofs.Judging.{kept-new, returned-next, is-party, is-listed, is-below}
+use Rattle.auction.proofs.Judging.{kept-new, replied-next, is-party, is-listed, is-below}
 use Rattle.auction.proofs.Totals.{GoodBid, Held, entries-held}
 
 -- ---- flattened groups
@@ -176,7 +178,7 @@ module _ {a : Auction} (c : Coins) (A : IsAuction a) (j : ℕ) (h1 : 1 ≤ j) (h
   unfolding seated holding-seat
   seated-holding =
       ap₂ (λ (q : Party) (totals : List ℕ). record { party = q; totals = totals; sheets = [] })
-      (returned-next _ opening-accepted (fresh (a .n) j (a .k)) (fresh (a .n) j (a .k)) ∙ fresh-holding (a .n) (a .k) j)
+      (replied-next _ opening-accepted (fresh (a .n) j (a .k)) opening.blank ∙ fresh-holding (a .n) (a .k) j)
       (kept-new _ opening-accepted (replicate (2 * a .k) 0) (blank a c) ∙ sym (at-party-zeros (threshold (a .n)) j (2 * a .k)))
 
   module _ (b : List ℕ × List (List ℕ)) (B : GoodBid (a .k) (threshold (a .n)) b) where
@@ -205,9 +207,9 @@ module _ {a : Auction} (c : Coins) (A : IsAuction a) (j : ℕ) (h1 : 1 ≤ j) (h
         added-holding =
             let q : Party = holding (a .n) (a .k) m j in
             let E : Held (a .k) (threshold (a .n)) (entries (b .0) (b .1)) = entries-held (a .k) (threshold (a .n)) b B in
-            ap (λ (shares : List ℕ). record { party = returned q (add-reply q (at-party j fs) shares); totals = add-left q (at-party j fs) shares; sheets = [] })
+            ap (λ (shares : List ℕ). record { party = add-reply q (at-party j fs) shares .party; totals = add-left q (at-party j fs) shares; sheets = [] })
             shares-for-party
             ∙ ap₂ (λ (r : Party) (totals : List ℕ). record { party = r; totals = totals; sheets = [] })
-            (returned-next _ adding-accepted q (counted q) ∙ one-more (a .n) (a .k) m j)
+            (replied-next _ adding-accepted (counted q) q ∙ one-more (a .n) (a .k) m j)
             (kept-new _ adding-accepted _ (at-party j fs)
             ∙ at-party-added (threshold (a .n)) j fs (entries (b .0) (b .1)) (point-below (a .n) j (A .n-most) hn) (F .shared) (E .shared) (E .many ∙ sym (F .many)))

@@ -5,7 +5,8 @@ use mathlib.Core.List.{List, [], _∷_, _++_, map, append-nil}
 use mathlib.Core.Option.{Option}
 use Prim.Native.Nat.{ℕ, _*_, _≤_}
 use lib.ListN.{length, replicate, length-map}
-use Rattle.party.specs.declared.record.Answer.the-variants.{Cleared}
+use Rattle.ranges.specs.Sizes.{probe-rounds}
+use Rattle.session.specs.declared.record.Answer.the-variants.{Cleared}
 use Rattle.auction.specs.Auction.{Auction, IsAuction, clearing-answer}
 use Rattle.auction.specs.Coins.{Coins, InRange}
 use Rattle.auction.specs.Call.{Call}
@@ -44,7 +45,7 @@ module _ (a : Auction) (c : Coins) (A : IsAuction a) (C : InRange a c) where
     pub canonical-messages : messages j (canonical a c) ≡ all-spoken (a .n) (probes a c)
     canonical-messages = ap (map (λ h. h .messages)) canonical-hearings ∙ rounds-messages a c A C j j1 jn
 
-    pub canonical-sheets : sheets j (canonical a c) ≡ replicate (33 * length (probes a c)) (sheets-at a c j)
+    pub canonical-sheets : sheets j (canonical a c) ≡ replicate (probe-rounds * length (probes a c)) (sheets-at a c j)
     canonical-sheets = ap (map (λ h. h .sheets)) canonical-hearings ∙ rounds-sheets a c A C j j1 jn
 
     pub canonical-decisions : decisions j (canonical a c) ≡ map decision (probes a c)

@@ -10,7 +10,7 @@ use lib.ListN.{length}
 use Rattle.ranges.specs.Lists.{from}
 use Rattle.sharing.specs.Scheme.{points}
 use Rattle.search.specs.Bracket.{middle, over}
-use Rattle.party.specs.Hear as hear
+use Rattle.round.specs.Round as round
 use Rattle.auction.specs.Auction.{Auction}
 use Rattle.auction.specs.Coins.{Coins}
 use Rattle.auction.specs.Call.{Call, accepted, whose, of-party, given}
@@ -73,7 +73,7 @@ module _ (a : Auction) (c : Coins) where
   hearing-of j r = record { party = record-at a c (r .stage) j; sheets = sheets-at a c j; messages = all-words r }
 
   abbrev pub verdict-heard : Turn → Option ℕ
-  verdict-heard r = verdict-in (hear.heard (a .n) (r .stage .round) (all-words r))
+  verdict-heard r = verdict-in (round.heard (a .n) (r .stage .round) (all-words r))
 
 -- rounds that lead from one stage to another, with the verdicts that are heard in them
 pub data Chain (a : Auction) (c : Coins) : Stage → List Turn → List (ℕ × ℕ) → Stage → Type 0 where

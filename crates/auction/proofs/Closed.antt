@@ -4,6 +4,7 @@ use mathlib.Core.Bool.{true, false}
 use mathlib.Core.List.{List, [], _∷_, map, flatten, zip}
 use Prim.Native.Nat.{ℕ, zero, suc, _+_, _-_, _*_}
 use lib.ListN.{length, replicate, getD}
+use Rattle.ranges.specs.Sizes.{probe-rounds}
 use Rattle.fields.specs.Amount.{amounts}
 use Rattle.fields.specs.Byte.{bytes}
 use Rattle.sharing.specs.Polynomial.{value}
@@ -14,7 +15,7 @@ use Rattle.search.specs.declared.Bracket.{Bracket}
 use Rattle.search.specs.Bracket.{start, middle, over, step}
 use Rattle.comparison.specs.Probe as probe
 use Rattle.comparison.specs.Probe.{Probe, secret, round, carry-after, opened-sum, carry-one, last-polynomial}
-use Rattle.party.specs.declared.record.Party.{Party}
+use Rattle.session.specs.declared.record.Party.{Party}
 use Rattle.auction.specs.Auction.{Auction}
 use Rattle.auction.specs.Coins.{Coins, flat}
 use Rattle.auction.specs.Canonical.{Seat}
@@ -85,7 +86,7 @@ made a fs b (s ∷ ss) =
 
 -- the messages of the n parties, round by round
 unfoldable pub spoken : (n : ℕ) → Probe → List (List ℕ)
-spoken n q = map (λ i. map (λ j. getD (probe.probe-messages q j) i 0) (points n)) (from 0 33)
+spoken n q = map (λ i. map (λ j. getD (probe.probe-messages q j) i 0) (points n)) (from 0 probe-rounds)
 
 -- those of these probes
 abbrev pub all-spoken : (n : ℕ) → List Made → List (List ℕ)

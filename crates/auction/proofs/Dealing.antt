@@ -7,6 +7,7 @@ use native.Mathlib.Omega.{arith}
 use lib.ListN.{length, replicate, length-append}
 use lib.Seq.{take-at, drop-at}
 use borrow.Author.Tests.{lt-ltb, eq-eqb}
+use Rattle.ranges.specs.Sizes.{sheet-size}
 use Rattle.fields.specs.Amount.{p, amounts}
 use Rattle.fields.specs.Byte.{product, bytes}
 use Rattle.refusal.specs.Judging.{judged}
@@ -99,7 +100,7 @@ sheet-written t j s h =
     ∙ triples-written t j 31 (s .triples) (h .triples-long) (h .triples))
 
 module _ (n j : ℕ) (h3 : 3 ≤ n) (h9 : n ≤ 9) (h1 : 1 ≤ j) (hn : j ≤ n) (s : probe.Coins) (h : probe.InRange (threshold n) s) where
-  pub deal-accepted : deal-judgement n j (coin-words s) (coin-bytes s) (replicate 127 0) ≡ Accepted
+  pub deal-accepted : deal-judgement n j (coin-words s) (coin-bytes s) (replicate sheet-size 0) ≡ Accepted
   unfolding deal-judgement judged
   deal-accepted =
       let words : length (coin-words s) ≡ 1 + threshold n = ap suc (h .of-mask .0) ∙ omega arith in
@@ -111,5 +112,5 @@ module _ (n j : ℕ) (h3 : 3 ≤ n) (h9 : n ≤ 9) (h1 : 1 ≤ j) (hn : j ≤ n)
         is-below p (s .of-mask) (h .of-mask .1),
       )
 
-  pub deal-writes : deal-left n j (coin-words s) (coin-bytes s) (replicate 127 0) ≡ probe.sheet-shares j (probe.dealt s)
-  deal-writes = kept-new _ deal-accepted _ (replicate 127 0) ∙ sheet-written (threshold n) j s h
+  pub deal-writes : deal-left n j (coin-words s) (coin-bytes s) (replicate sheet-size 0) ≡ probe.sheet-shares j (probe.dealt s)
+  deal-writes = kept-new _ deal-accepted _ (replicate sheet-size 0) ∙ sheet-written (threshold n) j s h

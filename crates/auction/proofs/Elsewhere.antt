@@ -1,46 +1,56 @@
 -- Every party's call of the canonical list is for one of the parties 1 to n. Assumes nothing.
 use mathlib.Core.Path.{_≡_, refl, ap, _∙_}
-use mathlib.Core.Bool.{Bool, true, false}
+use mathlib.Core.Bool.{Bool, true, false, not, _&&_, true≢false}
 use mathlib.Core.List.{List, [], _∷_, _++_, map, zip}
 use Prim.Native.Nat.{ℕ, zero, suc, _+_, _*_, _≤_}
 use native.Mathlib.Omega.{arith}
 use lib.Dec.{eqb}
 use borrow.Author.Tests.{ne-eqb}
+use Rattle.refusal.specs.Judging.{kept}
+use Rattle.refusal.proofs.Judging.{refuses}
 use Rattle.refusal.specs.declared.Judgement.{Judgement}
 use Rattle.refusal.specs.declared.Judgement.the-variants.{Accepted, Refused}
 use Rattle.ranges.specs.Lists.{from}
 use Rattle.sharing.specs.Scheme.{points}
 use Rattle.comparison.specs.Probe.{Each}
-use Rattle.party.specs.declared.record.Party.{Party}
-use Rattle.party.specs.declared.record.Heard.{Heard}
-use Rattle.party.specs.declared.record.Heard.the-variants.{Sum, Factors, Verdict, Unopened}
-use Rattle.party.specs.Record.{next-or}
-use Rattle.party.specs.Open.{fresh, open-judgement}
-use Rattle.party.specs.Add.{add-judgement, counted}
-use Rattle.party.specs.Say.{current}
-use Rattle.party.specs.Hear.{hear-judgement, after}
-use Rattle.party.specs.Hear as hear
+use Rattle.session.specs.declared.record.Party.{Party}
+use Rattle.session.specs.Record.{sound, replied}
+use Rattle.session.specs.Open.{fresh, open-judgement}
+use Rattle.session.specs.Open as opening
+use Rattle.session.specs.Add.{add-judgement}
+use Rattle.session.specs.Answer.{answer-judgement}
+use Rattle.session.specs.Updates.{counted}
+use Rattle.session.proofs.Updates.{blank-unsound, counted-same}
+use Rattle.saying.specs.Say.{current, say-judgement}
+use Rattle.hearing.proofs.Next.{after-same}
+use Rattle.hearing.specs.Hear.{hear-judgement, after}
+use Rattle.round.specs.Round as round
 use Rattle.auction.specs.Auction.{Auction}
 use Rattle.auction.specs.Coins.{Coins}
-use Rattle.auction.specs.Call.{Call, open-call, service, accepted, whose, of-party}
-use Rattle.auction.specs.Canonical.{returned, Seat, all-over, blank, seated, shares-for, split-for, add-by, added, deal-for, dealt, say-by, word-by, hear-by, heard, ask, enough-rounds, from-rounds, deals, from-bids, canonical}
+use Rattle.auction.specs.Call.{Call, open-call, service, judgement, is-accepted, accepted, whose, of-party}
+use Rattle.auction.specs.Canonical.{Seat, all-over, blank, seated, shares-for, split-for, add-by, added, deal-for, dealt, say-by, word-by, hear-by, heard, ask, enough-rounds, from-rounds, deals, from-bids, canonical}
 use Rattle.auction.specs.Run.{select, own}
 use Rattle.auction.proofs.Selected.{and-false}
 use Rattle.auction.proofs.Calls.{select-append}
 
--- ---- a call leaves a record its own number
+-- ---- on a record that is not sound every call is refused
 
-returned-own : (q r : Party) (verdict : Judgement) → r .own ≡ q .own → returned q (next-or verdict r) .own ≡ q .own
-unfolding returned next-or
-returned-own q r Accepted e = e
-returned-own q r (Refused why) e = refl
+module _ (q : Party) (unsound : sound q ≡ false) where
+  no-add : (totals shares : List ℕ) → is-accepted (add-judgement q totals shares) ≡ false
+  unfolding add-judgement is-accepted
+  no-add totals shares = ap is-accepted (refuses _ _ _ (ap not unsound))
 
-after-own : (q : Party) (sheet : List ℕ) (h : Heard) → after q sheet h .own ≡ q .own
-unfolding after
-after-own q sheet (Sum v) = refl
-after-own q sheet (Factors d e) = refl
-after-own q sheet (Verdict v) = refl
-after-own q sheet Unopened = refl
+  no-say : (totals sheets : List ℕ) → is-accepted (say-judgement q totals sheets) ≡ false
+  unfolding say-judgement is-accepted
+  no-say totals sheets = ap is-accepted (refuses _ _ _ (ap not unsound))
+
+  no-hear : (totals sheets messages : List ℕ) → is-accepted (hear-judgement q totals sheets messages) ≡ false
+  unfolding hear-judgement is-accepted
+  no-hear totals sheets messages = ap is-accepted (refuses _ _ _ (ap not unsound))
+
+  no-answer : is-accepted (answer-judgement q) ≡ false
+  unfolding answer-judgement is-accepted
+  no-answer = ap is-accepted (refuses _ _ _ (ap not unsound))
 
 -- ---- party j is none of these
 
@@ -53,9 +63,30 @@ either f true l m y p q = p
 either f false l m y p q = q
 
 module _ (j : ℕ) where
-  -- not the seat of party j
+  -- party j has no such record: it is another's, or not sound
+  abbrev Not : Party → Type 0
+  Not q = sound q && eqb (q .own) j ≡ false
+
   abbrev Away : Seat → Type 0
-  Away s = eqb (s .party .own) j ≡ false
+  Away s = Not (s .party)
+
+  -- no call on it is accepted and party j's
+  none-by : (q : Party) (J : Judgement) → (sound q ≡ false → is-accepted J ≡ false) → Not q → is-accepted J && eqb (q .own) j ≡ false
+  none-by q J refused e = split (sound q) refl
+    where
+      split : (s : Bool) → sound q ≡ s → is-accepted J && eqb (q .own) j ≡ false
+      split true s = and-false (is-accepted J) (eqb (q .own) j) (rw s at e)
+      split false s = rw (refused s)
+
+  -- and a call leaves no such record
+  left-away : (q next : Party) (J : Judgement) → (sound q ≡ false → is-accepted J ≡ false) → next .own ≡ q .own → Not q → Not (replied J next q .party)
+  unfolding replied kept is-accepted
+  left-away q next Accepted refused same e = split (sound q) refl
+    where
+      split : (s : Bool) → sound q ≡ s → Not next
+      split true s = and-false (sound next) (eqb (next .own) j) (ap (λ (i : ℕ). eqb i j) same ∙ (rw s at e))
+      split false s = absurd (true≢false (refused s))
+  left-away q next (Refused why) refused same e = e
 
   none-nil : own j [] ≡ []
   unfolding select
@@ -64,16 +95,16 @@ module _ (j : ℕ) where
   none-append : (l m : List Call) → own j l ≡ [] → own j m ≡ [] → own j (l ++ m) ≡ []
   none-append l m p q = select-append _ l m ∙ rw (p, q)
 
-  none-map : {A : Type 0} (P : A → Type 0) (f : A → Call) → ((x : A) → P x → of-party j (whose (f x)) ≡ false)
+  none-map : {A : Type 0} (P : A → Type 0) (f : A → Call) → ((x : A) → P x → accepted (f x) && of-party j (whose (f x)) ≡ false)
       → (xs : List A) → Each P xs → own j (map f xs) ≡ []
   unfolding select
   none-map P f g [] h = refl
-  none-map P f g (x ∷ xs) h = rw (and-false (accepted (f x)) (of-party j (whose (f x))) (g x (h .0)), none-map P f g xs (h .1))
+  none-map P f g (x ∷ xs) h = rw (g x (h .0), none-map P f g xs (h .1))
 
   -- calls of the bidders and the dealer
   none-served : {A : Type 0} (f : A → Call) → ((x : A) → whose (f x) ≡ service) → (xs : List A) → own j (map f xs) ≡ []
   unfolding of-party
-  none-served {A} f g xs = none-map (λ x. Unit {0}) f (λ x u. ap (of-party j) (g x)) xs (each-all xs)
+  none-served {A} f g xs = none-map (λ x. Unit {0}) f (λ x u. and-false (accepted (f x)) _ (ap (of-party j) (g x))) xs (each-all xs)
 
   away-map : {A : Type 0} (P : A → Type 0) (f : A → Seat) → ((x : A) → P x → Away (f x)) → (xs : List A) → Each P xs → Each Away (map f xs)
   away-map P f g [] h = tt
@@ -81,36 +112,42 @@ module _ (j : ℕ) where
 
   module _ (a : Auction) (c : Coins) where
     away-seated : (i : ℕ) → eqb i j ≡ false → Away (seated a c i)
-    unfolding seated fresh
-    away-seated i h = rw (returned-own (fresh (a .n) i (a .k)) (fresh (a .n) i (a .k)) (open-judgement (a .n) i (a .k) (blank a c)) refl) h
+    unfolding seated replied kept fresh
+    away-seated i h = split (open-judgement (a .n) i (a .k) (blank a c))
+      where
+        split : (J : Judgement) → Not (kept J (fresh (a .n) i (a .k)) opening.blank)
+        split Accepted = and-false (sound (fresh (a .n) i (a .k))) (eqb i j) h
+        split (Refused why) = rw blank-unsound
 
     away-added : (b : List ℕ × List (List ℕ)) (s : Seat) → Away s → Away (added a c b s)
-    unfolding added counted
-    away-added b s h = rw (returned-own (s .party) (counted (s .party)) (add-judgement (s .party) (s .totals) (shares-for a c b s)) refl) h
+    unfolding added
+    away-added b s h =
+        left-away (s .party) (counted (s .party)) (add-judgement (s .party) (s .totals) (shares-for a c b s)) (λ e. no-add (s .party) e (s .totals) (shares-for a c b s))
+        (counted-same (s .party) .own) h
 
     away-heard : (words : List ℕ) (s : Seat) → Away s → Away (heard a c words s)
     unfolding heard
     away-heard words s h =
-        let kept = after-own (s .party) (current (s .party) (s .sheets)) (hear.heard (s .party .n) (s .party .round) words) in
-        rw (returned-own (s .party) (after (s .party) (current (s .party) (s .sheets)) (hear.heard (s .party .n) (s .party .round) words))
-        (hear-judgement (s .party) (s .totals) (s .sheets) words) kept)
-        h
+        let sheet = current (s .party) (s .sheets) in
+        let opening = round.heard (s .party .n) (s .party .round) words in
+        left-away (s .party) (after (s .party) sheet opening) (hear-judgement (s .party) (s .totals) (s .sheets) words)
+        (λ e. no-hear (s .party) e (s .totals) (s .sheets) words) (after-same (s .party) sheet opening .own) h
 
     none-asks : (ss : List Seat) → Each Away ss → own j (map (ask a c) ss) ≡ []
-    unfolding ask whose of-party
-    none-asks ss h = none-map Away (ask a c) (λ s e. e) ss h
+    unfolding ask judgement whose of-party
+    none-asks ss h = none-map Away (ask a c) (λ s e. none-by (s .party) _ (no-answer (s .party)) e) ss h
 
     none-says : (ss : List Seat) → Each Away ss → own j (map (say-by a c) ss) ≡ []
-    unfolding say-by whose of-party
-    none-says ss h = none-map Away (say-by a c) (λ s e. e) ss h
+    unfolding say-by judgement whose of-party
+    none-says ss h = none-map Away (say-by a c) (λ s e. none-by (s .party) _ (λ u. no-say (s .party) u (s .totals) (s .sheets)) e) ss h
 
     none-hears : (words : List ℕ) (ss : List Seat) → Each Away ss → own j (map (hear-by a c words) ss) ≡ []
-    unfolding hear-by whose of-party
-    none-hears words ss h = none-map Away (hear-by a c words) (λ s e. e) ss h
+    unfolding hear-by judgement whose of-party
+    none-hears words ss h = none-map Away (hear-by a c words) (λ s e. none-by (s .party) _ (λ u. no-hear (s .party) u (s .totals) (s .sheets) words) e) ss h
 
     none-adds : (b : List ℕ × List (List ℕ)) (ss : List Seat) → Each Away ss → own j (map (add-by a c b) ss) ≡ []
-    unfolding add-by whose of-party
-    none-adds b ss h = none-map Away (add-by a c b) (λ s e. e) ss h
+    unfolding add-by judgement whose of-party
+    none-adds b ss h = none-map Away (add-by a c b) (λ s e. none-by (s .party) _ (λ u. no-add (s .party) u (s .totals) (shares-for a c b s)) e) ss h
 
     none-splits : (b : List ℕ × List (List ℕ)) (ss : List Seat) → own j (map (split-for a c b) ss) ≡ []
     unfolding split-for whose
@@ -149,7 +186,7 @@ module _ (j : ℕ) where
 
       none-opens : own j (map (λ i. open-call (a .n) i (a .k) (blank a c)) (points (a .n))) ≡ []
       unfolding whose of-party
-      none-opens = none-map (λ x. eqb x j ≡ false) _ (λ x e. e) (points (a .n)) away-points
+      none-opens = none-map (λ x. eqb x j ≡ false) _ (λ x e. and-false (accepted (open-call (a .n) x (a .k) (blank a c))) (eqb x j) e) (points (a .n)) away-points
 
       -- no call of the canonical list is party j's own
       pub none-told : own j (canonical a c) ≡ []

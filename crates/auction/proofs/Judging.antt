@@ -8,10 +8,10 @@ use Rattle.refusal.specs.declared.Judgement.the-variants.{Accepted}
 use Rattle.ranges.specs.Sizes.{party}
 use Rattle.ranges.proofs.Ranges as ranges
 pub use Rattle.ranges.proofs.Ranges.{is-listed, is-below}
-use Rattle.party.specs.declared.record.Party.{Party}
-use Rattle.party.specs.Record.{next-or}
+use Rattle.session.specs.declared.record.Party.{Party}
+use Rattle.session.specs.Record.{replied}
+use Rattle.session.proofs.Judging.{next-party}
 use Rattle.auction.specs.Call.{Call, judgement, is-accepted, accepted}
-use Rattle.auction.specs.Canonical.{returned}
 
 pub accepts : (c : Call) → judgement c ≡ Accepted → accepted c ≡ true
 unfolding is-accepted
@@ -22,9 +22,8 @@ module _ (J : Judgement) (e : J ≡ Accepted) where
   unfolding kept
   kept-new new old = rw e
 
-  pub returned-next : (q r : Party) → returned q (next-or J r) ≡ r
-  unfolding next-or returned
-  returned-next q r = rw e
+  pub replied-next : (next old : Party) → replied J next old .party ≡ next
+  replied-next next old = next-party J next old e
 
 pub is-party : (n own : ℕ) → 3 ≤ n → n ≤ 9 → 1 ≤ own → own ≤ n → party n own ≡ true
 is-party n own h3 h9 h1 hn = ranges.is-party n own (record { parties-least = h3; parties-most = h9; own-least = h1; own-most = hn })

@@ -8,6 +8,7 @@ use Prim.Native.Nat.{ℕ, _+_, _-_, _*_, _≤_, _<_}
 use native.Mathlib.Omega.{arith}
 use lib.Dec.{leb}
 use lib.ListN.{length, drop, getD, length-map}
+use Rattle.ranges.specs.Sizes.{sheet-size}
 use Rattle.fields.specs.Amount.{p, amounts}
 use Rattle.sharing.specs.Polynomial.{shares}
 use Rattle.sharing.specs.Scheme.{threshold}
@@ -45,12 +46,12 @@ pub record Match (a b : Auction) (xs : List ℕ) (c : Coins) : Type 0 where
   pub same-decisions : map decision (probes b (match-coins a b xs c)) ≡ map decision (probes a c)
   pub same-many : length (probes b (match-coins a b xs c)) ≡ length (probes a c)
   -- any party's unused sheets
-  pub same-unused : (j : ℕ) → drop (127 * length (probes a c)) (sheets-at b (match-coins a b xs c) j) ≡ drop (127 * length (probes a c)) (sheets-at a c j)
+  pub same-unused : (j : ℕ) → drop (sheet-size * length (probes a c)) (sheets-at b (match-coins a b xs c) j) ≡ drop (sheet-size * length (probes a c)) (sheets-at a c j)
   -- and no other coins
   pub only : (o : Coins) → InRange b o
       → ((j : ℕ) → List·Memᴰ j xs → bid-words j (b .bids) (o .bids) ≡ bid-words j (a .bids) (c .bids))
       → ((j : ℕ) → List·Memᴰ j xs → sheets-at b o j ≡ sheets-at a c j)
-      → ((j : ℕ) → 1 ≤ j → j ≤ a .n → drop (127 * length (probes a c)) (sheets-at b o j) ≡ drop (127 * length (probes a c)) (sheets-at a c j))
+      → ((j : ℕ) → 1 ≤ j → j ≤ a .n → drop (sheet-size * length (probes a c)) (sheets-at b o j) ≡ drop (sheet-size * length (probes a c)) (sheets-at a c j))
       → flatten (map (λ d. spoken (b .n) (d .probe)) (probes b o)) ≡ flatten (map (λ d. spoken (a .n) (d .probe)) (probes a c))
       → o ≡ match-coins a b xs c
 
@@ -154,7 +155,7 @@ module _ (n k : ℕ) (bids bids′ : List (List ℕ)) (A : IsAuction (auction n 
   module _ (o : Coins) (O : InRange b o)
       (ws : (j : ℕ) → In j xs → bid-words j bids′ (o .bids) ≡ bid-words j bids (c .bids))
       (vs : (j : ℕ) → In j xs → sheets-at b o j ≡ sheets-at a c j)
-      (us : (j : ℕ) → 1 ≤ j → j ≤ n → drop (127 * length (probes a c)) (sheets-at b o j) ≡ drop (127 * length (probes a c)) (sheets-at a c j))
+      (us : (j : ℕ) → 1 ≤ j → j ≤ n → drop (sheet-size * length (probes a c)) (sheets-at b o j) ≡ drop (sheet-size * length (probes a c)) (sheets-at a c j))
       (said : flatten (map (λ d. spoken n (d .probe)) (probes b o)) ≡ flatten (map (λ d. spoken n (d .probe)) (probes a c))) where
     other-bids : o .bids ≡ matched-bids xs bids bids′ (c .bids)
     other-bids =

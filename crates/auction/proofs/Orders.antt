@@ -8,8 +8,8 @@ use Prim.Native.Nat.{ℕ, suc, _≤_}
 use native.Mathlib.Omega.{arith}
 use lib.ListN.{replicate}
 use borrow.Author.Tests.{eqb-true}
-use Rattle.party.specs.declared.record.Party.{Party}
-use Rattle.party.specs.declared.record.Answer.{Answer}
+use Rattle.session.specs.declared.record.Party.{Party}
+use Rattle.session.specs.declared.record.Answer.{Answer}
 use Rattle.auction.specs.Auction.{Auction}
 use Rattle.auction.specs.Coins.{Coins}
 use Rattle.auction.specs.Call.{Call, say-call, answer-call, accepted, Whose, party, service, whose, of-party, of-service, given}

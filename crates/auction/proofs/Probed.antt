@@ -3,6 +3,7 @@ use mathlib.Core.Path.{_≡_, refl, ap, subst}
 use mathlib.Core.List.{List, [], _∷_, _++_, map}
 use Prim.Native.Nat.{ℕ, zero, suc, _+_, _<_}
 use native.Mathlib.Omega.{arith}
+use Rattle.ranges.specs.Sizes.{probe-rounds}
 use Rattle.ranges.specs.Lists.{from}
 use Rattle.sharing.specs.Scheme.{points}
 use Rattle.search.specs.declared.Bracket.{Bracket}
@@ -43,12 +44,5 @@ module _ (a : Auction) (c : Coins) (A : IsAuction a) (C : InRange a c) (b : Brac
       let l : i < 31 = omega arith in
       quiet (product-step a c A C b m s ss R i l) (ap verdict-in (product-opens a c A C b m s ss R i l)) (chain-from (suc (suc i)) k (omega arith))
 
-  pub probe-chain : Chain a c (fresh-stage b m) (map (turn-of b m q) (from 0 33)) ((middle b, v) ∷ []) (fresh-stage (step b v) (suc m))
+  pub probe-chain : Chain a c (fresh-stage b m) (map (turn-of b m q) (from 0 probe-rounds)) ((middle b, v) ∷ []) (fresh-stage (step b v) (suc m))
   probe-chain = chain-from 0 32 refl
-
-  -- the calls of a probe, and those after it
-  pub probe-rounds : (fuel : ℕ)
-      → from-rounds a c (33 + fuel) (map (seat a c (fresh-stage b m)) (points (a .n)))
-      ≡ calls a c (map (turn-of b m q) (from 0 33)) ++ from-rounds a c fuel (map (seat a c (fresh-stage (step b v) (suc m))) (points (a .n)))
-  unfolding from
-  probe-rounds fuel = chain-rounds a c (omega (arith, A .n-least)) probe-chain fuel

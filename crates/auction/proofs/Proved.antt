@@ -5,13 +5,14 @@ use mathlib.Core.Logic.{⊎-elim}
 use Prim.Native.Nat.{ℕ, zero, suc, _*_, _≤_, _<_}
 use native.Mathlib.Omega.{arith}
 use lib.ListN.{length, drop, getD, replicate, getD-replicate}
+use Rattle.ranges.specs.Sizes.{sheet-size, probe-rounds}
 use Rattle.sharing.specs.Parties.{Parties}
 use Rattle.search.specs.Bracket.{start}
 use Rattle.search.specs.Limit.{limit}
 use Rattle.search.specs.Clearing.{highest, covered, clearing}
 use Rattle.search.specs.Search.{promise, trail}
 use Rattle.search.proofs.Trails.{trail-given}
-use Rattle.party.specs.declared.record.Answer.the-variants.{Cleared}
+use Rattle.session.specs.declared.record.Answer.the-variants.{Cleared}
 use Rattle.auction.specs.Auction.{Auction, IsAuction, sum, demand, supply, clearing-answer}
 use Rattle.auction.specs.Coins.{Coins, InRange}
 use Rattle.auction.specs.Call.{Call}
@@ -52,7 +53,7 @@ module _ (a : Auction) (c : Coins) (A : IsAuction a) (C : InRange a c) (l : List
   messages-are : messages j l ≡ all-spoken (a .n) (probes a c)
   messages-are = run-messages a c l run j ∙ canonical-messages a c A C j j1 jn
 
-  sheets-are : sheets j l ≡ replicate (33 * length (probes a c)) (sheets-at a c j)
+  sheets-are : sheets j l ≡ replicate (probe-rounds * length (probes a c)) (sheets-at a c j)
   sheets-are = run-sheets a c l run j ∙ canonical-sheets a c A C j j1 jn
 
   decisions-are : decisions j l ≡ map decision (probes a c)
@@ -64,10 +65,10 @@ module _ (a : Auction) (c : Coins) (A : IsAuction a) (C : InRange a c) (l : List
   many : length (verdicts j l) ≡ length (probes a c)
   many = ap length (run-verdicts a c l run j) ∙ canonical-many a c A C j j1 jn
 
-  unused-are : unused j l ≡ replicate (33 * length (probes a c)) (drop (127 * length (probes a c)) (sheets-at a c j))
+  unused-are : unused j l ≡ replicate (probe-rounds * length (probes a c)) (drop (sheet-size * length (probes a c)) (sheets-at a c j))
   unused-are =
-      ap₂ (λ (m : ℕ) (xs : List (List ℕ)). map (drop (127 * m)) xs) many sheets-are
-      ∙ map-replicate (drop (127 * length (probes a c))) (33 * length (probes a c)) (sheets-at a c j)
+      ap₂ (λ (m : ℕ) (xs : List (List ℕ)). map (drop (sheet-size * m)) xs) many sheets-are
+      ∙ map-replicate (drop (sheet-size * length (probes a c))) (probe-rounds * length (probes a c)) (sheets-at a c j)
 
   -- ---- demand 2
 
@@ -109,7 +110,7 @@ module _ (a b : Auction) (A : IsAuction a) (B : IsAuction b) (alike : Alike a b)
 
     same-from : ((j : ℕ) → List·Memᴰ j pool → bid-words j (b .bids) (o .bids) ≡ bid-words j (a .bids) (c .bids))
         → ((j : ℕ) → List·Memᴰ j pool → sheets-at b o j ≡ sheets-at a c j)
-        → ((j : ℕ) → drop (127 * L) (sheets-at b o j) ≡ drop (127 * L) (sheets-at a c j))
+        → ((j : ℕ) → drop (sheet-size * L) (sheets-at b o j) ≡ drop (sheet-size * L) (sheets-at a c j))
         → all-spoken (b .n) (probes b o) ≡ all-spoken (a .n) (probes a c)
         → map decision (probes b o) ≡ map decision (probes a c) → length (probes b o) ≡ L → Same (a .n) pool l m
     same-from bids sheets-same left spoken decided count =
@@ -119,11 +120,11 @@ module _ (a b : Auction) (A : IsAuction a) (B : IsAuction b) (alike : Alike a b)
               bid-shares-are b o B R m runM j j1 (jb j jn) ∙ bids j h ∙ sym (bid-shares-are a c A C l runL j j1 jn);
           pool-sheets = λ j h.
               let (j1, jn) = pooled (a .n) j pool (P .parties) h in
-              sheets-are b o B R m runM j j1 (jb j jn) ∙ ap₂ (λ (k : ℕ) (x : List ℕ). replicate (33 * k) x) count (sheets-same j h)
+              sheets-are b o B R m runM j j1 (jb j jn) ∙ ap₂ (λ (k : ℕ) (x : List ℕ). replicate (probe-rounds * k) x) count (sheets-same j h)
               ∙ sym (sheets-are a c A C l runL j j1 jn);
           left = λ j j1 jn.
-              unused-are b o B R m runM j j1 (jb j jn) ∙ ap (λ (k : ℕ). replicate (33 * k) (drop (127 * k) (sheets-at b o j))) count
-              ∙ ap (replicate (33 * L)) (left j) ∙ sym (unused-are a c A C l runL j j1 jn);
+              unused-are b o B R m runM j j1 (jb j jn) ∙ ap (λ (k : ℕ). replicate (probe-rounds * k) (drop (sheet-size * k) (sheets-at b o j))) count
+              ∙ ap (replicate (probe-rounds * L)) (left j) ∙ sym (unused-are a c A C l runL j j1 jn);
           words = λ j j1 jn. messages-are b o B R m runM j j1 (jb j jn) ∙ spoken ∙ sym (messages-are a c A C l runL j j1 jn);
           marks = λ j j1 jn. verdicts-are b o B R m runM j j1 (jb j jn) ∙ ap (map (λ d. d .1)) decided ∙ sym (verdicts-are a c A C l runL j j1 jn);
           probes = λ j j1 jn. many b o B R m runM j j1 (jb j jn) ∙ count ∙ sym (many a c A C l runL j j1 jn);
@@ -137,10 +138,10 @@ module _ (a b : Auction) (A : IsAuction a) (B : IsAuction b) (alike : Alike a b)
       count-is : length (probes b o) ≡ L
       count-is = sym (many b o B R m runM 1 (omega arith) (jb 1 one-n)) ∙ S .probes 1 (omega arith) one-n ∙ many a c A C l runL 1 (omega arith) one-n
 
-      some : 0 < 33 * L
+      some : 0 < probe-rounds * L
       some = omega (arith, probes-some a c A C)
 
-      some-b : 0 < 33 * length (probes b o)
+      some-b : 0 < probe-rounds * length (probes b o)
       some-b = omega (arith, probes-some b o B R)
 
       same-coins : o ≡ match-coins a b pool c
@@ -151,11 +152,11 @@ module _ (a b : Auction) (A : IsAuction a) (B : IsAuction b) (alike : Alike a b)
           sym (bid-shares-are b o B R m runM j j1 (jb j jn)) ∙ S .pool-bids j h ∙ bid-shares-are a c A C l runL j j1 jn)
           (λ j h.
           let (j1, jn) = pooled (a .n) j pool (P .parties) h in
-          once (33 * length (probes b o)) (33 * L) (sheets-at b o j) (sheets-at a c j) some-b some
+          once (probe-rounds * length (probes b o)) (probe-rounds * L) (sheets-at b o j) (sheets-at a c j) some-b some
           (sym (sheets-are b o B R m runM j j1 (jb j jn)) ∙ S .pool-sheets j h ∙ sheets-are a c A C l runL j j1 jn))
           (λ j j1 jn.
-          ap (λ (k : ℕ). drop (127 * k) (sheets-at b o j)) (sym count-is)
-          ∙ once (33 * length (probes b o)) (33 * L) (drop (127 * length (probes b o)) (sheets-at b o j)) (drop (127 * L) (sheets-at a c j)) some-b some
+          ap (λ (k : ℕ). drop (sheet-size * k) (sheets-at b o j)) (sym count-is)
+          ∙ once (probe-rounds * length (probes b o)) (probe-rounds * L) (drop (sheet-size * length (probes b o)) (sheets-at b o j)) (drop (sheet-size * L) (sheets-at a c j)) some-b some
           (sym (unused-are b o B R m runM j j1 (jb j jn)) ∙ S .left j j1 jn ∙ unused-are a c A C l runL j j1 jn))
           (sym (messages-are b o B R m runM 1 (omega arith) (jb 1 one-n)) ∙ S .words 1 (omega arith) one-n ∙ messages-are a c A C l runL 1 (omega arith) one-n)
 

@@ -11,10 +11,11 @@ use borrow.Author.Tests.{le-leb, le-ltb}
 use Rattle.fields.specs.Amount.{p, amounts}
 use Rattle.fields.specs.Byte.{bytes}
 use Rattle.sharing.specs.Polynomial.{value}
-use Rattle.sharing.specs.Scheme.{threshold, points, amount-scheme, byte-scheme}
-use Rattle.sharing.specs.Opening.{opened}
-use Rattle.sharing.specs.declared.opening.Opening.the-variants.{Secret}
-use Rattle.sharing.proofs.Laws.{opens, amount-fits, byte-fits}
+use Rattle.sharing.specs.Scheme.{threshold, points}
+use Rattle.weights.specs.Rows.{amount-scheme, byte-scheme}
+use Rattle.openings.specs.Opening.{opened}
+use Rattle.openings.specs.declared.opening.Opening.the-variants.{Secret}
+use Rattle.openings.proofs.Laws.{opens, amount-fits, byte-fits}
 use Rattle.verdict.specs.Verdict.{verdict}
 use Rattle.search.specs.declared.Bracket.{Bracket}
 use Rattle.search.specs.Bracket.{middle, over, step}
@@ -26,12 +27,14 @@ use Rattle.comparison.specs.Probe.{Probe, Round, secret, round, carry-after, su
 use Rattle.comparison.proofs.Values.{Shared, secret-value, masked-value, first-carry-value, left-value, right-value, next-carry-value, last-value}
 use Rattle.comparison.proofs.Dealt.{ProbeShared, SheetShared, bit-at, sum-shared, last-polynomial-shared}
 use Rattle.comparison.proofs.Promise.{Compares, probe-shared, sum-least, sum-most, promised}
-use Rattle.party.specs.declared.record.Heard.the-variants.{Sum, Factors, Verdict}
-use Rattle.party.specs.Say.{message}
-use Rattle.party.specs.Hear as hear
-use Rattle.party.specs.Hear.{sum-of, factors-of, verdict-of, sum-outside, verdict-outside, after}
-use Rattle.party.proofs.Messages.{first-message, product-message, last-message}
-use Rattle.party.proofs.Heard.{heard-sum, heard-factors, heard-verdict}
+use Rattle.round.specs.declared.Heard.the-variants.{Sum, Factors, Verdict}
+use Rattle.saying.specs.Say.{message}
+use Rattle.round.specs.Round as round
+use Rattle.round.specs.Round.{sum-of, factors-of, verdict-of, sum-outside, verdict-outside}
+use Rattle.session.specs.Updates.{in-round, decided}
+use Rattle.hearing.specs.Hear.{after}
+use Rattle.saying.proofs.Messages.{first-message, product-message, last-message}
+use Rattle.round.proofs.Opened.{heard-sum, heard-factors, heard-verdict}
 use Rattle.auction.specs.Auction.{Auction, IsAuction, demand, supply}
 use Rattle.auction.specs.Coins.{Coins, InRange}
 use Rattle.auction.proofs.Closed.{at-party, polynomials, probe-at, carry-at, Stage, fresh-stage, inner-stage, record-at}
@@ -172,7 +175,7 @@ module _ (a : Auction) (c : Coins) (A : IsAuction a) (C : InRange a c) (b : Brac
       (masked-value t j (probe.dealt s .mask) (getD (polynomials a c) (middle b - 1) []) (getD (polynomials a c) (a .k + middle b - 1) [])
       (sheet-shared .mask) (demand-shared a c A C (middle b) one most) (supply-shared a c A C (middle b) one most) (omega (arith, A .n-most)))
 
-  pub first-opens : hear.heard (a .n) 1 (map (words-at q 0) (points (a .n))) ≡ Sum T
+  pub first-opens : round.heard (a .n) 1 (map (words-at q 0) (points (a .n))) ≡ Sum T
   unfolding probe-messages
   first-opens =
       heard-sum (a .n) 1 (map (words-at q 0) (points (a .n))) refl
@@ -188,7 +191,7 @@ module _ (a : Auction) (c : Coins) (A : IsAuction a) (C : InRange a c) (b : Brac
 
   first-turns : (j : ℕ) → 1 ≤ j → j ≤ a .n
       → after (record-at a c (fresh-stage b m) j) (probe.sheet-shares j (probe.dealt s)) (Sum T) ≡ record-at a c (inner-stage b m q 0) j
-  unfolding record-at after
+  unfolding record-at after in-round decided
   first-turns j j1 jn = rw (first-carry-is j j1 jn)
 
   tame : sum-outside (Sum T) ≡ false
@@ -245,7 +248,7 @@ module _ (a : Auction) (c : Coins) (A : IsAuction a) (C : InRange a c) (b : Brac
       product-carry-is : value bytes (carry-at q (suc i)) j
           ≡ next-carry (on-shares bytes) T (i + 2) (secret (r .left)) (secret (r .right)) (getD W (34 + 3 * (i + 2 - 2) + 0) 0)
           (getD W (34 + 3 * (i + 2 - 2) + 1) 0) (getD W (34 + 3 * (i + 2 - 2) + 2) 0)
-      unfolding carry-after probe-at
+      unfolding carry-after probe-at in-round decided
       product-carry-is =
           ap (λ (x : List ℕ). value bytes x j) (carry-next q i)
           ∙ next-carry-value T (i + 2) t j small (secret (r .left)) (secret (r .right)) (getD (probe.dealt s .triples) i no-triple .alpha)
@@ -256,7 +259,7 @@ module _ (a : Auction) (c : Coins) (A : IsAuction a) (C : InRange a c) (b : Brac
           (sym (beta-word t j (probe.dealt s) sheet-shared i l)) (sym (gamma-word t j (probe.dealt s) sheet-shared i l))
 
       product-turns : after (record-at a c now j) W (Factors (secret (r .left)) (secret (r .right))) ≡ record-at a c (inner-stage b m q (suc i)) j
-      unfolding record-at after
+      unfolding record-at after in-round decided
       product-turns =
           let e : suc i + 2 ≡ i + 2 + 1 = omega arith in
           rw (product-carry-is, e)
@@ -285,7 +288,7 @@ module _ (a : Auction) (c : Coins) (A : IsAuction a) (C : InRange a c) (b : Brac
         (map-map (λ w. w / 256) (words-at q (suc i)) (points (a .n)) ∙ map-points (λ j. words-at q (suc i) j / 256) (value bytes (r .right)) (a .n) high-is)
         ∙ byte-opens (a .n) (r .right) (A .n-least) (A .n-most) (round-at-shared t q shared i l .right)
 
-    pub product-opens : hear.heard (a .n) (i + 2) (map (words-at q (suc i)) (points (a .n))) ≡ Factors (secret (r .left)) (secret (r .right))
+    pub product-opens : round.heard (a .n) (i + 2) (map (words-at q (suc i)) (points (a .n))) ≡ Factors (secret (r .left)) (secret (r .right))
     product-opens =
         heard-factors (a .n) (i + 2) (map (words-at q (suc i)) (points (a .n))) (λ e. omega arith) (omega arith) ∙ ap₂ factors-of low-opens high-opens
 
@@ -310,10 +313,10 @@ module _ (a : Auction) (c : Coins) (A : IsAuction a) (C : InRange a c) (b : Brac
 
     last-turns : after (record-at a c (inner-stage b m q 31) j) (probe.sheet-shares j (probe.dealt s)) (Verdict (secret (last-polynomial q)))
         ≡ record-at a c (fresh-stage (step b (secret (last-polynomial q))) (suc m)) j
-    unfolding record-at after value
+    unfolding record-at after value in-round decided
     last-turns = rw add-one
 
-  pub last-opens : hear.heard (a .n) 33 (map (words-at q 32) (points (a .n))) ≡ Verdict (secret (last-polynomial q))
+  pub last-opens : round.heard (a .n) 33 (map (words-at q 32) (points (a .n))) ≡ Verdict (secret (last-polynomial q))
   last-opens =
       heard-verdict (a .n) 33 (map (words-at q 32) (points (a .n))) (omega arith)
       ∙ ap verdict-of

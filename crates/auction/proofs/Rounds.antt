@@ -7,16 +7,17 @@ use Prim.Native.Nat.{ℕ, suc, _+_, _-_, _*_, _≤_}
 use native.Mathlib.Nat.{zero-add}
 use native.Mathlib.Omega.{arith}
 use lib.ListN.{length, replicate}
+use Rattle.ranges.specs.Sizes.{probe-rounds}
 use Rattle.refusal.specs.Judging.{judged}
 use Rattle.refusal.specs.declared.Judgement.the-variants.{Accepted}
 use Rattle.ranges.specs.Lists.{from}
 use Rattle.sharing.specs.Scheme.{points}
 use Rattle.search.specs.Bracket.{start, over}
 use Rattle.search.proofs.Narrowing.{over-true}
-use Rattle.party.specs.declared.record.Party.{Party}
-use Rattle.party.specs.declared.record.Answer.the-variants.{Cleared}
-use Rattle.party.specs.Record.{bracket, sound}
-use Rattle.party.specs.Answer.{answer-judgement, answered, answer-reply}
+use Rattle.session.specs.declared.record.Party.{Party}
+use Rattle.session.specs.declared.record.Answer.the-variants.{Cleared}
+use Rattle.session.specs.Record.{bracket, sound}
+use Rattle.session.specs.Answer.{answer-judgement, answered, answer-reply}
 use Rattle.auction.specs.Auction.{Auction, IsAuction, clearing-answer}
 use Rattle.auction.specs.Coins.{Coins, InRange}
 use Rattle.auction.specs.Call.{Call, accepted, is-accepted, judgement, whose, of-party, given}
@@ -49,8 +50,8 @@ turns-spoken : (a : Auction) (c : Coins) (m : ℕ) (ds : List Made) → map (all
 unfolding turns-of flatten spoken
 turns-spoken a c m [] = refl
 turns-spoken a c m (d ∷ ds) =
-    map-append (all-words a c) (map (turn-of (d .bracket) m (d .probe)) (from 0 33)) (turns-of (suc m) ds)
-    ∙ ap₂ _++_ (map-map (all-words a c) (turn-of (d .bracket) m (d .probe)) (from 0 33)) (turns-spoken a c (suc m) ds)
+    map-append (all-words a c) (map (turn-of (d .bracket) m (d .probe)) (from 0 probe-rounds)) (turns-of (suc m) ds)
+    ∙ ap₂ _++_ (map-map (all-words a c) (turn-of (d .bracket) m (d .probe)) (from 0 probe-rounds)) (turns-spoken a c (suc m) ds)
 
 -- ---- asking for the answer
 
@@ -141,7 +142,7 @@ module _ (a : Auction) (c : Coins) (A : IsAuction a) (C : InRange a c) where
     rounds-messages =
         ap (map (λ h. h .messages)) rounds-hearings ∙ map-map (λ h. h .messages) (hearing-of a c j) rs ∙ turns-spoken a c 0 (probes a c)
 
-    pub rounds-sheets : map (λ h. h .sheets) (collect hearing-in (own j (round-calls a c))) ≡ replicate (33 * length (probes a c)) (sheets-at a c j)
+    pub rounds-sheets : map (λ h. h .sheets) (collect hearing-in (own j (round-calls a c))) ≡ replicate (probe-rounds * length (probes a c)) (sheets-at a c j)
     rounds-sheets =
         ap (map (λ h. h .sheets)) rounds-hearings
         ∙ map-map (λ h. h .sheets) (hearing-of a c j) rs

@@ -10,6 +10,7 @@ use lib.Dec.{eqb, leb}
 use lib.ListN.{length, drop, getD}
 use lib.Seq.{drop-append-add}
 use borrow.Author.Tests.{leb-true, ltb-true}
+use Rattle.ranges.specs.Sizes.{sheet-size}
 use Rattle.fields.specs.Amount.{amounts}
 use Rattle.sharing.specs.Polynomial.{shares}
 use Rattle.sharing.specs.Scheme.{threshold}
@@ -226,12 +227,12 @@ words-of j ss = map (λ s. sheet-shares j (dealt s)) ss
 
 -- without the sheets of m + 1 probes
 drop-words : (t j m : ℕ) {m′ : ℕ} (s : probe.Coins) (ss : List probe.Coins) → InRange t s → m′ ≡ suc m
-    → drop (127 * m′) (flat (words-of j (s ∷ ss))) ≡ drop (127 * m) (flat (words-of j ss))
+    → drop (sheet-size * m′) (flat (words-of j (s ∷ ss))) ≡ drop (sheet-size * m) (flat (words-of j ss))
 unfolding flat
 drop-words t j m {m′} s ss h l =
     let w : List ℕ = sheet-shares j (dealt s) in
-    let e : 127 * m′ ≡ length w + 127 * m = omega (arith, words-long t j s h) in
-    ap (λ (z : ℕ). drop z (w ++ flat (words-of j ss))) e ∙ drop-append-add w (flat (words-of j ss)) (127 * m)
+    let e : sheet-size * m′ ≡ length w + sheet-size * m = omega (arith, words-long t j s h) in
+    ap (λ (z : ℕ). drop z (w ++ flat (words-of j ss))) e ∙ drop-append-add w (flat (words-of j ss)) (sheet-size * m)
 
 module _ {n k : ℕ} {bids bids′ : List (List ℕ)} {xs : List ℕ} {fs fs′ : List (List ℕ)} where
   pub sheets-ranged : {br : Bracket} {ss ss′ : List probe.Coins} → Course n k bids bids′ xs fs fs′ br ss ss′ → Each (InRange (threshold n)) ss′
@@ -265,8 +266,8 @@ module _ {n k : ℕ} {bids bids′ : List (List ℕ)} {xs : List ℕ} {fs fs′ 
 
   -- unused sheets
   pub unused-same : (j : ℕ) {br : Bracket} {ss ss′ : List probe.Coins} → Course n k bids bids′ xs fs fs′ br ss ss′
-      → drop (127 * length (made (auction n k bids) fs br ss)) (flat (words-of j ss′))
-      ≡ drop (127 * length (made (auction n k bids) fs br ss)) (flat (words-of j ss))
+      → drop (sheet-size * length (made (auction n k bids) fs br ss)) (flat (words-of j ss′))
+      ≡ drop (sheet-size * length (made (auction n k bids) fs br ss)) (flat (words-of j ss))
   unused-same j none = refl
   unused-same j (ended o h) = refl
   unused-same j (probing {br = br} {next = next} {s = s} {s′ = s′} {ss = ss} {ss′ = ss′} o P e C) =
@@ -311,8 +312,8 @@ module _ {n k : ℕ} {bids bids′ : List (List ℕ)} {xs : List ℕ} {fs fs′ 
       → (us : List probe.Coins) → length us ≡ length ss → Each (InRange (threshold n)) us
       → ((j : ℕ) → In j xs → flat (words-of j us) ≡ flat (words-of j ss))
       → ((j : ℕ) → 1 ≤ j → j ≤ n
-      → drop (127 * length (made (auction n k bids) fs br ss)) (flat (words-of j us))
-      ≡ drop (127 * length (made (auction n k bids) fs br ss)) (flat (words-of j ss)))
+      → drop (sheet-size * length (made (auction n k bids) fs br ss)) (flat (words-of j us))
+      ≡ drop (sheet-size * length (made (auction n k bids) fs br ss)) (flat (words-of j ss)))
       → all-said (made (auction n k bids′) fs′ br us) ≡ all-said (made (auction n k bids) fs br ss)
       → us ≡ ss′
   sheets-only none [] l h w v e = refl
@@ -320,7 +321,7 @@ module _ {n k : ℕ} {bids bids′ : List (List ℕ)} {xs : List ℕ} {fs fs′ 
   sheets-only {br} {ss} (ended o r) us l h w v e =
       sheets-fixed n (threshold n) (S .more) (S .at-most) ss us r h l
       (λ j h1 hn.
-      subst (λ (z : List Made). drop (127 * length z) (flat (words-of j us)) ≡ drop (127 * length z) (flat (words-of j ss)))
+      subst (λ (z : List Made). drop (sheet-size * length z) (flat (words-of j us)) ≡ drop (sheet-size * length z) (flat (words-of j ss)))
       (made-over (auction n k bids) fs br ss o) (v j h1 hn))
   sheets-only (probing o P n′ C) [] l h w v e = absurd (omega arith)
   sheets-only (probing {br = br} {next = next} {s = s} {s′ = s′} {ss = ss} {ss′ = ss′} o P n′ C) (u ∷ us) l h w v e =

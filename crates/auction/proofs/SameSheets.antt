@@ -1,4 +1,4 @@
--- A sheet is 127 words a party, and the words of all n parties fix its coins; a probe is 33 probe-messages a party, read round by round.
+-- A sheet is 127 words a party, and the words of all n parties fix its coins; a probe is 33 messages a party, read round by round.
 -- Assumes nothing.
 use mathlib.Core.Path.{_≡_, refl, sym, ap, ap₂, fun-ext, _∙_}
 use mathlib.Core.List.{List, [], _∷_, _++_, map, head-eq-of-cons-eq, tail-eq-of-cons-eq, List·Memᴰ·head, List·Memᴰ·tail}
@@ -8,12 +8,13 @@ use native.Mathlib.Decide.{decLe}
 use native.Mathlib.Omega.{arith}
 use lib.ListN.{length, take, drop, getD, length-map, length-append}
 use lib.Seq.{take-at, drop-at, ext-getD}
+use Rattle.ranges.specs.Sizes.{sheet-size, probe-rounds}
 use Rattle.fields.specs.Byte.{product, bytes}
 use Rattle.fields.proofs.Fields.{amount-field, byte-field}
 use Rattle.sharing.specs.Polynomial.{value}
 use Rattle.ranges.specs.Lists.{from}
 use Rattle.sharing.specs.Scheme.{points}
-use Rattle.sharing.proofs.Rows.{length-from}
+use Rattle.ranges.proofs.Loops.{length-from}
 use Rattle.fields.specs.Bits.{bit}
 use Rattle.comparison.specs.Rounds.{both}
 use Rattle.comparison.specs.Probe.{Triple, Sheet, TripleCoins, Coins, Group, Each, TripleInRange, InRange, Probe, bit-polynomials, triple-polynomials, dealt, triple-words, sheet-shares, probe-messages, product-rounds, last-polynomial}
@@ -46,7 +47,7 @@ unfolding triple-words
 triple-words-long j [] = refl
 triple-words-long j (t ∷ ts) = omega (arith, triple-words-long j ts)
 
-sheet-shares-long : (t j : ℕ) (s : Sheet (List ℕ)) → SheetShared t s → length (sheet-shares j s) ≡ 127
+sheet-shares-long : (t j : ℕ) (s : Sheet (List ℕ)) → SheetShared t s → length (sheet-shares j s) ≡ sheet-size
 unfolding sheet-shares
 sheet-shares-long t j s h =
     omega (
@@ -58,7 +59,7 @@ sheet-shares-long t j s h =
       h .triples-long,
     )
 
-pub words-long : (t j : ℕ) (c : Coins) → InRange t c → length (sheet-shares j (dealt c)) ≡ 127
+pub words-long : (t j : ℕ) (c : Coins) → InRange t c → length (sheet-shares j (dealt c)) ≡ sheet-size
 words-long t j c h = sheet-shares-long t j (dealt c) (dealt-shared t c h)
 
 -- ---- the words of all n parties fix the coins
@@ -152,9 +153,9 @@ module _ (n t : ℕ) (more : t < n) (most : n ≤ 9) where
           triples = triples k;
         }
 
--- ---- 33 probe-messages
+-- ---- 33 messages
 
-probe-messages-long : (t : ℕ) (q : Probe) → ProbeShared t q → (j : ℕ) → length (probe-messages q j) ≡ 33
+probe-messages-long : (t : ℕ) (q : Probe) → ProbeShared t q → (j : ℕ) → length (probe-messages q j) ≡ probe-rounds
 unfolding probe-messages
 probe-messages-long t q h j =
     let words : List ℕ = map (λ r. both (value bytes (r .left) j) (value bytes (r .right) j)) (product-rounds q) in
@@ -165,13 +166,13 @@ probe-messages-long t q h j =
       product-rounds-long t q h,
     )
 
-pub spoken-long : (n : ℕ) (q : Probe) → length (spoken n q) ≡ 33
+pub spoken-long : (n : ℕ) (q : Probe) → length (spoken n q) ≡ probe-rounds
 unfolding spoken
-spoken-long n q = length-map (from 0 33) (λ i. map (λ j. getD (probe-messages q j) i 0) (points n)) ∙ length-from 0 33
+spoken-long n q = length-map (from 0 probe-rounds) (λ i. map (λ j. getD (probe-messages q j) i 0) (points n)) ∙ length-from 0 probe-rounds
 
 pub spoken-same : (n : ℕ) (q q′ : Probe) → ((j : ℕ) → probe-messages q′ j ≡ probe-messages q j) → spoken n q′ ≡ spoken n q
 unfolding spoken
-spoken-same n q q′ h = ap (λ (f : ℕ → List ℕ). map (λ i. map (λ j. getD (f j) i 0) (points n)) (from 0 33)) (fun-ext h)
+spoken-same n q q′ h = ap (λ (f : ℕ → List ℕ). map (λ i. map (λ j. getD (f j) i 0) (points n)) (from 0 probe-rounds)) (fun-ext h)
 
 pub spoken-heard : (n t : ℕ) (q q′ : Probe) → ProbeShared t q → ProbeShared t q′ → spoken n q′ ≡ spoken n q
     → (j : ℕ) → 1 ≤ j → j ≤ n → probe-messages q′ j ≡ probe-messages q j
@@ -180,6 +181,6 @@ spoken-heard n t q q′ h h′ e j h1 hn =
     ext-getD 0 (probe-messages q′ j) (probe-messages q j) (probe-messages-long t q′ h′ j ∙ sym (probe-messages-long t q h j))
     (λ i l.
     same-map (λ m. getD (probe-messages q′ m) i 0) (λ m. getD (probe-messages q m) i 0) (points n)
-    (same-map (λ m. map (λ x. getD (probe-messages q′ x) m 0) (points n)) (λ m. map (λ x. getD (probe-messages q x) m 0) (points n)) (from 0 33) e i
-    (from-in 0 33 i (omega arith) (omega (arith, probe-messages-long t q′ h′ j))))
+    (same-map (λ m. map (λ x. getD (probe-messages q′ x) m 0) (points n)) (λ m. map (λ x. getD (probe-messages q x) m 0) (points n)) (from 0 probe-rounds) e i
+    (from-in 0 probe-rounds i (omega arith) (omega (arith, probe-messages-long t q′ h′ j))))
     j (from-in 1 n j h1 (omega arith)))

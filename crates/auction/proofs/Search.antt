@@ -7,6 +7,7 @@ use native.Mathlib.Nat.{add-zero, zero-add}
 use native.Mathlib.Omega.{arith}
 use lib.Dec.{eqb}
 use lib.ListN.{length, drop, length-append, length-map}
+use Rattle.ranges.specs.Sizes.{probe-rounds}
 use Rattle.ranges.specs.Lists.{from}
 use Rattle.ranges.proofs.Loops.{length-from}
 use Rattle.search.specs.declared.Bracket.{Bracket}
@@ -30,14 +31,14 @@ use Rattle.auction.proofs.Probed.{turn-of, probe-chain}
 -- the rounds of probes, m of which were made before
 unfoldable pub turns-of : ℕ → List Made → List Turn
 turns-of m [] = []
-turns-of m (d ∷ ds) = map (turn-of (d .bracket) m (d .probe)) (from 0 33) ++ turns-of (suc m) ds
+turns-of m (d ∷ ds) = map (turn-of (d .bracket) m (d .probe)) (from 0 probe-rounds) ++ turns-of (suc m) ds
 
-pub turns-length : (m : ℕ) (ds : List Made) → length (turns-of m ds) ≡ 33 * length ds
+pub turns-length : (m : ℕ) (ds : List Made) → length (turns-of m ds) ≡ probe-rounds * length ds
 unfolding turns-of
 turns-length m [] = refl
 turns-length m (d ∷ ds) =
-    length-append (map (turn-of (d .bracket) m (d .probe)) (from 0 33)) (turns-of (suc m) ds)
-    ∙ omega (arith, length-map (from 0 33) (turn-of (d .bracket) m (d .probe)), length-from 0 33, turns-length (suc m) ds)
+    length-append (map (turn-of (d .bracket) m (d .probe)) (from 0 probe-rounds)) (turns-of (suc m) ds)
+    ∙ omega (arith, length-map (from 0 probe-rounds) (turn-of (d .bracket) m (d .probe)), length-from 0 probe-rounds, turns-length (suc m) ds)
 
 -- where probes lead
 abbrev pub after-probes : Bracket → List Made → Bracket

@@ -6,6 +6,7 @@ use mathlib.Core.List.{List, [], _∷_, _++_, map, zip, append-assoc, append-nil
 use Prim.Native.Nat.{ℕ, _+_, _*_, _≤_, _<_}
 use native.Mathlib.Omega.{arith}
 use lib.ListN.{length, replicate}
+use Rattle.ranges.specs.Sizes.{sheet-size}
 use Rattle.sharing.specs.Polynomial.{value}
 use Rattle.sharing.specs.Scheme.{threshold, points}
 use Rattle.search.specs.Bracket.{start}
@@ -44,7 +45,7 @@ module _ (a : Auction) (c : Coins) where
   add-at b m fs j = add-call (holding (a .n) (a .k) m j) (at-party j fs) (at-party j (entries (b .0) (b .1)))
 
   unfoldable pub deal-at : ℕ → probe.Coins → Call
-  deal-at j s = deal-call (a .n) j (coin-words s) (coin-bytes s) (replicate 127 0)
+  deal-at j s = deal-call (a .n) j (coin-words s) (coin-bytes s) (replicate sheet-size 0)
 
   unfoldable pub bid-calls : List (List ℕ × List (List ℕ)) → (m : ℕ) (fs : List (List ℕ)) → List Call
   bid-calls [] m fs = []

@@ -6,6 +6,7 @@ use native.Mathlib.Nat.{mul-zero, le-of-suc-le-suc}
 use native.Mathlib.Omega.{arith}
 use lib.ListN.{length, take, drop, getD, length-append, length-map, List·getD-append, List·getD-map}
 use lib.Seq.{take-at, drop-append-add, getD-append-add}
+use Rattle.ranges.specs.Sizes.{sheet-size}
 use Rattle.fields.specs.Amount.{p, amounts}
 use Rattle.fields.specs.Byte.{bytes}
 use Rattle.ranges.specs.Below.{AllBelow}
@@ -88,7 +89,7 @@ module _ (t j : ℕ) (s : Sheet (List ℕ)) (h : SheetShared t s) where
   bit-words-length : length bit-words ≡ 33
   bit-words-length = length-map (s .bits) (λ b. value bytes b j) ∙ h .bits-long
 
-  pub sheet-length : length (probe.sheet-shares j s) ≡ 127
+  pub sheet-length : length (probe.sheet-shares j s) ≡ sheet-size
   unfolding probe.sheet-shares
   sheet-length =
       ap suc (length-append bit-words (triple-words j (s .triples)))

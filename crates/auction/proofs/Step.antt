@@ -6,7 +6,9 @@ use Prim.Native.Nat.{ℕ, zero, suc, _+_, _-_, _*_, _^_, _≤_, _<_}
 use native.Mathlib.Omega.{arith}
 use lib.ListN.{length, drop, getD, length-map, length-drop}
 use borrow.Author.Tests.{eq-eqb}
+use Rattle.ranges.specs.Sizes.{sheet-size}
 use Rattle.refusal.specs.Judging.{judged}
+use Rattle.refusal.specs.Judging.{kept}
 use Rattle.refusal.specs.declared.Judgement.the-variants.{Accepted}
 use Rattle.fields.specs.Amount.{amounts}
 use Rattle.fields.specs.Byte.{bytes}
@@ -21,19 +23,20 @@ use Rattle.search.specs.Limit.{limit}
 use Rattle.comparison.specs.Probe as probe
 use Rattle.comparison.specs.Probe.{Each}
 use Rattle.comparison.proofs.Dealt.{SheetShared, dealt-shared, each-drop}
-use Rattle.party.specs.declared.record.Party.{Party}
-use Rattle.party.specs.declared.record.Heard.{Heard}
-use Rattle.party.specs.Record.{bracket, sound, next-or}
-use Rattle.party.specs.Say.{demand-share, supply-share, current, in-field, message, say-judgement, said}
-use Rattle.party.specs.Hear as hear
-use Rattle.party.specs.Hear.{unopened, sum-outside, verdict-outside, hear-judgement, after}
-use Rattle.party.proofs.Soundness.{Sound, sound-of}
-use Rattle.party.proofs.Words.{InField, in-field-of}
+use Rattle.session.specs.declared.record.Party.{Party}
+use Rattle.round.specs.declared.Heard.{Heard}
+use Rattle.session.specs.Record.{bracket, sound, replied}
+use Rattle.saying.specs.Say.{demand-share, supply-share, current, in-field, message, say-judgement, said}
+use Rattle.round.specs.Round as round
+use Rattle.round.specs.Round.{unopened, sum-outside, verdict-outside}
+use Rattle.hearing.specs.Hear.{hear-judgement, after}
+use Rattle.session.proofs.Soundness.{Sound, sound-of}
+use Rattle.saying.proofs.Sheets.{InField, in-field-of}
 use Rattle.auction.specs.Auction.{Auction, IsAuction}
 use Rattle.auction.specs.Coins.{Coins, InRange}
 use Rattle.auction.specs.Call.{accepted, is-accepted, judgement}
 use Rattle.auction.specs.Canonical as canonical
-use Rattle.auction.specs.Canonical.{returned, word, say-by, word-by, hear-by}
+use Rattle.auction.specs.Canonical.{word, say-by, word-by, hear-by}
 use Rattle.auction.proofs.Closed.{at-party, polynomials, Stage, fresh-stage, record-at, sheets-at, seat}
 use Rattle.auction.proofs.Totals.{each-imp, polynomials-length}
 use Rattle.auction.proofs.Sheets.{flat-length, flat-at, sheet-length, mask-word, getD-amounts, amount-below, byte-below, sheet-bytes-below}
@@ -41,21 +44,21 @@ use Rattle.auction.proofs.Comparing.{demand-shared, supply-shared, inde
 
 -- ---- when a saying and a hearing are accepted
 
-module _ (q : Party) (totals sheets : List ℕ) (S : sound q ≡ true) (lt : length totals ≡ 2 * q .k) (ls : length sheets ≡ 127 * limit (q .k))
+module _ (q : Party) (totals sheets : List ℕ) (S : sound q ≡ true) (lt : length totals ≡ 2 * q .k) (ls : length sheets ≡ sheet-size * limit (q .k))
     (going : over (bracket q) ≡ false) (F : in-field q totals (current q sheets) ≡ true) where
   say-accepted : say-judgement q totals sheets ≡ Accepted
   unfolding say-judgement judged
-  say-accepted = rw (S, eq-eqb (length totals) (2 * q .k) lt, eq-eqb (length sheets) (127 * limit (q .k)) ls, going, F)
+  say-accepted = rw (S, eq-eqb (length totals) (2 * q .k) lt, eq-eqb (length sheets) (sheet-size * limit (q .k)) ls, going, F)
 
   hear-accepted : (messages : List ℕ) → length messages ≡ q .n → getD messages (q .own - 1) 0 ≡ message q totals (current q sheets)
-      → unopened (hear.heard (q .n) (q .round) messages) ≡ false → sum-outside (hear.heard (q .n) (q .round) messages) ≡ false
-      → verdict-outside (hear.heard (q .n) (q .round) messages) ≡ false → hear-judgement q totals sheets messages ≡ Accepted
+      → unopened (round.heard (q .n) (q .round) messages) ≡ false → sum-outside (round.heard (q .n) (q .round) messages) ≡ false
+      → verdict-outside (round.heard (q .n) (q .round) messages) ≡ false → hear-judgement q totals sheets messages ≡ Accepted
   unfolding hear-judgement judged
   hear-accepted messages lm own straight tame whole =
       rw (
         S,
         eq-eqb (length totals) (2 * q .k) lt,
-        eq-eqb (length sheets) (127 * limit (q .k)) ls,
+        eq-eqb (length sheets) (sheet-size * limit (q .k)) ls,
         eq-eqb (length messages) (q .n) lm,
         going,
         F,
@@ -158,16 +161,16 @@ module _ (a : Auction) (c : Coins) (A : IsAuction a) (C : InRange a c) where
   abbrev t : ℕ
   t = threshold (a .n)
 
-  sheet-long : (j : ℕ) (s : probe.Coins) → probe.InRange t s → length (probe.sheet-shares j (probe.dealt s)) ≡ 127
+  sheet-long : (j : ℕ) (s : probe.Coins) → probe.InRange t s → length (probe.sheet-shares j (probe.dealt s)) ≡ sheet-size
   sheet-long j s h = sheet-length t j (probe.dealt s) (dealt-shared t s h)
 
-  sheets-long : (j : ℕ) → Each (λ s. length (probe.sheet-shares j (probe.dealt s)) ≡ 127) (c .sheets)
-  sheets-long j = each-imp (probe.InRange t) (λ s. length (probe.sheet-shares j (probe.dealt s)) ≡ 127) (c .sheets) (sheet-long j) (C .sheets)
+  sheets-long : (j : ℕ) → Each (λ s. length (probe.sheet-shares j (probe.dealt s)) ≡ sheet-size) (c .sheets)
+  sheets-long j = each-imp (probe.InRange t) (λ s. length (probe.sheet-shares j (probe.dealt s)) ≡ sheet-size) (c .sheets) (sheet-long j) (C .sheets)
 
-  pub sheets-length : (j : ℕ) → length (sheets-at a c j) ≡ 127 * limit (a .k)
+  pub sheets-length : (j : ℕ) → length (sheets-at a c j) ≡ sheet-size * limit (a .k)
   unfolding sheets-at
   sheets-length j =
-      flat-length (λ s. probe.sheet-shares j (probe.dealt s)) 127 (c .sheets) (sheets-long j) ∙ ap (λ (m : ℕ). 127 * m) (C .sheets-many)
+      flat-length (λ s. probe.sheet-shares j (probe.dealt s)) sheet-size (c .sheets) (sheets-long j) ∙ ap (λ (m : ℕ). sheet-size * m) (C .sheets-many)
 
   pub totals-length : (j : ℕ) → length (at-party j (polynomials a c)) ≡ 2 * a .k
   totals-length j = length-map (polynomials a c) (λ f. value amounts f j) ∙ polynomials-length A C
@@ -189,7 +192,7 @@ module _ (a : Auction) (c : Coins) (A : IsAuction a) (C : InRange a c) where
     module _ (j : ℕ) (j1 : 1 ≤ j) (jn : j ≤ a .n) where
       pub current-at : current (record-at a c σ j) (sheets-at a c j) ≡ probe.sheet-shares j (probe.dealt s)
       unfolding current record-at sheets-at
-      current-at = flat-at (λ s. probe.sheet-shares j (probe.dealt s)) 127 (c .sheets) (σ .probes) s ss (sheets-long j) (P .left)
+      current-at = flat-at (λ s. probe.sheet-shares j (probe.dealt s)) sheet-size (c .sheets) (σ .probes) s ss (sheets-long j) (P .left)
 
       abbrev totals : List ℕ
       totals = at-party j (polynomials a c)
@@ -238,7 +241,7 @@ module _ (a : Auction) (c : Coins) (A : IsAuction a) (C : InRange a c) where
 
       -- hearing words among which its own stands, that open to o
       module _ (w : ℕ → ℕ) (o : Heard) (own : w j ≡ message (record-at a c σ j) totals (probe.sheet-shares j (probe.dealt s)))
-          (opens : hear.heard (a .n) (σ .round) (map w (points (a .n))) ≡ o)
+          (opens : round.heard (a .n) (σ .round) (map w (points (a .n))) ≡ o)
           (straight : unopened o ≡ false) (tame : sum-outside o ≡ false) (whole : verdict-outside o ≡ false) where
         own-word : getD (map w (points (a .n))) (j - 1) 0 ≡ w j
         own-word = getD-words w 1 (a .n) (j - 1) (omega arith) ∙ ap w (omega arith)
@@ -254,19 +257,19 @@ module _ (a : Auction) (c : Coins) (A : IsAuction a) (C : InRange a c) where
         unfolding hear-by seat judgement is-accepted
         hearing-at = rw hear-ok
 
-        seen : hear.heard (record-at a c σ j .n) (record-at a c σ j .round) (map w (points (a .n))) ≡ o
+        seen : round.heard (record-at a c σ j .n) (record-at a c σ j .round) (map w (points (a .n))) ≡ o
         unfolding record-at
         seen = opens
 
         pub next-at : (τ : Stage) → after (record-at a c σ j) (probe.sheet-shares j (probe.dealt s)) o ≡ record-at a c τ j
             → canonical.heard a c (map w (points (a .n))) (seat a c σ j) ≡ seat a c τ j
-        unfolding canonical.heard seat returned next-or
+        unfolding canonical.heard seat replied kept
         next-at τ e = rw (hear-ok, current-at, seen, e)
 
     -- the whole round
     pub step-of : (τ : Stage) (w : ℕ → ℕ) (o : Heard)
         → ((j : ℕ) → 1 ≤ j → j ≤ a .n → message (record-at a c σ j) (at-party j (polynomials a c)) (probe.sheet-shares j (probe.dealt s)) ≡ w j)
-        → hear.heard (a .n) (σ .round) (map w (points (a .n))) ≡ o → unopened o ≡ false → sum-outside o ≡ false → verdict-outside o ≡ false
+        → round.heard (a .n) (σ .round) (map w (points (a .n))) ≡ o → unopened o ≡ false → sum-outside o ≡ false → verdict-outside o ≡ false
         → ((j : ℕ) → 1 ≤ j → j ≤ a .n → after (record-at a c σ j) (probe.sheet-shares j (probe.dealt s)) o ≡ record-at a c τ j)
         → Step a c σ τ w
     step-of τ w o says opens straight tame whole turns =

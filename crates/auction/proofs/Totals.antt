@@ -140,11 +140,11 @@ module _ {a : Auction} (A : IsAuction a) where
   -- "At most 1,000 bids are held, so totals stay below 2^32."
   pub demand-small : (i : ℕ) → demand a i < 2 ^ 32
   unfolding demand
-  demand-small i = total-small (i - 1)
+  demand-small i = total-small _
 
   pub supply-small : (i : ℕ) → supply a i < 2 ^ 32
   unfolding supply
-  supply-small i = total-small (a .k + i - 1)
+  supply-small i = total-small _
 
   pub totals-monotone : Monotone (demand a) (supply a) (a .k)
   unfolding demand supply

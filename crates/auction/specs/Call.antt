@@ -7,12 +7,12 @@ use Rattle.refusal.specs.declared.Judgement.{Judgement}
 use Rattle.refusal.specs.declared.Judgement.the-variants.{Accepted, Refused}
 use Rattle.bid.specs.Split.{split-judgement}
 use Rattle.dealer.specs.Deal.{deal-judgement}
-use Rattle.party.specs.declared.record.Party.{Party}
-use Rattle.party.specs.Open.{open-judgement}
-use Rattle.party.specs.Add.{add-judgement}
-use Rattle.party.specs.Say.{say-judgement}
-use Rattle.party.specs.Hear.{hear-judgement}
-use Rattle.party.specs.Answer.{answer-judgement}
+use Rattle.session.specs.declared.record.Party.{Party}
+use Rattle.session.specs.Open.{open-judgement}
+use Rattle.session.specs.Add.{add-judgement}
+use Rattle.saying.specs.Say.{say-judgement}
+use Rattle.hearing.specs.Hear.{hear-judgement}
+use Rattle.session.specs.Answer.{answer-judgement}
 
 pub data Call : Type 0 where
   open-call : (n own k : ℕ) (totals : List ℕ) → Call

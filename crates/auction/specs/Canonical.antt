@@ -4,34 +4,27 @@ use mathlib.Core.Bool.{Bool, true, false, _&&_}
 use mathlib.Core.List.{List, [], _∷_, _++_, map, zip}
 use Prim.Native.Nat.{ℕ, zero, suc, _*_}
 use lib.ListN.{replicate}
+use Rattle.ranges.specs.Sizes.{sheet-size, probe-rounds}
 use Rattle.sharing.specs.Scheme.{points}
 use Rattle.search.specs.Bracket.{over}
 use Rattle.search.specs.Limit.{limit}
 use Rattle.comparison.specs.Probe as probe
 use Rattle.bid.specs.Split.{split-left}
 use Rattle.dealer.specs.Deal.{deal-left}
-use Rattle.party.specs.declared.record.Party.{Party}
-use Rattle.party.specs.declared.record.Reply as reply
-use Rattle.party.specs.declared.record.Reply.{Reply}
-use Rattle.party.specs.declared.record.Said as said
-use Rattle.party.specs.declared.record.Said.{Said}
-use Rattle.party.specs.Record.{bracket}
-use Rattle.party.specs.Open.{fresh, open-reply, open-left}
-use Rattle.party.specs.Add.{add-reply, add-left}
-use Rattle.party.specs.Say.{say-reply}
-use Rattle.party.specs.Hear.{hear-reply}
+use Rattle.session.specs.declared.record.Party.{Party}
+use Rattle.saying.specs.declared.Said.{Said}
+use Rattle.session.specs.Record.{bracket}
+use Rattle.session.specs.Open.{open-reply, open-left}
+use Rattle.session.specs.Add.{add-reply, add-left}
+use Rattle.saying.specs.Say.{say-reply, said-word}
+use Rattle.hearing.specs.Hear.{hear-reply}
 use Rattle.auction.specs.Auction.{Auction}
 use Rattle.auction.specs.Coins.{Coins, flat, coin-words, coin-bytes}
 use Rattle.auction.specs.Call.{Call, open-call, split-call, deal-call, add-call, say-call, hear-call, answer-call}
 
--- the record that a call returned or, refused, left
-unfoldable pub returned : Party → Reply → Party
-returned q (reply.the-variants.Next r) = r
-returned q (reply.the-variants.Refused why) = q
-
+-- what a party said
 unfoldable pub word : Said → ℕ
-word (said.the-variants.Message w) = w
-word (said.the-variants.Refused why) = 0
+word said = said-word said 0
 
 -- "Each of these calls for a keeper gets the book and record that the last of them for it returned or left"
 pub record Seat : Type 0 where
@@ -45,7 +38,7 @@ all-over (s ∷ ss) = over (bracket (s .party)) && all-over ss
 
 -- P probes of 33 rounds: by then every session is over
 abbrev pub enough-rounds : Auction → ℕ
-enough-rounds a = 33 * limit (a .k)
+enough-rounds a = probe-rounds * limit (a .k)
 
 module _ (a : Auction) (c : Coins) where
   -- a slice of 2k words, to be written
@@ -56,7 +49,7 @@ module _ (a : Auction) (c : Coins) where
   unfoldable pub seated : ℕ → Seat
   seated j =
       record {
-        party = returned (fresh (a .n) j (a .k)) (open-reply (a .n) j (a .k) blank);
+        party = open-reply (a .n) j (a .k) blank .party;
         totals = open-left (a .n) j (a .k) blank;
         sheets = [];
       }
@@ -74,17 +67,17 @@ module _ (a : Auction) (c : Coins) where
   unfoldable pub added : List ℕ × List (List ℕ) → Seat → Seat
   added b s =
       record {
-        party = returned (s .party) (add-reply (s .party) (s .totals) (shares-for b s));
+        party = add-reply (s .party) (s .totals) (shares-for b s) .party;
         totals = add-left (s .party) (s .totals) (shares-for b s);
         sheets = s .sheets;
       }
 
   -- "The dealer writes every keeper's sheets, from one set of draws per probe."
   unfoldable pub deal-for : Seat → probe.Coins → Call
-  deal-for s k = deal-call (a .n) (s .party .own) (coin-words k) (coin-bytes k) (replicate 127 0)
+  deal-for s k = deal-call (a .n) (s .party .own) (coin-words k) (coin-bytes k) (replicate sheet-size 0)
 
   unfoldable pub sheet-for : Seat → probe.Coins → List ℕ
-  sheet-for s k = deal-left (a .n) (s .party .own) (coin-words k) (coin-bytes k) (replicate 127 0)
+  sheet-for s k = deal-left (a .n) (s .party .own) (coin-words k) (coin-bytes k) (replicate sheet-size 0)
 
   unfoldable pub dealt : Seat → Seat
   dealt s = record { party = s .party; totals = s .totals; sheets = flat (map (sheet-for s) (c .sheets)) }
@@ -102,7 +95,7 @@ module _ (a : Auction) (c : Coins) where
   unfoldable pub heard : List ℕ → Seat → Seat
   heard words s =
       record {
-        party = returned (s .party) (hear-reply (s .party) (s .totals) (s .sheets) words);
+        party = hear-reply (s .party) (s .totals) (s .sheets) words .party;
         totals = s .totals;
         sheets = s .sheets;
       }

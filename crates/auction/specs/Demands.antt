@@ -12,7 +12,7 @@ use Rattle.search.specs.Bracket.{start}
 use Rattle.search.specs.Limit.{limit}
 use Rattle.search.specs.Search.{promise, trail}
 use Rattle.comparison.specs.Probe.{Each}
-use Rattle.party.specs.declared.record.Answer.the-variants.{Cleared}
+use Rattle.session.specs.declared.record.Answer.the-variants.{Cleared}
 use Rattle.auction.specs.Auction.{Auction, IsAuction, demand, supply, clearing-answer}
 use Rattle.auction.specs.Coins.{Coins, InRange}
 use Rattle.auction.specs.Call.{Call, accepted}

@@ -3,14 +3,15 @@ use mathlib.Core.List.{List, [], _∷_, map}
 use mathlib.Core.Option.{Option, none, some}
 use Prim.Native.Nat.{ℕ, _*_}
 use lib.ListN.{length, drop}
+use Rattle.ranges.specs.Sizes.{sheet-size}
 use Rattle.search.specs.Bracket.{middle}
-use Rattle.party.specs.declared.record.Party.{Party}
-use Rattle.party.specs.declared.record.Heard as heard-as
-use Rattle.party.specs.declared.record.Heard.{Heard}
-use Rattle.party.specs.declared.record.Answer.{Answer}
-use Rattle.party.specs.Record.{bracket}
-use Rattle.party.specs.Hear.{heard}
-use Rattle.party.specs.Answer.{answer-reply}
+use Rattle.session.specs.declared.record.Party.{Party}
+use Rattle.round.specs.declared.Heard as heard-as
+use Rattle.round.specs.declared.Heard.{Heard}
+use Rattle.session.specs.declared.record.Answer.{Answer}
+use Rattle.session.specs.Record.{bracket}
+use Rattle.round.specs.Round.{heard}
+use Rattle.session.specs.Answer.{answer-reply}
 use Rattle.auction.specs.Call.{Call, open-call, split-call, deal-call, add-call, say-call, hear-call, answer-call}
 use Rattle.auction.specs.Run.{own}
 
@@ -93,4 +94,4 @@ indices j l = map (λ d. d .0) (decisions j l)
 
 -- "Unused sheets are the lent ones after those of the probes made"
 abbrev pub unused : ℕ → List Call → List (List ℕ)
-unused j l = map (drop (127 * length (verdicts j l))) (sheets j l)
+unused j l = map (drop (sheet-size * length (verdicts j l))) (sheets j l)

@@ -17,11 +17,12 @@ use Rattle.refusal.specs.declared.Refusal.the-variants.{OutOfRange, WrongLength
 use Rattle.ranges.specs.Lists.{every}
 use Rattle.sharing.proofs.Shares.{length-each, each-at}
 use Rattle.sharing.specs.Polynomial.{value, share-each}
-use Rattle.sharing.specs.Scheme.{threshold, points, amount-scheme}
-use Rattle.sharing.specs.Opening.{opened}
-use Rattle.sharing.specs.declared.opening.Opening.the-variants.{Secret}
+use Rattle.sharing.specs.Scheme.{threshold, points}
+use Rattle.weights.specs.Rows.{amount-scheme}
+use Rattle.openings.specs.Opening.{opened}
+use Rattle.openings.specs.declared.opening.Opening.the-variants.{Secret}
 use Rattle.ranges.specs.Sizes.{party, listed, long}
-use Rattle.sharing.proofs.Laws.{amount-fits, opens}
+use Rattle.openings.proofs.Laws.{amount-fits, opens}
 use Rattle.ranges.proofs.Loops.{and-left, and-right}
 use Rattle.ranges.specs.Steps.{steps, never-rising, never-falling}
 use Rattle.bid.specs.Table.{most, monotone}

@@ -7,6 +7,7 @@ ghost use Rattle.fields.specs.Amount.{amounts};
 ghost use Rattle.sharing.specs.Polynomial.{value};
 ghost use Rattle.bid.specs.Split.{split-judgement, bid-shares, split-left};
 use fields::AmountShare;
+use fields::HALF;
 use fields::P;
 use ranges::all_below;
 use ranges::first_bend;
@@ -14,9 +15,6 @@ use ranges::on_list;
 use refusal::Judgement;
 use refusal::Refusal;
 use sharing::threshold;
-
-// Half of a word.
-const HALF: u64 = 1 << 32;
 
 // Amounts are tenths of an hour, and no amount is larger.
 const MOST: u64 = 4_194_303;

@@ -16,11 +16,11 @@ use Rattle.ranges.specs.Lists.{from}
 use Rattle.sharing.specs.Scheme.{points}
 use Rattle.sharing.specs.Linear.{sums, negatives, scaled}
 use Rattle.sharing.proofs.Points.{Different, different-points}
-use Rattle.sharing.proofs.Rows.{length-from}
+use Rattle.ranges.proofs.Loops.{length-from}
 use Rattle.sharing.proofs.Laws.{unique, recolour, recolour-length, recolour-lt, recolour-shares}
 use Rattle.comparison.specs.Local.{on-polynomials, shifted}
 use Rattle.fields.specs.Bits.{bit}
-use Rattle.comparison.specs.Rounds.{masked, differing, first-carry, left, right, next-carry, last}
+use Rattle.comparison.specs.Rounds.{offset, masked, differing, first-carry, left, right, next-carry, last}
 use Rattle.comparison.specs.Probe.{Group, secret}
 use Rattle.comparison.proofs.Values.{Shared, Reads, reads-plus, reads-negate, reads-times, reads-shift, reads-value, reads-secret, bit-byte}
 use Rattle.comparison.proofs.Dealt.{shared-cons}
@@ -155,7 +155,7 @@ module _ {t : ℕ} {xs : List ℕ} (D : Different xs) where
   pub masked-alike : {m m′ d d′ s s′ : List ℕ} → Amounts t xs m m′ → Amounts t xs d d′ → Amounts t xs s s′
       → Amounts t xs (masked (on-polynomials amounts) m d s) (masked (on-polynomials amounts) m′ d′ s′)
   unfolding masked
-  masked-alike m d s = plus D (plus D (shift D (2 ^ 59 + 2 ^ 32) (lit< tt) (negate D m)) d) (negate D s)
+  masked-alike m d s = plus D (plus D (shift D offset (lit< tt) (negate D m)) d) (negate D s)
 
   module _ (T i : ℕ) where
     differing-alike : {b b′ : List ℕ} → Bytes t xs b b′ → Bytes t xs (differing (on-polynomials bytes) T i b) (differing (on-polynomials bytes) T i b′)

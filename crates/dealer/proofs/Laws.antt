@@ -19,12 +19,14 @@ use Rattle.refusal.specs.declared.Refusal.the-variants.{OutOfRange, WrongLength
 use Rattle.ranges.specs.Lists.{from, every}
 use Rattle.sharing.proofs.Shares.{length-each, each-at}
 use Rattle.sharing.specs.Polynomial.{value, share-each}
-use Rattle.sharing.specs.Scheme.{Scheme, threshold, points, amount-scheme, byte-scheme}
-use Rattle.sharing.specs.Opening.{opened}
-use Rattle.sharing.specs.declared.opening.Opening.{Opening}
-use Rattle.sharing.specs.declared.opening.Opening.the-variants.{Secret}
+use Rattle.weights.specs.Rows.{Scheme, amount-scheme, byte-scheme}
+use Rattle.sharing.specs.Scheme.{threshold, points}
+use Rattle.openings.specs.Opening.{opened}
+use Rattle.openings.specs.declared.opening.Opening.{Opening}
+use Rattle.openings.specs.declared.opening.Opening.the-variants.{Secret}
 use Rattle.ranges.specs.Sizes.{party, long}
-use Rattle.sharing.proofs.Laws.{value-lt, amount-fits, byte-fits, opens}
+use Rattle.sharing.proofs.Laws.{value-lt}
+use Rattle.openings.proofs.Laws.{amount-fits, byte-fits, opens}
 use Rattle.ranges.proofs.Loops.{and-left, and-right}
 use Rattle.fields.specs.Bits.{bit}
 use Rattle.dealer.specs.Deal.{deal-judgement, byte-shares, mask-bits, triple-secrets, triple, triples, preprocessing}

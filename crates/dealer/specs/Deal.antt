@@ -14,7 +14,7 @@ use Rattle.refusal.specs.declared.Refusal.the-variants.{OutOfRange, WrongLength
 use Rattle.ranges.specs.Lists.{from, every}
 use Rattle.sharing.specs.Polynomial.{value, share-each}
 use Rattle.sharing.specs.Scheme.{threshold}
-use Rattle.ranges.specs.Sizes.{party, long}
+use Rattle.ranges.specs.Sizes.{party, long, sheet-size}
 
 -- The refusals of `deal`, lowest number first. "the mask b (below 2^58), then its t coefficients", which are below p.
 -- "That is 1 + t words and 126t + 62 bytes."
@@ -22,7 +22,7 @@ unfoldable pub deal-judgement : (n own : ℕ) (words drawn sheet : List ℕ) →
 deal-judgement n own words drawn sheet =
     judged
     ((not (party n own) ⇒ OutOfRange)
-    ∷ (not (long (1 + threshold n) words && long (126 * threshold n + 62) drawn && long 127 sheet) ⇒ WrongLength)
+    ∷ (not (long (1 + threshold n) words && long (126 * threshold n + 62) drawn && long sheet-size sheet) ⇒ WrongLength)
     ∷ (not (ltb (getD words 0 0) (2 ^ 58) && every (λ c. ltb c p) (drop 1 words)) ⇒ CoinOutOfRange)
     ∷ [])
 

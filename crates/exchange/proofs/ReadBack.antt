@@ -1,6 +1,6 @@
 -- The ten words hold all of a record: what one call writes, the next one reads. Assumes nothing.
 use mathlib.Core.Path.{_≡_, refl}
-use Rattle.party.specs.declared.record.Party.{Party}
+use Rattle.session.specs.declared.record.Party.{Party}
 use Rattle.exchange.specs.Record.{words-of, party-of}
 
 pub reads-back : (q : Party) → party-of (words-of q) ≡ q

@@ -4,13 +4,12 @@ use mathlib.Core.List.{List, [], _∷_}
 use Prim.Native.Nat.{ℕ}
 use lib.ListN.{getD}
 use Rattle.refusal.specs.Refusal.{numberOf}
-use Rattle.refusal.specs.Judging.{_⇒_, judged}
+use Rattle.refusal.specs.Judging.{_⇒_, judged, kept}
 use Rattle.refusal.specs.declared.Judgement.{Judgement}
 use Rattle.refusal.specs.declared.Refusal.the-variants.{WrongLength}
 use Rattle.ranges.specs.Sizes.{long}
-use Rattle.party.specs.declared.record.Party.{Party}
-use Rattle.party.specs.declared.record.Reply.{Reply}
-use Rattle.party.specs.declared.record.Reply.the-variants.{Next, Refused}
+use Rattle.session.specs.declared.record.Party.{Party}
+use Rattle.session.specs.declared.record.Reply.{Reply}
 
 unfoldable pub words-of : Party → List ℕ
 words-of q = q .n ∷ q .own ∷ q .k ∷ q .bids ∷ q .lo ∷ q .hi ∷ q .probes ∷ q .round ∷ q .sum ∷ q .carry ∷ []
@@ -34,11 +33,14 @@ party-of words =
 unfoldable pub record-judgement : List ℕ → Judgement
 record-judgement words = judged ((not (long 10 words) ⇒ WrongLength) ∷ [])
 
--- a reply as a host gets it: its number, and what is left in the record's slice
-abbrev pub reply-code : Reply → ℕ
-reply-code (Next q) = 0
-reply-code (Refused why) = numberOf why
+-- what a call gives where a record is lent, and what stands there otherwise
+abbrev pub on-record : {A : Type 0} (words : List ℕ) (given otherwise : A) → A
+on-record words given otherwise = kept (record-judgement words) given otherwise
 
-abbrev pub reply-record : Reply → List ℕ → List ℕ
-reply-record (Next q) words = words-of q
-reply-record (Refused why) words = words
+-- the call's number: without a record nothing else is judged
+abbrev pub number-on : (words : List ℕ) (number : ℕ) → ℕ
+number-on words number = on-record words number (numberOf WrongLength)
+
+-- what a reply leaves in the record's slice
+abbrev pub stored : Reply → List ℕ → List ℕ
+stored reply words = kept (reply .judgement) (words-of (reply .party)) words

@@ -7,13 +7,7 @@ ghost use Rattle.exchange.specs.Calls.{open-code, open-totals, open-reco
 
 mod record;
 
-use party::Answer;
-use party::Said;
-use party::add;
-use party::answer;
-use party::hear;
-use party::open;
-use party::say;
+use hearing::hear;
 use ranges::on_list;
 use record::WORDS;
 use record::read;
@@ -21,6 +15,12 @@ use record::store;
 use refusal::Refusal;
 use refusal::code;
 use refusal::number;
+use saying::Said;
+use saying::say;
+use session::Answer;
+use session::add;
+use session::answer;
+use session::open;
 
 // Nothing is zeroed unless the record can be written too. n, own and k out of their ranges count
 // before any wrong length.

@@ -1,10 +1,12 @@
 // A record as the host holds it: ten words, in the order of the fields.
 ghost use mathlib.Core.Path.{_≡_};
 ghost use lib.ListN.{length};
-ghost use Rattle.exchange.specs.Record.{words-of, party-of, reply-code, reply-record};
-use party::Party;
-use party::Reply;
+ghost use Rattle.refusal.specs.Refusal.{codeOf};
+ghost use Rattle.exchange.specs.Record.{words-of, party-of, stored};
+use refusal::Judgement;
 use refusal::number;
+use session::Party;
+use session::Reply;
 
 pub const WORDS: usize = 10;
 
@@ -43,16 +45,17 @@ fn write(q: Party, words: &mut [u64])
     words[9] = q.carry;
 }
 
-// The record that a call gives is written over the one it was lent, and a refusal is its number.
+// The record that a call gives is written over the one it was lent, unless the call was refused.
 pub(crate) fn store(reply: Reply, words: &mut [u64]) -> u64
     requires { ⌜ length (now words) ≡ 10 ⌝ }
-    ensures { λ r. ⌜ (r ≡ reply-code reply) × (now (words .exit) ≡ reply-record reply (now (words .entry))) ⌝ }
+    ensures { λ r. ⌜ (r ≡ codeOf (reply .judgement)) × (now (words .exit) ≡ stored reply (now (words .entry))) ⌝ }
 {
-    match reply {
-        Reply::Next(q) => {
-            write(q, words);
+    let judgement = reply.judgement;
+    match judgement {
+        Judgement::Accepted => {
+            write(reply.party, words);
             0
         }
-        Reply::Refused(why) => number(why),
+        Judgement::Refused(why) => number(why),
     }
 }

@@ -6,14 +6,14 @@ use Prim.Native.Nat.{ℕ, _+_, _*_, _≤_, _<_}
 use lib.Dec.{leb}
 use lib.ListN.{length, drop}
 use borrow.Author.Tests.{le-leb, lt-leb}
-use Rattle.plan.specs.declared.lines.Line.{Line}
-use Rattle.plan.specs.declared.lines.Line.the-variants.{Number, Misshapen}
-use Rattle.plan.specs.declared.table.Fault.{Fault}
-use Rattle.plan.specs.declared.table.Fault.the-variants.{None, At}
-use Rattle.plan.specs.Lines.{lines, first-line, rest, numbers, formed, after}
+use Rattle.lines.specs.declared.line.Line.{Line}
+use Rattle.lines.specs.declared.line.Line.the-variants.{Number, Misshapen}
+use Rattle.sections.specs.declared.table.Fault.{Fault}
+use Rattle.sections.specs.declared.table.Fault.the-variants.{None, At}
+use Rattle.lines.specs.Lines.{lines, first-line, rest, numbers, formed, after}
 use Rattle.plan.specs.Plan.{Reading, faulty, accepted, check, many, prices, bids, or-fault, ending, read, read-prices, read-bids}
-use Rattle.plan.specs.Judged.{tables, good-prices, bids-fault}
-use Rattle.plan.proofs.Again.{bytes-one, after-add}
+use Rattle.sections.specs.Sections.{tables, good-prices, bids-fault}
+use Rattle.lines.proofs.Again.{bytes-one, after-add}
 use Rattle.plan.proofs.Sections.{needed-number, needed-misshapen, many-all, many-torn, prices-all, prices-bad, ending-none, ending-extra}
 use Rattle.plan.proofs.Bids.{all-bids}
 

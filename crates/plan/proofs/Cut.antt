@@ -12,16 +12,17 @@ use borrow.Author.Tests.{ltb-false, leb-true, eqb-false}
 use Rattle.ranges.specs.Lists.{every}
 use Rattle.ranges.proofs.Loops.{and-left, and-right}
 use Rattle.bid.specs.Table.{most}
-use Rattle.plan.specs.declared.lines.Line.{Line}
-use Rattle.plan.specs.declared.lines.Line.the-variants.{Number, Misshapen}
-use Rattle.plan.specs.declared.lines.Part.{Part}
-use Rattle.plan.specs.declared.lines.Part.the-variants.{Empty, Digits, Bad}
-use Rattle.plan.specs.declared.table.Fault.{Fault}
-use Rattle.plan.specs.declared.table.Fault.the-variants.{None, At}
-use Rattle.plan.specs.Lines.{digit, with-digit, grown, ended, lines, line-after, first-line, line-length, rest}
-use Rattle.plan.specs.Plan.{Reading, check, needed, many, prices, next-price, table-fault, or-fault, bids, ending, read, read-prices, read-bids}
+use Rattle.lines.specs.declared.line.Line.{Line}
+use Rattle.lines.specs.declared.line.Line.the-variants.{Number, Misshapen}
+use Rattle.lines.specs.declared.line.Part.{Part}
+use Rattle.lines.specs.declared.line.Part.the-variants.{Empty, Digits, Bad}
+use Rattle.sections.specs.declared.table.Fault.{Fault}
+use Rattle.sections.specs.declared.table.Fault.the-variants.{None, At}
+use Rattle.lines.specs.Lines.{digit, with-digit, grown, ended, lines, line-after, first-line, line-length, rest}
+use Rattle.plan.specs.Plan.{Reading, check, needed, many, prices, or-fault, bids, ending, read, read-prices, read-bids}
+use Rattle.sections.specs.Sections.{next-price, table-fault}
 use Rattle.plan.proofs.Sections.{line-of, needed-number, needed-misshapen, ending-extra}
-use Rattle.plan.proofs.Tables.{faultless}
+use Rattle.sections.proofs.Tables.{faultless}
 
 -- ---- a line, cut
 

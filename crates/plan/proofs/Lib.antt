@@ -1,9 +1,5 @@
--- Laws of reading lines and judging them.
-pub mod Reading
-pub mod Again
-pub mod Counts
+-- Laws of judging lines.
 pub mod Sections
 pub mod Bids
-pub mod Tables
 pub mod Answers
 pub mod Cut

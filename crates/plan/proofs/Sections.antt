@@ -3,19 +3,19 @@ use mathlib.Core.Path.{_≡_, refl, sym, ap, ap₂, _∙_}
 use mathlib.Core.Bool.{Bool, true, false, cond, false≢true}
 use mathlib.Core.Logic.{_⊎_, inl, inr, ⊎-elim}
 use mathlib.Core.List.{List, [], _∷_}
-use Prim.Native.Nat.{ℕ, zero, suc, _+_, _-_, _*_, _^_, _≤_, _<_}
+use Prim.Native.Nat.{ℕ, zero, suc, _+_, _-_, _*_, _^_, _<_}
 use native.Mathlib.Omega.{arith}
 use lib.Dec.{eqb, ltb}
-use lib.ListN.{length, take, drop, length-take}
-use Rattle.plan.specs.declared.lines.Line.{Line}
-use Rattle.plan.specs.declared.lines.Line.the-variants.{Number, Misshapen}
-use Rattle.plan.specs.declared.lines.Part.{Part}
-use Rattle.plan.specs.declared.lines.Part.the-variants.{Empty, Digits, Bad}
-use Rattle.plan.specs.Lines.{digit, with-digit, grown, ended, lines-after, lines, line-after, first-line, line-length, rest, value, shaped, numbers, bytes-of, formed, after}
-use Rattle.plan.specs.Plan.{Reading, faulty, needed, many, prices, next-price, rising, ending}
-use Rattle.plan.specs.Judged.{good-prices}
-use Rattle.plan.proofs.Again.{after-rest, formed-most}
-use Rattle.plan.proofs.Counts.{rising-most}
+use lib.ListN.{length, take, drop}
+use Rattle.lines.specs.declared.line.Line.{Line}
+use Rattle.lines.specs.declared.line.Line.the-variants.{Number, Misshapen}
+use Rattle.lines.specs.declared.line.Part.{Part}
+use Rattle.lines.specs.declared.line.Part.the-variants.{Empty, Digits, Bad}
+use Rattle.lines.specs.Lines.{digit, with-digit, grown, ended, lines-after, lines, line-after, first-line, line-length, rest, value, shaped, numbers, bytes-of, formed, after}
+use Rattle.sections.specs.Sections.{next-price, rising, good-prices}
+use Rattle.plan.specs.Plan.{Reading, faulty, needed, many, prices, ending}
+use Rattle.lines.proofs.Again.{after-rest}
+use Rattle.lines.proofs.Reading.{either}
 
 -- ---- the lines, one at a time
 
@@ -138,16 +138,6 @@ module _ (k last : ℕ) (bytes : List ℕ) where
   good-misshapen : first-line bytes ≡ Misshapen → good-prices (suc k) last bytes ≡ 0
   unfolding rising
   good-misshapen e = ap (λ (s : ℕ). rising last (take s (numbers (suc k) bytes))) (formed-misshapen k bytes e)
-
-pub good-most : (k last : ℕ) (bytes : List ℕ) → good-prices k last bytes ≤ k
-good-most k last bytes =
-    let l = length-take (formed k bytes) (numbers k bytes) in
-    omega (arith, rising-most last (take (formed k bytes) (numbers k bytes)), l, formed-most k bytes)
-
--- a test, known
-pub either : (t : Bool) → (t ≡ true) ⊎ (t ≡ false)
-either true = inl refl
-either false = inr refl
 
 pub prices-all : (k last at : ℕ) (bytes : List ℕ) (go : List ℕ → List Line → Reading) → good-prices k last bytes ≡ k
     → prices k last at (lines bytes) go ≡ go (numbers k bytes) (lines (after k bytes))

@@ -1,18 +1,14 @@
 -- What the lines say: the sections in order, or the first fault. "All input is judged, in line order, before the first probe."
 -- Assumes nothing.
-use mathlib.Core.Bool.{Bool, cond, not, _&&_}
+use mathlib.Core.Bool.{Bool, cond, _&&_}
 use mathlib.Core.List.{List, [], _∷_}
 use Prim.Native.Nat.{ℕ, zero, suc, _+_, _*_}
-use lib.Bits.{bitXor}
-use lib.Dec.{leb, ltb}
-use lib.ListN.{take, drop}
-use Rattle.ranges.specs.Lists.{every}
-use Rattle.ranges.specs.Steps.{bend, never-rising, never-falling}
-use Rattle.bid.specs.Table.{most}
-use Rattle.plan.specs.declared.lines.Line.{Line}
-use Rattle.plan.specs.declared.lines.Line.the-variants.{Number, Misshapen}
-use Rattle.plan.specs.declared.table.Fault.{Fault}
-use Rattle.plan.specs.declared.table.Fault.the-variants.{None, At}
+use lib.Dec.{leb}
+use Rattle.lines.specs.declared.line.Line.{Line}
+use Rattle.lines.specs.declared.line.Line.the-variants.{Number, Misshapen}
+use Rattle.sections.specs.declared.table.Fault.{Fault}
+use Rattle.sections.specs.declared.table.Fault.the-variants.{None, At}
+use Rattle.sections.specs.Sections.{next-price, table-fault}
 
 -- "Sections, each after its count: n, then n seeds; k .., then k strictly rising prices ..; the count of bids, then 2k amounts each."
 pub record Plan : Type 0 where
@@ -42,29 +38,11 @@ unfoldable pub many : (m at : ℕ) → List Line → (List ℕ → List Line →
 many zero at ls go = go [] ls
 many (suc m) at ls go = needed at ls (λ v ls. many m (at + 1) ls (λ vs ls. go (v ∷ vs) ls))
 
--- a price that is above the last one and "1 to 1,000,000 pence"; the first comes after 0
-abbrev pub next-price : (last price : ℕ) → Bool
-next-price last price = ltb last price && leb price 1_000_000
-
 -- k prices: "a bad price, is 13"
 unfoldable pub prices : (k last at : ℕ) → List Line → (List ℕ → List Line → Reading) → Reading
 prices zero last at ls go = go [] ls
 prices (suc k) last at ls go =
     needed at ls (λ v ls. check (next-price last v) 13 at (prices k v (at + 1) ls (λ vs ls. go (v ∷ vs) ls)))
-
--- how many numbers pass a test before the first that does not
-unfoldable pub passed : (ℕ → Bool) → List ℕ → ℕ
-passed test [] = 0
-passed test (x ∷ xs) = cond (test x) (suc (passed test xs)) 0
-
--- Of a bid that begins at a line and was "read whole before judging": 6 at the first amount that is too large, "then 7", at "the later
--- amount", of the demand and then of the supply.
-unfoldable pub table-fault : (k line : ℕ) → List ℕ → Fault
-table-fault k line table =
-    cond (not (every (λ a. leb a most) table)) (At 6 (line + passed (λ a. leb a most) table))
-    (cond (not (never-rising (take k table))) (At 7 (line + bend (λ x y. leb y x) (take k table)))
-    (cond (not (never-falling (drop k table))) (At 7 (line + (k + bend leb (drop k table))))
-    None))
 
 unfoldable pub or-fault : Fault → Reading → Reading
 or-fault None go = go
@@ -106,13 +84,3 @@ read ls =
     check (leb 3 n && leb n 9) 1 1
     (many n 2 ls (λ seeds ls.
     read-prices n seeds ls)))
-
--- "the seeds' exclusive or"
-unfoldable pub xor-of : List ℕ → ℕ
-xor-of [] = 0
-xor-of (x ∷ xs) = bitXor x (xor-of xs)
-
--- how many prices rise before the first that does not
-unfoldable pub rising : (last : ℕ) → List ℕ → ℕ
-rising last [] = 0
-rising last (x ∷ xs) = cond (next-price last x) (suc (rising x xs)) 0

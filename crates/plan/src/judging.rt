@@ -1,17 +1,17 @@
 // Judging the whole input, line by line, before anything is run.
 ghost use mathlib.Core.Path.{_≡_};
-ghost use Prim.Native.Nat.{_+_, _*_, _≤_, _<_};
-ghost use lib.ListN.{length, drop};
-ghost use Rattle.plan.specs.Lines.{lines, numbers, bytes-of, formed};
-ghost use Rattle.plan.specs.Plan.{read-prices, read-bids, xor-of};
-ghost use Rattle.plan.specs.Judged.{seeds-of, prices-of, good-prices, bid-fault, bids-fault, as-judged, judged-as};
-use crate::lines::Line;
-use crate::lines::read_line;
-use crate::numbers::read_numbers;
-use crate::table::Fault;
-use crate::table::rising;
-use crate::table::table_fault;
-use crate::table::xor_of;
+ghost use Prim.Native.Nat.{_+_, _*_, _≤_};
+ghost use lib.ListN.{drop};
+ghost use Rattle.lines.specs.Lines.{lines, bytes-of};
+ghost use Rattle.sections.specs.Sections.{xor-of};
+ghost use Rattle.plan.specs.Plan.{read-prices, read-bids};
+ghost use Rattle.plan.specs.Judged.{seeds-of, prices-of, as-judged, judged-as};
+use lines::Line;
+use lines::read_line;
+use sections::Fault;
+use sections::read_bids;
+use sections::read_prices;
+use sections::read_seeds;
 
 // An accepted input: its counts, the seeds' exclusive or, and where its prices and bids begin.
 pub struct Shape {
@@ -27,25 +27,6 @@ pub enum Judged {
     // the refusal's number, and the first faulty line's
     Faulty(u64, u64),
     Good(Shape),
-}
-
-// What judging bids finds, and where the next line begins.
-pub struct BidsRead {
-    pub fault: Fault,
-    pub next: usize,
-}
-
-// How many seeds are numbers before the first line that is none, and their exclusive or.
-pub struct SeedsRead {
-    pub formed: usize,
-    pub xor: u64,
-    pub next: usize,
-}
-
-// How many prices are good before the first that is not.
-pub struct PricesRead {
-    pub good: usize,
-    pub next: usize,
 }
 
 // The first fault of the input, or its shape.
@@ -124,78 +105,4 @@ fn judge_bids(input: &[u8], at: usize, n: u64, seed: u64, k: u64, prices_at: usi
         prices_at,
         bids_at,
     })
-}
-
-// The first fault of a number of bids, the first amount of the first on the given line. A table is
-// lent to read each into.
-fn read_bids(input: &[u8], at: usize, k: u64, bids: u64, line: u64, table: &mut [u64]) -> BidsRead
-    requires { ⌜ (k ≤ 256) × (bids ≤ 1000) × (line ≤ 1000) × (length (now table) ≡ 2 * k) ⌝ }
-    ensures { λ r. ⌜ (r .fault ≡ bids-fault k bids line (drop at (now (input .entry))))
-        × (r .fault ≡ Fault.None → r .next ≡ at + bytes-of (bids * (2 * k)) (drop at (now (input .entry)))) ⌝ }
-{
-    let mut next = at;
-    let mut first = line;
-    let mut i = 0;
-    while i < bids {
-        let read = read_bid(input, next, k, first, table);
-        let fault = read.fault;
-        if let Fault::At(_, _) = fault {
-            return read;
-        }
-        next = read.next;
-        first += 2 * k;
-        i += 1;
-    }
-    BidsRead {
-        fault: Fault::None,
-        next,
-    }
-}
-
-// The first fault of one bid. It is read whole before it is judged.
-fn read_bid(input: &[u8], at: usize, k: u64, line: u64, table: &mut [u64]) -> BidsRead
-    requires { ⌜ (k ≤ 256) × (line < 1_000_000) × (length (now table) ≡ 2 * k) ⌝ }
-    ensures { λ r. ⌜ (r .fault ≡ bid-fault k line (drop at (now (input .entry))))
-        × (r .next ≡ at + bytes-of (2 * k) (drop at (now (input .entry)))) ⌝ }
-{
-    let read = read_numbers(input, at, table);
-    let formed = read.formed;
-    let next = read.next;
-    if formed != table.len() {
-        return BidsRead {
-            fault: Fault::At(13, line + formed as u64),
-            next,
-        };
-    }
-    BidsRead {
-        fault: table_fault(&table[..], k as usize, line),
-        next,
-    }
-}
-
-// Seeds are read into a lent slice, and mixed.
-fn read_seeds(input: &[u8], at: usize, seeds: &mut [u64]) -> SeedsRead
-    ensures { λ r. ⌜ (r .formed ≡ formed (length (now (seeds .entry))) (drop at (now (input .entry))))
-        × (r .xor ≡ xor-of (numbers (length (now (seeds .entry))) (drop at (now (input .entry)))))
-        × (r .next ≡ at + bytes-of (length (now (seeds .entry))) (drop at (now (input .entry)))) ⌝ }
-{
-    let read = read_numbers(input, at, seeds);
-    SeedsRead {
-        formed: read.formed,
-        xor: xor_of(&seeds[..]),
-        next: read.next,
-    }
-}
-
-// Prices are read into a lent slice, and the good ones counted up to the first that is not.
-fn read_prices(input: &[u8], at: usize, prices: &mut [u64]) -> PricesRead
-    ensures { λ r. ⌜ (r .good ≡ good-prices (length (now (prices .entry))) 0 (drop at (now (input .entry))))
-        × (r .next ≡ at + bytes-of (length (now (prices .entry))) (drop at (now (input .entry)))) ⌝ }
-{
-    let read = read_numbers(input, at, prices);
-    let formed = read.formed;
-    PricesRead {
-        good: rising(&prices[..formed]),
-        next: read.next,
-    }
 }

@@ -13,22 +13,28 @@ use Rattle.ranges.proofs.Loops.{and-left, and-right}
 use Rattle.search.specs.Limit.{limit}
 use Rattle.search.proofs.Clearing.{clearing-within}
 use Rattle.auction.specs.Auction.{Auction, GoodTable, IsAuction, demand, supply, clearing-answer}
-use Rattle.plan.specs.declared.table.Fault.{Fault}
-use Rattle.plan.specs.declared.table.Fault.the-variants.{None, At}
+use Rattle.sections.specs.declared.table.Fault.{Fault}
+use Rattle.sections.specs.declared.table.Fault.the-variants.{None, At}
 use Rattle.plan.specs.declared.judging.Shape.{Shape}
 use Rattle.plan.specs.declared.judging.Judged.the-variants.{Faulty, Good}
-use Rattle.plan.specs.Lines.{lines, rest, numbers, formed, after}
+use Rattle.lines.specs.Lines.{lines, rest, numbers, formed, after}
 use Rattle.plan.specs.Plan.{Plan, Reading, faulty, accepted, read, read-prices, read-bids}
-use Rattle.plan.specs.Judged.{shape-of, as-judged, judged-as, seeds-of, prices-of, price-of, good-prices, tables, bid-fault, bids-fault, or-else}
-use Rattle.rehearsal.specs.Listing.{refused-line, probe-lines, clears-line, rounds-line, search-lines, auction, plan-trail, printed, listing, course-trail}
-use Rattle.rehearsal.specs.Bidden.{auction-of}
-use Rattle.rehearsal.specs.Follows.{Follows, Right}
-use Rattle.rehearsal.specs.declared.course.Course.{Course}
-use Rattle.rehearsal.proofs.Parts.{limit-nine}
-use Rattle.plan.proofs.Again.{bytes-one, after-add, formed-most, length-numbers, number-at}
-use Rattle.plan.proofs.Sections.{line-of, either, good-most}
-use Rattle.plan.proofs.Bids.{torn, whole, length-tables}
-use Rattle.plan.proofs.Tables.{faultless}
+use Rattle.plan.specs.Judged.{shape-of, as-judged, judged-as, seeds-of, prices-of}
+use Rattle.lines.specs.Lines.{price-of}
+use Rattle.sections.specs.Sections.{good-prices, tables, bid-fault, bids-fault, or-else}
+use Rattle.rehearsal.specs.Listing.{auction, plan-trail, printed, listing}
+use Rattle.listing.specs.Lines.{refused-line, probe-lines, clears-line, rounds-line, search-lines, course-trail}
+use Rattle.standing.proofs.Standing.{auction-of}
+use Rattle.rehearsal.specs.Right.{Right}
+use Rattle.probing.specs.Follows.{Follows}
+use Rattle.listing.specs.declared.course.Course.{Course}
+use Rattle.panel.proofs.Parts.{limit-nine}
+use Rattle.lines.proofs.Again.{bytes-one, after-add, formed-most, length-numbers, number-at}
+use Rattle.plan.proofs.Sections.{line-of}
+use Rattle.sections.proofs.Counts.{good-most}
+use Rattle.lines.proofs.Reading.{either}
+use Rattle.sections.proofs.Bids.{torn, whole, length-tables}
+use Rattle.sections.proofs.Tables.{faultless}
 use Rattle.plan.proofs.Answers.{rest-after, n-misshapen, n-range, seeds-torn, seeds-all, k-misshapen, k-range, price-bad, prices-good, m-misshapen, m-range, bids-bad, one-too-many, all-read}
 
 -- ---- reading that ends well did so section by section

@@ -6,12 +6,13 @@ use Prim.Native.Nat.{ℕ, zero, suc, _+_, _*_}
 use native.Mathlib.Omega.{arith}
 use lib.Dec.{leb}
 use lib.ListN.{length}
-use Rattle.plan.specs.declared.lines.Line.{Line}
-use Rattle.plan.specs.declared.lines.Line.the-variants.{Number, Misshapen}
-use Rattle.plan.specs.declared.table.Fault.{Fault}
-use Rattle.plan.specs.declared.table.Fault.the-variants.{None, At}
-use Rattle.plan.specs.Lines.{lines}
-use Rattle.plan.specs.Plan.{Reading, check, needed, many, prices, next-price, table-fault, or-fault, bids, ending, read, read-prices, read-bids}
+use Rattle.lines.specs.declared.line.Line.{Line}
+use Rattle.lines.specs.declared.line.Line.the-variants.{Number, Misshapen}
+use Rattle.sections.specs.declared.table.Fault.{Fault}
+use Rattle.sections.specs.declared.table.Fault.the-variants.{None, At}
+use Rattle.lines.specs.Lines.{lines}
+use Rattle.plan.specs.Plan.{Reading, check, needed, many, prices, or-fault, bids, ending, read, read-prices, read-bids}
+use Rattle.sections.specs.Sections.{next-price, table-fault}
 use Rattle.rehearsal.specs.Listing.{printed, listing}
 
 -- ---- readings that are printed alike, section by section

@@ -1,51 +1,14 @@
 -- The listing: what the rehearsal prints for its input. Assumes nothing.
-use mathlib.Core.List.{List, [], _∷_, _++_}
-use Prim.Native.Nat.{ℕ, zero, suc, _-_, _*_}
-use lib.ListN.{length, getD}
+use mathlib.Core.List.{List}
+use Prim.Native.Nat.{ℕ, _-_}
+use lib.ListN.{getD}
 use Rattle.search.specs.Bracket.{start}
 use Rattle.search.specs.Limit.{limit}
 use Rattle.search.specs.Search.{promise, trail}
 use Rattle.auction.specs.Auction.{Auction, demand, supply, clearing-answer}
-use Rattle.plan.specs.Lines.{lines}
+use Rattle.lines.specs.Lines.{lines}
 use Rattle.plan.specs.Plan.{Plan, Reading, faulty, accepted, read}
-use Rattle.rehearsal.specs.Text.{decimal}
-
-abbrev newline : List ℕ
-newline = 10 ∷ []
-
-abbrev space : List ℕ
-space = 32 ∷ []
-
--- "It prints only `refused`, number, `line` and the first faulty line's number"
-unfoldable pub refused-line : (number line : ℕ) → List ℕ
-refused-line number line =
-    (114 ∷ 101 ∷ 102 ∷ 117 ∷ 115 ∷ 101 ∷ 100 ∷ 32 ∷ []) ++ (decimal number ++ ((32 ∷ 108 ∷ 105 ∷ 110 ∷ 101 ∷ 32 ∷ []) ++ (decimal line ++ newline)))
-
--- "probe number, index, verdict": `probe`, `index` and `verdict`, each before its number
-unfoldable pub probe-line : (probe : ℕ) → ℕ × ℕ → List ℕ
-probe-line probe p =
-    (112 ∷ 114 ∷ 111 ∷ 98 ∷ 101 ∷ 32 ∷ [])
-    ++ (decimal probe ++ ((32 ∷ 105 ∷ 110 ∷ 100 ∷ 101 ∷ 120 ∷ 32 ∷ [])
-    ++ (decimal (p .0) ++ ((32 ∷ 118 ∷ 101 ∷ 114 ∷ 100 ∷ 105 ∷ 99 ∷ 116 ∷ 32 ∷ []) ++ (decimal (p .1) ++ newline)))))
-
--- a line for each probe, the first with the given number
-unfoldable pub probe-lines : (probe : ℕ) → List (ℕ × ℕ) → List ℕ
-probe-lines probe [] = []
-probe-lines probe (p ∷ ps) = probe-line probe p ++ probe-lines (suc probe) ps
-
--- "answer and its price (`clears 0 none` when there is none)"
-unfoldable pub clears-line : (answer price : ℕ) → List ℕ
-clears-line zero price = 99 ∷ 108 ∷ 101 ∷ 97 ∷ 114 ∷ 115 ∷ 32 ∷ 48 ∷ 32 ∷ 110 ∷ 111 ∷ 110 ∷ 101 ∷ newline
-clears-line (suc i) price =
-    (99 ∷ 108 ∷ 101 ∷ 97 ∷ 114 ∷ 115 ∷ 32 ∷ []) ++ (decimal (suc i) ++ (space ++ (decimal price ++ newline)))
-
--- `rounds`, and "33 times probes"
-unfoldable pub rounds-line : (probes : ℕ) → List ℕ
-rounds-line probes = (114 ∷ 111 ∷ 117 ∷ 110 ∷ 100 ∷ 115 ∷ 32 ∷ []) ++ (decimal (33 * probes) ++ newline)
-
--- what is printed of a search: its probes, the answer with its price, and the rounds
-abbrev pub search-lines : List (ℕ × ℕ) → (answer price : ℕ) → List ℕ
-search-lines probes answer price = probe-lines 1 probes ++ (clears-line answer price ++ rounds-line (length probes))
+use Rattle.listing.specs.Lines.{refused-line, search-lines}
 
 -- the auction of a plan, which no seed changes
 abbrev pub auction : Plan → Auction
@@ -62,10 +25,3 @@ printed (accepted p) = search-lines (plan-trail p) (clearing-answer (auction p))
 -- the bytes of the listing, from the bytes of the input
 abbrev pub listing : List ℕ → List ℕ
 listing bytes = printed (read (lines bytes))
-
--- ---- a course of a search that is kept in two lists
-
--- the first m probes
-unfoldable pub course-trail : (index verdict : List ℕ) → ℕ → List (ℕ × ℕ)
-course-trail index verdict zero = []
-course-trail index verdict (suc m) = course-trail index verdict m ++ ((getD index m 0, getD verdict m 0) ∷ [])

@@ -1,9 +1,9 @@
 // From the bytes of the input to the bytes of the listing.
-ghost use Rattle.rehearsal.specs.Text.{Wrote};
+ghost use Rattle.listing.specs.Text.{Wrote};
 ghost use Rattle.rehearsal.specs.Listing.{listing};
-use crate::course::write_course;
-use crate::course::write_refused;
 use crate::running::run;
+use listing::write_course;
+use listing::write_refused;
 use plan::Judged;
 use plan::judge;
 
@@ -15,6 +15,6 @@ pub fn rehearse(input: &[u8], out: &mut [u8; 1024]) -> usize
     let judged = judge(input);
     match judged {
         Judged::Faulty(number, line) => write_refused(number, line, out),
-        Judged::Good(shape) => write_course(input, shape, run(input, shape), out),
+        Judged::Good(shape) => { write_course(input, shape.prices_at, run(input, shape), out) },
     }
 }

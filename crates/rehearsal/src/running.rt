@@ -3,42 +3,18 @@ ghost use mathlib.Core.Path.{_≡_};
 ghost use Prim.Native.Nat.{_*_, _≤_};
 ghost use lib.ListN.{length, drop};
 ghost use Rattle.search.specs.Limit.{limit};
-ghost use Rattle.sharing.specs.Scheme.{threshold};
 ghost use Rattle.auction.specs.Auction.{IsAuction};
-ghost use Rattle.auction.proofs.Closed.{polynomials};
 ghost use Rattle.plan.specs.declared.judging.Judged.the-variants.{Good};
 ghost use Rattle.plan.specs.Judged.{judged-as};
-ghost use Rattle.draws.specs.Draws.{first-state, after-bids, auction-coins};
-ghost use Rattle.rehearsal.specs.Bidden.{auction-of, Holds};
-ghost use Rattle.rehearsal.specs.Follows.{Follows, Right};
-use crate::adding::Added;
-use crate::adding::add_bids;
-use crate::course::Course;
-use crate::parties::open_all;
-use crate::searching::search;
-use crate::sheets::deal_all;
-use draws::first_state;
+ghost use Rattle.standing.proofs.Standing.{auction-of};
+ghost use Rattle.probing.specs.Follows.{Follows};
+ghost use Rattle.rehearsal.specs.Right.{Right};
+use listing::Course;
 use plan::Shape;
+use probing::search;
 use search::limit;
-
-// Opens the sessions, and adds the bids that begin at `at`.
-fn collect(
-    n: u64,
-    seed: u64,
-    k: u64,
-    bids: u64,
-    input: &[u8],
-    at: usize,
-    totals: &mut [u64],
-) -> Added
-    requires { ⌜ (k ≤ 256) × (bids ≤ 1000) × IsAuction (auction-of n k bids (drop at (now input))) × (length (now totals) ≡ n * (2 * k)) ⌝ }
-    ensures { λ r. ⌜ (r .state ≡ after-bids (threshold n) k bids (first-state seed))
-        × Holds (auction-of n k bids (drop at (now (input .entry)))) bids
-        (polynomials (auction-of n k bids (drop at (now (input .entry)))) (auction-coins n k bids seed)) (r .parties) (now (totals .exit)) ⌝ }
-{
-    let parties = open_all(n, k, totals);
-    add_bids(n, k, bids, input, at, first_state(seed), parties, totals)
-}
+use setup::collect;
+use setup::deal_all;
 
 // The auction, in slices lent for the parties' totals and sheets.
 fn hold(

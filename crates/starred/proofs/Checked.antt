@@ -14,9 +14,10 @@ use Rattle.refusal.specs.Judging.{judged}
 use Rattle.ranges.specs.Lists.{from, every}
 use Rattle.sharing.specs.Polynomial.{value}
 use Rattle.ranges.specs.Sizes.{party, listed, long}
-use Rattle.sharing.specs.Scheme.{amount-scheme}
-use Rattle.sharing.specs.Opening.{products, total, moments, readable, settled, opened}
-use Rattle.sharing.specs.declared.opening.Opening.the-variants.{Inconsistent}
+use Rattle.weights.specs.Rows.{amount-scheme}
+use Rattle.weights.specs.Products.{products}
+use Rattle.openings.specs.Opening.{total, moments, readable, settled, opened}
+use Rattle.openings.specs.declared.opening.Opening.the-variants.{Inconsistent}
 use Rattle.search.specs.Bracket.{middle, over}
 use Rattle.search.specs.Limit.{digits, limit}
 use Rattle.verdict.specs.Verdict.{verdict}
@@ -25,17 +26,19 @@ use Rattle.comparison.specs.Probe.{Probe}
 use Rattle.comparison.proofs.Dealt.{shared-cons}
 use Rattle.comparison.proofs.Promise as promise
 use Rattle.comparison.proofs.Promise.{sum-law, promised}
-use Rattle.party.specs.declared.record.Party.{Party}
-use Rattle.party.specs.declared.record.Said.the-variants.{Message}
-use Rattle.party.specs.Record.{sound}
-use Rattle.party.specs.Open.{fresh}
-use Rattle.party.specs.Say as saying
-use Rattle.party.specs.Say.{current, in-field, message, say-judgement, say-reply}
-use Rattle.party.specs.Hear.{heard, unopened, hear-judgement}
-use Rattle.party.proofs.Judging.{refuses, passes}
-use Rattle.party.proofs.Soundness.{sound-of}
-use Rattle.party.proofs.Laws.{says}
-use Rattle.party.proofs.Hears.{was-said, by-messages}
+use Rattle.session.specs.declared.record.Party.{Party}
+use Rattle.saying.specs.declared.Said.the-variants.{Message}
+use Rattle.session.specs.Record.{sound}
+use Rattle.session.specs.Open.{fresh}
+use Rattle.saying.specs.Say as saying
+use Rattle.saying.specs.Say.{current, in-field, message, say-judgement, say-reply}
+use Rattle.round.specs.Round.{heard, unopened}
+use Rattle.hearing.specs.Hear.{hear-judgement}
+use Rattle.session.proofs.Judging.{refuses, passes}
+use Rattle.session.proofs.Soundness.{sound-of}
+use Rattle.saying.proofs.Laws.{says}
+use Rattle.saying.proofs.Laws.{was-said}
+use Rattle.hearing.proofs.Hears.{by-messages}
 use Rattle.starred.specs.Starred.{with-73, compared, Compares, Starred}
 
 -- ---- "With 73 last: refusal 10"

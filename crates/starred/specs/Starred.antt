@@ -7,16 +7,17 @@ use Rattle.fields.specs.Amount.{p, amounts}
 use Rattle.fields.specs.Byte.{bytes}
 use Rattle.refusal.specs.Refusal.{codeOf}
 use Rattle.sharing.specs.Polynomial.{shares}
-use Rattle.sharing.specs.Scheme.{points, amount-scheme}
-use Rattle.sharing.specs.Opening.{opened}
-use Rattle.sharing.specs.declared.opening.Opening.the-variants.{Secret}
+use Rattle.sharing.specs.Scheme.{points}
+use Rattle.weights.specs.Rows.{amount-scheme}
+use Rattle.openings.specs.Opening.{opened}
+use Rattle.openings.specs.declared.opening.Opening.the-variants.{Secret}
 use Rattle.comparison.specs.Rounds.{offset}
 use Rattle.comparison.specs.Probe.{Group, Coins, InRange, Probe, dealt, secret, opened-sum, last-polynomial}
-use Rattle.party.specs.declared.record.Party.{Party}
-use Rattle.party.specs.declared.record.Said.the-variants.{Message}
-use Rattle.party.specs.Open.{fresh}
-use Rattle.party.specs.Say.{say-reply}
-use Rattle.party.specs.Hear.{hear-judgement}
+use Rattle.session.specs.declared.record.Party.{Party}
+use Rattle.saying.specs.declared.Said.the-variants.{Message}
+use Rattle.session.specs.Open.{fresh}
+use Rattle.saying.specs.Say.{say-reply}
+use Rattle.hearing.specs.Hear.{hear-judgement}
 
 -- words of five parties through which no polynomial of degree at most 2 passes
 abbrev pub with-73 : List ℕ

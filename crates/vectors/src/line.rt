@@ -1,34 +1,4 @@
-// A line of the listing: its title, the values after it, and its end.
-use libc::STDOUT_FILENO;
-
-pub(crate) fn title(text: &[u8]) {
-    io::write_all(STDOUT_FILENO, text);
-}
-
-pub(crate) fn number(n: u64) {
-    io::write_all(STDOUT_FILENO, b" ");
-    io::print_decimal(STDOUT_FILENO, n);
-}
-
-// Two hexadecimal digits.
-pub(crate) fn byte(b: u8) {
-    io::write_all(STDOUT_FILENO, b" ");
-    io::print_hex(STDOUT_FILENO, b as u64, 2);
-}
-
-pub(crate) fn word(text: &[u8]) {
-    io::write_all(STDOUT_FILENO, b" ");
-    io::write_all(STDOUT_FILENO, text);
-}
-
-pub(crate) fn end() {
-    io::write_all(STDOUT_FILENO, b"\n");
-}
-
-pub(crate) fn numbers(words: &[u64]) {
-    let mut i = 0;
-    while i < words.len() {
-        number(words[i]);
-        i += 1;
-    }
-}
+// A line of the report, by a short name.
+pub(crate) use report::end;
+pub(crate) use report::number;
+pub(crate) use report::title;

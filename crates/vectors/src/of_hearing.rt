@@ -3,11 +3,11 @@
 // changes one of them. A call prints its refusal's number, or 0.
 ghost use Prim.Native.Nat.{_<_};
 use crate::line;
-use crate::of_dealer::fill;
-use crate::of_party::code;
-use crate::of_party::record;
 use fields::P;
-use party::Party;
+use session::Party;
+use worked_party::code;
+use worked_party::record;
+use worked_shares::fill;
 
 // 2^59 + 2^32 - 7 + 5 - 3.
 const SUM: u64 = (1 << 59) + (1 << 32) - 5;
@@ -190,7 +190,7 @@ fn verdicts() {
 
 fn heard(q: Party, messages: &[u64]) {
     let sheet = dealt();
-    record(party::hear(q, &[2005, 4003], &sheet, messages));
+    record(hearing::hear(q, &[2005, 4003], &sheet, messages));
 }
 
 fn hears(q: Party, messages: &[u64]) {
@@ -212,7 +212,7 @@ fn of_sheet(q: Party, at: usize, word: u64, messages: &[u64])
 }
 
 fn call(q: Party, totals: &[u64], sheets: &[u64], messages: &[u64]) {
-    line::number(code(party::hear(q, totals, sheets, messages)));
+    line::number(code(hearing::hear(q, totals, sheets, messages)));
 }
 
 // Party 2's sheet. It was dealt with bytes that follow a rule.

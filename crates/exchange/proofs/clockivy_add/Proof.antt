@@ -2,13 +2,13 @@
 use mathlib.Core.Path.{_≡_, sym, ap, _∙_}
 use Prim.Native.Nat.{ℕ}
 use mathlib.Core.List.{List}
+use lib.ListN.{length}
 use Rattle.refusal.specs.Refusal.{codeOf}
-use Rattle.refusal.proofs.Judging.{kept-old}
-use Rattle.party.specs.declared.record.Party.{Party}
-use Rattle.party.specs.Add.{add-judgement, counted, add-reply, add-left}
-use Rattle.exchange.specs.Record.{party-of}
-use Rattle.exchange.specs.Calls.{adding}
-use Rattle.exchange.proofs.Judging.{on-record, no-record, code-given, record-given, words-kept}
+use Rattle.session.specs.declared.record.Party.{Party}
+use Rattle.session.specs.declared.record.Reply.{Reply}
+use Rattle.session.specs.Add.{add-reply, add-left}
+use Rattle.exchange.specs.Record.{party-of, stored}
+use Rattle.exchange.proofs.Judging.{with-record, no-record}
 use borrow.Author.Needs.{needs}
 use Rattle.exchange.proofs.clockivy_add.Statement.{statement}
 use Rattle.exchange.proofs.clockivy_add.Tie as tie
@@ -18,9 +18,9 @@ number-requires c κs = search needs
 
 returns : tie.Need-returns
 returns c =
-    let a = c .before .before .before .before .before .args in
-    let j = no-record (a .words .now) (add-judgement (party-of (a .words .now)) (a .totals .now) (a .shares .now)) (c .before .if1 .taken) in
-    (c .number .ensures ∙ sym (ap codeOf j), sym (kept-old _ _ _ _ j), sym (kept-old _ _ _ _ j))
+    let words = c .before .before .before .before .before .args .words .now in
+    let no = c .before .if1 .taken in
+    (c .number .ensures ∙ sym (no-record words _ _ no), sym (no-record words _ _ no), sym (no-record words _ _ no))
 
 read-requires : tie.Need-read-requires
 read-requires c κs = search needs
@@ -51,8 +51,8 @@ module _ (c : tie.After-add) where
   abbrev shares : List ℕ
   shares = start .args .shares .now
 
-  same : adding words totals shares ≡ add-judgement (party-of words) totals shares
-  same = on-record words _ (c .before .before .before .before .if1 .left)
+  ten : length words ≡ 10
+  ten = c .before .before .before .before .if1 .left
 
   given : c .add .result ≡ add-reply (party-of words) totals shares
   given = c .add .ensures .0 ∙ ap (λ (q : Party). add-reply q totals shares) (c .before .before .read .ensures)
@@ -60,10 +60,10 @@ module _ (c : tie.After-add) where
 returns-2 : tie.Need-returns-2
 returns-2 c =
     let d = c .before .before .before .before .before .before in
-    let stored = c .before .before .store .ensures in (
-      stored .0 ∙ code-given _ _ (counted (party-of (words d))) _ (same d) (given d),
-      stored .1 ∙ record-given _ _ (counted (party-of (words d))) _ (same d) (given d) (words d),
-      d .add .ensures .1 ∙ ap (λ (q : Party). add-left q (totals d) (shares d)) (d .before .before .read .ensures) ∙ words-kept _ _ _ _ (same d),
+    let s = c .before .before .store .ensures in (
+      s .0 ∙ ap (λ (r : Reply). codeOf (r .judgement)) (given d) ∙ sym (with-record (words d) _ _ (ten d)),
+      s .1 ∙ ap (λ (r : Reply). stored r (words d)) (given d) ∙ sym (with-record (words d) _ _ (ten d)),
+      d .add .ensures .1 ∙ ap (λ (q : Party). add-left q (totals d) (shares d)) (d .before .before .read .ensures) ∙ sym (with-record (words d) _ _ (ten d)),
     )
 
 pub clockivy-add-spec : {M : Type 1} → statement M

@@ -2,12 +2,12 @@
 use mathlib.Core.Path.{_≡_, sym, ap, _∙_}
 use Prim.Native.Nat.{ℕ}
 use mathlib.Core.List.{List}
-use Rattle.refusal.specs.Refusal.{codeOf}
-use Rattle.refusal.proofs.Judging.{kept-new, kept-old}
-use Rattle.party.specs.Answer.{answer-judgement, answer-reply}
+use lib.ListN.{length}
+use Rattle.session.specs.declared.record.Answer.{Answer}
+use Rattle.session.specs.Answer.{answer-reply, answer-number, cleared-index, cleared-probes}
 use Rattle.exchange.specs.Record.{party-of}
-use Rattle.exchange.specs.Calls.{answering}
-use Rattle.exchange.proofs.Judging.{on-record, no-record, was-cleared, not-cleared}
+use Rattle.exchange.specs.Calls.{answer-code, answer-index, answer-probes}
+use Rattle.exchange.proofs.Judging.{with-record, no-record}
 use borrow.Author.Needs.{needs}
 use Rattle.exchange.proofs.clockivy_answer.Statement.{statement}
 use Rattle.exchange.proofs.clockivy_answer.Tie as tie
@@ -17,9 +17,9 @@ number-requires c κs = search needs
 
 returns : tie.Need-returns
 returns c =
-    let a = c .before .before .before .args in
-    let j = no-record (a .words .now) (answer-judgement (party-of (a .words .now))) (c .before .if1 .taken) in
-    (c .number .ensures ∙ sym (ap codeOf j), sym (kept-old _ _ _ _ j), sym (kept-old _ _ _ _ j))
+    let words = c .before .before .before .args .words .now in
+    let no = c .before .if1 .taken in
+    (c .number .ensures ∙ sym (no-record words _ _ no), sym (no-record words _ _ no), sym (no-record words _ _ no))
 
 read-requires : tie.Need-read-requires
 read-requires c κs = search needs
@@ -41,24 +41,33 @@ module _ (c : tie.After-answer) where
   abbrev words : List ℕ
   words = c .before .before .before .before .args .words .now
 
-  same : answering words ≡ answer-judgement (party-of words)
-  same = on-record words _ (c .before .before .if1 .left)
+  ten : length words ≡ 10
+  ten = c .before .before .if1 .left
 
-  given : c .answer .result ≡ answer-reply (party-of words)
-  given = c .answer .ensures ∙ ap answer-reply (c .before .read .ensures)
+  -- the answer, as it was matched
+  given : (a : Answer) → c .answer .result ≡ a → answer-reply (party-of words) ≡ a
+  given a e = sym (c .answer .ensures ∙ ap answer-reply (c .before .read .ensures)) ∙ e
+
+  number : (a : Answer) → c .answer .result ≡ a → answer-code words ≡ answer-number a
+  number a e = with-record words _ _ ten ∙ ap answer-number (given a e)
+
+  index : (a : Answer) (old : ℕ) → c .answer .result ≡ a → answer-index words old ≡ cleared-index a old
+  index a old e = with-record words _ _ ten ∙ ap (λ (r : Answer). cleared-index r old) (given a e)
+
+  made : (a : Answer) (old : ℕ) → c .answer .result ≡ a → answer-probes words old ≡ cleared-probes a old
+  made a old e = with-record words _ _ ten ∙ ap (λ (r : Answer). cleared-probes r old) (given a e)
 
 returns-2 : tie.Need-returns-2
 returns-2 c =
     let d = c .before .before .before in
-    let s = was-cleared (party-of (words d)) (answer-judgement (party-of (words d))) _ _ (sym (given d) ∙ c .before .price .given .1) in
-    let j = same d ∙ s .0 in
-    (sym (ap codeOf j), s .1 ∙ sym (kept-new _ _ _ j), s .2 ∙ sym (kept-new _ _ _ j))
+    let e = c .before .price .given .1 in
+    (sym (number d _ e), sym (index d _ _ e), sym (made d _ _ e))
 
 returns-3 : tie.Need-returns-3
 returns-3 c =
     let d = c .before .before .before .before in
-    let j = same d ∙ not-cleared (party-of (words d)) (answer-judgement (party-of (words d))) _ (sym (given d) ∙ c .before .before .why .given .1) in
-    (c .number2 .ensures ∙ sym (ap codeOf j), sym (kept-old _ _ _ _ j), sym (kept-old _ _ _ _ j))
+    let e = c .before .before .why .given .1 in
+    (c .number2 .ensures ∙ sym (number d _ e), sym (index d _ _ e), sym (made d _ _ e))
 
 pub clockivy-answer-spec : {M : Type 1} → statement M
 clockivy-answer-spec =

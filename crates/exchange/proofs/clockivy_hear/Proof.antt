@@ -2,13 +2,13 @@
 use mathlib.Core.Path.{_≡_, sym, ap, _∙_}
 use Prim.Native.Nat.{ℕ}
 use mathlib.Core.List.{List}
+use lib.ListN.{length}
 use Rattle.refusal.specs.Refusal.{codeOf}
-use Rattle.refusal.proofs.Judging.{kept-old}
-use Rattle.party.specs.declared.record.Party.{Party}
-use Rattle.party.specs.Hear.{hear-judgement, hear-reply}
-use Rattle.exchange.specs.Record.{party-of}
-use Rattle.exchange.specs.Calls.{hearing, heard-party}
-use Rattle.exchange.proofs.Judging.{on-record, no-record, code-given, record-given}
+use Rattle.session.specs.declared.record.Party.{Party}
+use Rattle.session.specs.declared.record.Reply.{Reply}
+use Rattle.hearing.specs.Hear.{hear-reply}
+use Rattle.exchange.specs.Record.{party-of, stored}
+use Rattle.exchange.proofs.Judging.{with-record, no-record}
 use borrow.Author.Needs.{needs}
 use Rattle.exchange.proofs.clockivy_hear.Statement.{statement}
 use Rattle.exchange.proofs.clockivy_hear.Tie as tie
@@ -18,9 +18,9 @@ number-requires c κs = search needs
 
 returns : tie.Need-returns
 returns c =
-    let a = c .before .before .before .before .before .before .args in
-    let j = no-record (a .words .now) (hear-judgement (party-of (a .words .now)) (a .totals .now) (a .sheets .now) (a .messages .now)) (c .before .if1 .taken) in
-    (c .number .ensures ∙ sym (ap codeOf j), sym (kept-old _ _ _ _ j))
+    let words = c .before .before .before .before .before .before .args .words .now in
+    let no = c .before .if1 .taken in
+    (c .number .ensures ∙ sym (no-record words _ _ no), sym (no-record words _ _ no))
 
 read-requires : tie.Need-read-requires
 read-requires c κs = search needs
@@ -51,8 +51,8 @@ module _ (c : tie.After-hear) where
   abbrev messages : List ℕ
   messages = start .args .messages .now
 
-  same : hearing words totals sheets messages ≡ hear-judgement (party-of words) totals sheets messages
-  same = on-record words _ (c .before .before .before .if1 .left)
+  ten : length words ≡ 10
+  ten = c .before .before .before .if1 .left
 
   given : c .hear .result ≡ hear-reply (party-of words) totals sheets messages
   given = c .hear .ensures ∙ ap (λ (q : Party). hear-reply q totals sheets messages) (c .before .read .ensures)
@@ -60,10 +60,9 @@ module _ (c : tie.After-hear) where
 returns-2 : tie.Need-returns-2
 returns-2 c =
     let d = c .before .before .before .before in
-    let stored = c .before .before .store .ensures in
-    let next = heard-party (words d) (totals d) (sheets d) (messages d) in (
-      stored .0 ∙ code-given _ _ next _ (same d) (given d),
-      stored .1 ∙ record-given _ _ next _ (same d) (given d) (words d),
+    let s = c .before .before .store .ensures in (
+      s .0 ∙ ap (λ (r : Reply). codeOf (r .judgement)) (given d) ∙ sym (with-record (words d) _ _ (ten d)),
+      s .1 ∙ ap (λ (r : Reply). stored r (words d)) (given d) ∙ sym (with-record (words d) _ _ (ten d)),
     )
 
 pub clockivy-hear-spec : {M : Type 1} → statement M

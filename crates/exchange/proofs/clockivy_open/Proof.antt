@@ -1,11 +1,12 @@
 -- `clockivy_open` meets its contract: the ranges, then the lengths, then `open`. Assumes nothing.
 use mathlib.Core.Path.{_≡_, sym, ap, _∙_}
-use Rattle.refusal.specs.Refusal.{codeOf}
 use mathlib.Core.Bool.{not}
+use Rattle.refusal.specs.Refusal.{codeOf}
 use Rattle.refusal.proofs.Judging.{kept-old}
-use Rattle.party.specs.Open.{open-judgement, fresh}
-use Rattle.exchange.specs.Calls.{opening}
-use Rattle.exchange.proofs.Judging.{off-list, opens-nothing, opens, code-given, record-given, words-kept}
+use Rattle.session.specs.declared.record.Reply.{Reply}
+use Rattle.session.proofs.Judging.{reply-judgement}
+use Rattle.exchange.specs.Record.{stored}
+use Rattle.exchange.proofs.Judging.{with-record, no-record, left-alone, off-list, first-refused, opens-nothing, opens}
 use borrow.Author.Needs.{needs}
 use Rattle.exchange.proofs.clockivy_open.Statement.{statement}
 use Rattle.exchange.proofs.clockivy_open.Tie as tie
@@ -20,8 +21,12 @@ returns : tie.Need-returns
 returns c =
     let o = c .before .before in
     let a = o .before .before .before .args in
-    let j = off-list (a .n) (a .own) (a .k) (a .totals .now) (a .words .now) (ap not (sym (o .on-list .ensures)) ∙ c .before .if1 .taken) in
-    (c .number .ensures ∙ sym (ap codeOf j), sym (kept-old _ _ _ _ j), sym (kept-old _ _ _ _ j))
+    let words = a .words .now in
+    let j = off-list (a .n) (a .own) (a .k) (a .totals .now) words (ap not (sym (o .on-list .ensures)) ∙ c .before .if1 .taken) in (
+      c .number .ensures ∙ sym (ap codeOf (first-refused _ _ _ _ words _ j)),
+      sym (left-alone words _ _ (kept-old _ _ _ _ j)),
+      sym (left-alone words _ _ (kept-old _ _ _ _ (reply-judgement _ _ _ ∙ j))),
+    )
 
 number-requires-2 : tie.Need-number-requires-2
 number-requires-2 c κs = search needs
@@ -31,8 +36,10 @@ returns-2 c =
     let e = c .before .before in
     let o = e .before in
     let a = o .before .before .before .args in
-    let j = opens-nothing (a .n) (a .own) (a .k) (a .totals .now) (a .words .now) (ap not (sym (o .on-list .ensures)) ∙ e .if1 .left) (c .before .if2 .taken) in
-    (c .number2 .ensures ∙ sym (ap codeOf j), sym (kept-old _ _ _ _ j), sym (kept-old _ _ _ _ j))
+    let words = a .words .now in
+    let no = c .before .if2 .taken in
+    let j = opens-nothing (a .n) (a .own) (a .k) (a .totals .now) words (ap not (sym (o .on-list .ensures)) ∙ e .if1 .left) no in
+    (c .number2 .ensures ∙ sym (ap codeOf j), sym (no-record words _ _ no), sym (no-record words _ _ no))
 
 open-requires : tie.Need-open-requires
 open-requires c κs = search needs
@@ -51,12 +58,13 @@ returns-3 c =
     let d = c .before .before .before .before .before .before in
     let e = d .before .before in
     let a = e .before .before .before .before .before .args in
-    let next = fresh (a .n) (a .own) (a .k) in
-    let same : opening (a .n) (a .own) (a .k) (a .totals .now) (a .words .now) ≡ open-judgement (a .n) (a .own) (a .k) (a .totals .now) = opens _ _ _ (a .totals .now) (a .words .now) (e .if2 .left) in
-    let stored = c .before .before .store .ensures in (
-      stored .0 ∙ code-given _ _ next _ same (d .«open» .ensures .0),
-      d .«open» .ensures .1 ∙ words-kept _ _ _ _ same,
-      stored .1 ∙ record-given _ _ next _ same (d .«open» .ensures .0) (a .words .now),
+    let words = a .words .now in
+    let ten = e .if2 .left in
+    let given = d .«open» .ensures in
+    let s = c .before .before .store .ensures in (
+      s .0 ∙ ap (λ (r : Reply). codeOf (r .judgement)) (given .0) ∙ ap codeOf (reply-judgement _ _ _ ∙ sym (opens (a .n) (a .own) (a .k) (a .totals .now) words ten)),
+      given .1 ∙ sym (with-record words _ _ ten),
+      s .1 ∙ ap (λ (r : Reply). stored r words) (given .0) ∙ sym (with-record words _ _ ten),
     )
 
 pub clockivy-open-spec : {M : Type 1} → statement M

@@ -2,14 +2,13 @@
 use mathlib.Core.Path.{_≡_, sym, ap, _∙_}
 use Prim.Native.Nat.{ℕ}
 use mathlib.Core.List.{List}
-use Rattle.refusal.specs.Refusal.{codeOf}
-use Rattle.refusal.proofs.Judging.{kept-new, kept-old}
-use Rattle.party.specs.declared.record.Party.{Party}
-use Rattle.party.specs.Say.{say-judgement, say-reply}
-use Rattle.party.proofs.Hears.{was-said, was-refused}
+use lib.ListN.{length}
+use Rattle.session.specs.declared.record.Party.{Party}
+use Rattle.saying.specs.declared.Said.{Said}
+use Rattle.saying.specs.Say.{say-reply, said-number, said-word}
 use Rattle.exchange.specs.Record.{party-of}
-use Rattle.exchange.specs.Calls.{saying}
-use Rattle.exchange.proofs.Judging.{on-record, no-record}
+use Rattle.exchange.specs.Calls.{say-code, say-message}
+use Rattle.exchange.proofs.Judging.{with-record, no-record}
 use borrow.Author.Needs.{needs}
 use Rattle.exchange.proofs.clockivy_say.Statement.{statement}
 use Rattle.exchange.proofs.clockivy_say.Tie as tie
@@ -19,9 +18,9 @@ number-requires c κs = search needs
 
 returns : tie.Need-returns
 returns c =
-    let a = c .before .before .before .before .before .args in
-    let j = no-record (a .words .now) (say-judgement (party-of (a .words .now)) (a .totals .now) (a .sheets .now)) (c .before .if1 .taken) in
-    (c .number .ensures ∙ sym (ap codeOf j), sym (kept-old _ _ _ _ j))
+    let words = c .before .before .before .before .before .args .words .now in
+    let no = c .before .if1 .taken in
+    (c .number .ensures ∙ sym (no-record words _ _ no), sym (no-record words _ _ no))
 
 read-requires : tie.Need-read-requires
 read-requires c κs = search needs
@@ -52,24 +51,29 @@ module _ (c : tie.After-say) where
   abbrev sheets : List ℕ
   sheets = start .args .sheets .now
 
-  same : saying words totals sheets ≡ say-judgement (party-of words) totals sheets
-  same = on-record words _ (c .before .before .if1 .left)
+  ten : length words ≡ 10
+  ten = c .before .before .if1 .left
 
-  given : c .say .result ≡ say-reply (party-of words) totals sheets
-  given = c .say .ensures ∙ ap (λ (q : Party). say-reply q totals sheets) (c .before .read .ensures)
+  -- what was said, as it was matched
+  given : (s : Said) → c .say .result ≡ s → say-reply (party-of words) totals sheets ≡ s
+  given s e = sym (c .say .ensures ∙ ap (λ (q : Party). say-reply q totals sheets) (c .before .read .ensures)) ∙ e
+
+  number : (s : Said) → c .say .result ≡ s → say-code words totals sheets ≡ said-number s
+  number s e = with-record words _ _ ten ∙ ap said-number (given s e)
+
+  word : (s : Said) (old : ℕ) → c .say .result ≡ s → say-message words totals sheets old ≡ said-word s old
+  word s old e = with-record words _ _ ten ∙ ap (λ (r : Said). said-word r old) (given s e)
 
 returns-2 : tie.Need-returns-2
 returns-2 c =
     let d = c .before .before .before in
-    let s = was-said (say-judgement (party-of (words d)) (totals d) (sheets d)) _ _ (sym (given d) ∙ c .before .word .given .1) in
-    let j = same d ∙ s .0 in
-    (sym (ap codeOf j), s .1 ∙ sym (kept-new _ _ _ j))
+    (sym (number d _ (c .before .word .given .1)), sym (word d _ _ (c .before .word .given .1)))
 
 returns-3 : tie.Need-returns-3
 returns-3 c =
     let d = c .before .before .before .before in
-    let j = same d ∙ was-refused (say-judgement (party-of (words d)) (totals d) (sheets d)) _ _ (sym (given d) ∙ c .before .before .why .given .1) in
-    (c .number2 .ensures ∙ sym (ap codeOf j), sym (kept-old _ _ _ _ j))
+    let e = c .before .before .why .given .1 in
+    (c .number2 .ensures ∙ sym (number d _ e), sym (word d _ _ e))
 
 pub clockivy-say-spec : {M : Type 1} → statement M
 clockivy-say-spec =

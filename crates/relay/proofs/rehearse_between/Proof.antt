@@ -2,7 +2,7 @@
 use mathlib.Core.Path.{sym}
 use lib.Seq.{length-take-le}
 use native.Mathlib.Omega.{arith}
-use Rattle.rehearsal.proofs.Writing.{length-wrote}
+use Rattle.listing.proofs.Writing.{length-wrote}
 use borrow.Author.Needs.{needs}
 use Rattle.relay.proofs.rehearse_between.Statement.{statement}
 use Rattle.relay.proofs.rehearse_between.Tie as tie

@@ -1,19 +1,19 @@
--- `store` meets its contract, reply by reply. Assumes nothing.
+-- `store` meets its contract, judgement by judgement. Assumes nothing.
 use mathlib.Core.Path.{sym, ap, _∙_}
-use Rattle.party.specs.declared.record.Reply.{Reply}
-use Rattle.exchange.specs.Record.{reply-code, reply-record}
+use Rattle.refusal.specs.Refusal.{codeOf}
+use Rattle.refusal.proofs.Judging.{kept-new, kept-old}
 use borrow.Author.Needs.{needs}
 use Rattle.exchange.proofs.record.store.Statement.{statement}
 use Rattle.exchange.proofs.record.store.Tie as tie
 
-enum-known-reply : tie.Need-enum-known-reply
-enum-known-reply c = search needs
+enum-told : tie.Need-enum-told
+enum-told c = search needs
 
 write-requires : tie.Need-write-requires
 write-requires c κs = search needs
 
-enum-known-reply-2 : tie.Need-enum-known-reply-2
-enum-known-reply-2 c = search needs
+enum-known-judgement : tie.Need-enum-known-judgement
+enum-known-judgement c = search needs
 
 number-requires : tie.Need-number-requires
 number-requires c κs = search needs
@@ -23,23 +23,21 @@ same-length c = search needs
 
 returns : tie.Need-returns
 returns c =
-    let r = c .before .before .before .before .before in
-    let e = r .reply .given .1 in
-    (sym (ap reply-code e), c .before .before .write .ensures ∙ sym (ap (λ (a : Reply). reply-record a (r .before .before .before .args .words .now)) e))
+    let e = c .before .before .before .before .enum-told .given .1 in
+    (sym (ap codeOf e), c .before .before .write .ensures ∙ sym (kept-new _ _ _ e))
 
 returns-2 : tie.Need-returns-2
 returns-2 c =
-    let r = c .before .before in
-    let e = r .reply2 .given .1 in
-    (c .number .ensures ∙ sym (ap reply-code e), sym (ap (λ (a : Reply). reply-record a (r .before .before .before .args .words .now)) e))
+    let e = c .before .before .judgement .given .1 in
+    (c .number .ensures ∙ sym (ap codeOf e), sym (kept-old _ _ _ _ e))
 
 pub store-spec : {M : Type 1} → statement M
 store-spec =
     tie.close
     (tie.spec
-    enum-known-reply
+    enum-told
     write-requires
-    enum-known-reply-2
+    enum-known-judgement
     number-requires
     same-length
     returns

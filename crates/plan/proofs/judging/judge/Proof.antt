@@ -9,12 +9,13 @@ use lib.ListN.{drop}
 use lib.Seq.{length-take-le, drop-drop}
 use borrow.Author.Tests.{not-true, not-false, leb-true}
 use Rattle.ranges.proofs.Loops.{and-right}
-use Rattle.plan.specs.declared.lines.Line.the-variants.{Number}
+use Rattle.lines.specs.declared.line.Line.the-variants.{Number}
 use Rattle.plan.specs.declared.judging.Judged.the-variants.{Faulty}
-use Rattle.plan.specs.Lines.{lines, first-line, line-length, rest, numbers, bytes-of, formed, after}
-use Rattle.plan.specs.Plan.{xor-of, read-prices}
+use Rattle.lines.specs.Lines.{lines, first-line, line-length, rest, numbers, bytes-of, formed, after}
+use Rattle.plan.specs.Plan.{read-prices}
+use Rattle.sections.specs.Sections.{xor-of}
 use Rattle.plan.specs.Judged.{as-judged}
-use Rattle.plan.proofs.Again.{bytes-one, bytes-first, formed-most}
+use Rattle.lines.proofs.Again.{bytes-one, bytes-first, formed-most}
 use Rattle.plan.proofs.Answers.{n-misshapen, n-range, seeds-torn, seeds-all}
 use borrow.Author.Needs.{needs}
 use Rattle.plan.proofs.judging.judge.Statement.{statement}

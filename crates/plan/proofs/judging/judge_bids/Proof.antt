@@ -6,13 +6,14 @@ use native.Mathlib.Nat.{mul-le-mul}
 use native.Mathlib.Omega.{arith}
 use lib.ListN.{length, drop, length-drop}
 use lib.Seq.{length-take-le, drop-drop}
-use Rattle.plan.specs.declared.lines.Line.the-variants.{Number}
-use Rattle.plan.specs.declared.table.Fault.the-variants.{None}
+use Rattle.lines.specs.declared.line.Line.the-variants.{Number}
+use Rattle.sections.specs.declared.table.Fault.the-variants.{None}
 use Rattle.plan.specs.declared.judging.Judged.the-variants.{Good}
-use Rattle.plan.specs.Lines.{first-line, line-length, rest, bytes-of, after}
-use Rattle.plan.specs.Judged.{as-judged, seeds-of, prices-of, bids-fault}
-use Rattle.plan.proofs.Again.{line-more}
-use Rattle.plan.proofs.Bids.{length-tables}
+use Rattle.lines.specs.Lines.{first-line, line-length, rest, bytes-of, after}
+use Rattle.plan.specs.Judged.{as-judged, seeds-of, prices-of}
+use Rattle.sections.specs.Sections.{bids-fault}
+use Rattle.lines.proofs.Again.{line-more}
+use Rattle.sections.proofs.Bids.{length-tables}
 use Rattle.plan.proofs.Answers.{m-misshapen, m-range, bids-bad, one-too-many, all-read}
 use borrow.Author.Needs.{needs}
 use Rattle.plan.proofs.judging.judge_bids.Statement.{statement}

@@ -9,13 +9,14 @@ use lib.ListN.{drop}
 use lib.Seq.{length-take-le, drop-drop}
 use borrow.Author.Tests.{not-true, not-false, leb-true}
 use Rattle.ranges.proofs.Loops.{and-right}
-use Rattle.plan.specs.declared.lines.Line.the-variants.{Number}
+use Rattle.lines.specs.declared.line.Line.the-variants.{Number}
 use Rattle.plan.specs.declared.judging.Judged.the-variants.{Faulty}
-use Rattle.plan.specs.Lines.{lines, first-line, line-length, rest, numbers, bytes-of, after}
+use Rattle.lines.specs.Lines.{lines, first-line, line-length, rest, numbers, bytes-of, after}
 use Rattle.plan.specs.Plan.{read-bids}
-use Rattle.plan.specs.Judged.{as-judged, seeds-of, good-prices}
-use Rattle.plan.proofs.Again.{line-more, bytes-add, after-add}
-use Rattle.plan.proofs.Sections.{good-most}
+use Rattle.plan.specs.Judged.{as-judged, seeds-of}
+use Rattle.sections.specs.Sections.{good-prices}
+use Rattle.lines.proofs.Again.{line-more, bytes-add, after-add}
+use Rattle.sections.proofs.Counts.{good-most}
 use Rattle.plan.proofs.Answers.{k-misshapen, k-range, price-bad, prices-good}
 use borrow.Author.Needs.{needs}
 use Rattle.plan.proofs.judging.judge_prices.Statement.{statement}

@@ -1,6 +1,6 @@
 -- `rehearse` meets its contract. Assumes nothing.
 use mathlib.Core.Path.{sym, _∙_}
-use Rattle.rehearsal.proofs.Writing.{wrote-same}
+use Rattle.listing.proofs.Writing.{wrote-same}
 use Rattle.rehearsal.proofs.Accepted.{judged-faulty, right-listing}
 use borrow.Author.Needs.{needs}
 use Rattle.rehearsal.proofs.rehearsing.rehearse.Statement.{statement}
@@ -39,7 +39,7 @@ returns-2 c =
     let j = k .before .before .before in
     let w = k .before .judged2 .given in
     wrote-same (right-listing (j .before .before .args .input .now) (w .0 .0) (r .run .result) (sym (j .judge .ensures) ∙ w .1) (r .run .ensures))
-    (c .write-course .ensures)
+    (c .write-course .ensures .0 (r .run .ensures .few))
 
 pub rehearse-spec : {M : Type 1} → statement M
 rehearse-spec =

@@ -1,7 +1,7 @@
 -- `hold` meets its contract. Assumes nothing.
 use native.Mathlib.Omega.{arith}
 use lib.ListN.{drop}
-use Rattle.rehearsal.proofs.Holding.{held-follows}
+use Rattle.rehearsal.proofs.Starting.{held-follows}
 use borrow.Author.Needs.{needs}
 use Rattle.rehearsal.proofs.running.hold.Statement.{statement}
 use Rattle.rehearsal.proofs.running.hold.Tie as tie

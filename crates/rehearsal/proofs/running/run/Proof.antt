@@ -3,7 +3,7 @@ use mathlib.Core.Path.{sym, ap, _∙_}
 use Prim.Native.Nat.{ℕ, _*_, _≤_}
 use native.Mathlib.Omega.{arith}
 use lib.Seq.{length-take-le}
-use Rattle.rehearsal.proofs.Parts.{limit-nine}
+use Rattle.panel.proofs.Parts.{limit-nine}
 use Rattle.rehearsal.proofs.Accepted.{Runs, good-runs}
 use borrow.Author.Needs.{needs}
 use Rattle.rehearsal.proofs.running.run.Statement.{statement}

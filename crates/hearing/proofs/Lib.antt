@@ -1,0 +1,3 @@
+-- What the tests of hearing say, for theorems about runs, and lemmas that the functions' proofs share.
+pub mod Hears
+pub mod Next

@@ -1,0 +1,164 @@
+-- The record after a heard round: by the kind of round, its count of probes, and that it is sound. Assumes nothing.
+use mathlib.Core.Path.{_≡_, refl, sym, _∙_}
+use mathlib.Core.Bool.{Bool, true, false, cond}
+use mathlib.Core.List.{List}
+use Prim.Native.Nat.{ℕ, _+_, _-_, _*_, _^_, _≤_, _<_}
+use native.Mathlib.Nat.{add-zero, pow-suc, mul-le-mul-right}
+use native.Mathlib.Numerals.{add-one}
+use native.Mathlib.Omega.{arith}
+use lib.Dec.{eqb}
+use lib.ListN.{length, getD}
+use Rattle.fields.specs.Byte.{bytes}
+use Rattle.fields.proofs.Fields.{byte-field}
+use Rattle.comparison.specs.Local.{on-shares}
+use Rattle.fields.specs.Bits.{bit}
+use Rattle.comparison.specs.Rounds.{differing, first-carry, next-carry}
+use Rattle.search.specs.declared.Bracket.{Bracket}
+use Rattle.search.specs.Bracket.{over, middle, raise, lower, step}
+use Rattle.search.proofs.Narrowing.{over-false, middle-above, middle-below}
+use Rattle.session.specs.declared.record.Party.{Party}
+use Rattle.round.specs.declared.Heard.{Heard}
+use Rattle.round.specs.declared.Heard.the-variants.{Sum, Factors, Verdict, Unopened}
+use Rattle.session.specs.Record.{bracket}
+use Rattle.saying.specs.Say.{current, bit-share, triple-share}
+use Rattle.round.specs.Round.{heard, Possible}
+use Rattle.hearing.specs.Hear.{after}
+use Rattle.session.specs.Updates.{in-round, decided}
+use Rattle.session.proofs.Soundness.{Sound, probing}
+use Rattle.session.proofs.Updates.{Same, in-round-same, in-round-probes, in-round-sound, decided-same, decided-probes, decided-sound, Narrow, narrow-in-round, narrow-decided}
+use Rattle.session.proofs.Words.{all-below-of}
+use Rattle.saying.proofs.Sheets.{byte-at, current-long}
+use Rattle.round.proofs.Opened.{heard-possible}
+use Rattle.hearing.proofs.Hears.{Admitted, Hears}
+
+-- ---- by the kind of round
+
+module _ (q : Party) (sheet : List ℕ) where
+  pub after-sum : (v : ℕ) → after q sheet (Sum v) ≡ in-round q 2 v (first-carry (on-shares bytes) v (bit-share sheet 1))
+  unfolding after
+  after-sum v = refl
+
+  pub after-factors : (d e : ℕ) → after q sheet (Factors d e)
+      ≡ in-round q (q .round + 1) (q .sum)
+      (next-carry (on-shares bytes) (q .sum) (q .round) d e (triple-share sheet (q .round) 0) (triple-share sheet (q .round) 1) (triple-share sheet (q .round) 2))
+  unfolding after
+  after-factors d e = refl
+
+  pub after-verdict : (v : ℕ) → after q sheet (Verdict v) ≡ decided q (step (bracket q) v)
+  unfolding after
+  after-verdict v = refl
+
+-- ---- "Probes done grows by one" with each verdict, and with nothing else
+
+abbrev pub verdicts : Heard → ℕ
+verdicts (Sum v) = 0
+verdicts (Factors d e) = 0
+verdicts (Verdict v) = 1
+verdicts Unopened = 0
+
+pub probes-after : (q : Party) (sheet : List ℕ) (h : Heard) → after q sheet h .probes ≡ q .probes + verdicts h
+unfolding after
+probes-after q sheet (Sum v) = in-round-probes q _ _ _ ∙ sym (add-zero _)
+probes-after q sheet (Factors d e) = in-round-probes q _ _ _ ∙ sym (add-zero _)
+probes-after q sheet (Verdict v) = decided-probes q (step (bracket q) v)
+probes-after q sheet Unopened = sym (add-zero _)
+
+-- ---- n, own number and k stay
+
+pub after-same : (q : Party) (sheet : List ℕ) (h : Heard) → Same q (after q sheet h)
+unfolding after
+after-same q sheet (Sum v) = in-round-same q _ _ _
+after-same q sheet (Factors d e) = in-round-same q _ _ _
+after-same q sheet (Verdict v) = decided-same q (step (bracket q) v)
+after-same q sheet Unopened = record { n = refl; own = refl; k = refl }
+
+-- ---- the carry's share is a byte
+
+bit-lt : (i T : ℕ) → bit i T < 256
+unfolding bit
+bit-lt i T = omega arith
+
+pub first-carry-lt : (T b : ℕ) → b < 256 → first-carry (on-shares bytes) T b < 256
+unfolding first-carry differing
+first-carry-lt T b h =
+    let t = bit-lt 1 T in
+    byte-field .ring .add-lt _ _ t (byte-field .ring .mul-lt _ _ t (byte-field .ring .add-lt _ _ t h))
+
+pub next-carry-lt : (T i d e alpha beta gamma : ℕ) → d < 256 → e < 256 → alpha < 256 → beta < 256 → gamma < 256
+    → next-carry (on-shares bytes) T i d e alpha beta gamma < 256
+unfolding next-carry
+next-carry-lt T i d e alpha beta gamma hd he ha hb hg =
+    let R = byte-field .ring in
+    R .add-lt _ _ (bit-lt i T) (R .add-lt _ _ (R .mul-lt d e hd he) (R .add-lt _ _ (R .add-lt _ _ hg (R .mul-lt d beta hd hb)) (R .mul-lt e alpha he ha)))
+
+-- ---- a verdict keeps the bracket inside the list, and halves it
+
+module _ (b : Bracket) (gap : b .lo + 1 < b .hi) (v : ℕ) where
+  step-apart : step b v .lo < step b v .hi
+  unfolding step raise lower
+  step-apart = split (eqb v 1)
+    where
+      split : (t : Bool) → cond t (raise b) (lower b) .lo < cond t (raise b) (lower b) .hi
+      split true = middle-below b gap
+      split false = middle-above b gap
+
+  step-inside : step b v .hi ≤ b .hi
+  unfolding step raise lower
+  step-inside = split (eqb v 1)
+    where
+      split : (t : Bool) → cond t (raise b) (lower b) .hi ≤ b .hi
+      split true = omega arith
+      split false = omega (arith, middle-below b gap)
+
+  step-half : (step b v .hi - step b v .lo - 1) * 2 ≤ b .hi - b .lo - 1
+  unfolding step raise lower middle
+  step-half = split (eqb v 1)
+    where
+      split : (t : Bool) → (cond t (raise b) (lower b) .hi - cond t (raise b) (lower b) .lo - 1) * 2 ≤ b .hi - b .lo - 1
+      split true = omega arith
+      split false = omega arith
+
+-- ---- the next record is sound
+
+module _ (q : Party) (sheet : List ℕ) (s : Sound q) (going : over (bracket q) ≡ false) where
+  gap : q .lo + 1 < q .hi
+  gap = over-false (bracket q) (s .apart) going
+
+  narrow-after : (h : Heard) → Narrow q → Narrow (after q sheet h)
+  unfolding after
+  narrow-after (Sum v) n = narrow-in-round q _ _ _ n
+  narrow-after (Factors d e) n = narrow-in-round q _ _ _ n
+  narrow-after (Verdict v) n =
+      narrow-decided q (step (bracket q) v)
+      (rw (add-one, pow-suc) (omega (arith, n, mul-le-mul-right (2 ^ q .probes) (step-half (bracket q) gap v))))
+  narrow-after Unopened n = n
+
+  module _ (bytes-at : (i : ℕ) → 1 ≤ i → i < 127 → getD sheet i 0 < 256) where
+    sound-after : (h : Heard) → Possible (q .round) h → Admitted h → Narrow (after q sheet h) → Sound (after q sheet h)
+    unfolding after
+    sound-after (Sum v) p a n =
+        in-round-sound q 2 v _ s (omega arith) (omega arith) (omega (arith, a .1))
+        (omega (arith, first-carry-lt v (bit-share sheet 1) (bytes-at 1 (omega arith) (omega arith))))
+    sound-after (Factors d e) p a n =
+        let triple : (which : ℕ) → which ≤ 2 → triple-share sheet (q .round) which < 256 =
+        λ which h. bytes-at (34 + 3 * (q .round - 2) + which) (omega arith) (omega (arith, p .1)) in
+        let carried = next-carry-lt (q .sum) (q .round) d e _ _ _ (p .2) (p .3) (triple 0 (omega arith)) (triple 1 (omega arith)) (triple 2 (omega arith)) in
+        in-round-sound q (q .round + 1) (q .sum) _ s (omega arith) (omega (arith, p .1)) (s .sum) (omega (arith, carried))
+    sound-after (Verdict v) p a n =
+        decided-sound q (step (bracket q) v) s (step-apart (bracket q) gap v) (omega (arith, s .inside, step-inside (bracket q) gap v))
+        (probing q s going .sheet-left) n
+    sound-after Unopened p a n = absurd a
+
+-- "The board steps a keeper's record by each heard round": it stays sound.
+pub hears-sound : (q : Party) (totals sheets messages : List ℕ) → Hears q totals sheets messages → Narrow q
+    → Sound (after q (current q sheets) (heard (q .n) (q .round) messages)) × Narrow (after q (current q sheets) (heard (q .n) (q .round) messages))
+hears-sound q totals sheets messages h n =
+    let f = h .says in
+    let sheet : List ℕ = current q sheets in
+    let opening = heard (q .n) (q .round) messages in
+    let long : length sheet ≡ 127 = current-long q sheets (probing q (f .sound) (f .going)) (f .sheets-long) in
+    let next = narrow-after q sheet (f .sound) (f .going) opening n in (
+      sound-after q sheet (f .sound) (f .going) (λ i l m. byte-at sheet i (all-below-of 256 _ (f .in-field .bytes)) l (omega arith)) opening
+          (heard-possible (q .n) (q .round) messages (f .sound .round-least)) (h .opening) next,
+      next,
+    )

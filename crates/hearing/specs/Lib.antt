@@ -1,0 +1,2 @@
+-- What a heard round opens to and makes of the record: what the contracts cite.
+pub mod Hear

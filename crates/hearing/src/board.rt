@@ -1,0 +1,16 @@
+// The board steps a party's record by each heard round, where the record stands.
+ghost use mathlib.Core.Path.{_≡_};
+ghost use Rattle.hearing.specs.Hear.{hear-reply};
+use crate::hear;
+use refusal::Judgement;
+use session::Party;
+
+// All the work is done by value: the record is copied out, and stored once, as `hear` leaves it.
+pub fn step(q: &mut Party, totals: &[u64], sheets: &[u64], messages: &[u64]) -> Judgement
+    ensures { λ r. ⌜ (r ≡ hear-reply (now (q .entry)) (now (totals .entry)) (now (sheets .entry)) (now (messages .entry)) .judgement)
+        × (now (q .exit) ≡ hear-reply (now (q .entry)) (now (totals .entry)) (now (sheets .entry)) (now (messages .entry)) .party) ⌝ }
+{
+    let reply = hear(*q, totals, sheets, messages);
+    *q = reply.party;
+    reply.judgement
+}

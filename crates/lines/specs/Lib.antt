@@ -1,0 +1,2 @@
+-- Lines, and the numbers that they are read as.
+pub mod Lines

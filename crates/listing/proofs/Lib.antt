@@ -1,0 +1,3 @@
+-- Laws of text and of the lines.
+pub mod Writing
+pub mod Telling

@@ -1,0 +1,7 @@
+// The listing, written line by line into a lent buffer.
+mod course;
+mod text;
+
+pub use course::Course;
+pub use course::write_course;
+pub use course::write_refused;

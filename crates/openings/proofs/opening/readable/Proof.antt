@@ -1,0 +1,15 @@
+-- `readable` meets its contract. Assumes nothing.
+use borrow.Author.Needs.{needs}
+use Rattle.openings.specs.Opening.{readable}
+use Rattle.openings.proofs.opening.readable.Statement.{statement}
+use Rattle.openings.proofs.opening.readable.Tie as tie
+
+all-below-requires : tie.Need-all-below-requires
+all-below-requires c κs = search needs
+
+returns : tie.Need-returns
+unfolding readable
+returns c = rw (c .all-below .ensures)
+
+pub readable-spec : {M : Type 1} → statement M
+readable-spec = tie.close (tie.spec all-below-requires returns)

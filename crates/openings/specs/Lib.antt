@@ -1,0 +1,3 @@
+-- Opening what is shared: what the contracts and the laws cite.
+pub mod Opening
+pub mod Law

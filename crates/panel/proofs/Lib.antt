@@ -1,0 +1,2 @@
+-- Laws of parts of a flat list.
+pub mod Parts

@@ -1,0 +1,2 @@
+-- A round of all parties.
+pub mod Round

@@ -1,0 +1,24 @@
+-- A round of all parties: what each says, and its record once it has heard. Assumes nothing.
+use mathlib.Core.List.{List, map}
+use Prim.Native.Nat.{ℕ, _*_}
+use lib.ListN.{getD}
+use Rattle.ranges.specs.Lists.{from}
+use Rattle.search.specs.Limit.{limit}
+use Rattle.session.specs.declared.record.Party.{Party}
+use Rattle.saying.specs.Say.{say-reply}
+use Rattle.hearing.specs.Hear.{hear-reply}
+use Rattle.auction.specs.Canonical.{word}
+use Rattle.session.specs.Open.{blank}
+use Rattle.panel.specs.Parties.{part}
+
+-- what the party after i others says
+unfoldable pub said-by : (k : ℕ) → List Party → (totals sheets : List ℕ) → ℕ → ℕ
+said-by k parties totals sheets i = word (say-reply (getD parties i blank) (part (2 * k) i totals) (part (127 * limit k) i sheets))
+
+unfoldable pub all-said : (n k : ℕ) → List Party → (totals sheets : List ℕ) → List ℕ
+all-said n k parties totals sheets = map (said-by k parties totals sheets) (from 0 n)
+
+-- its record once it has heard the words
+unfoldable pub heard-by : (k : ℕ) → List Party → (totals sheets words : List ℕ) → ℕ → Party
+heard-by k parties totals sheets words i =
+    hear-reply (getD parties i blank) (part (2 * k) i totals) (part (127 * limit k) i sheets) words .party

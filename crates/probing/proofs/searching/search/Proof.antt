@@ -1,0 +1,149 @@
+-- `search` meets its contract: the probes made are noted, in every auction in which the parties may stand. Assumes nothing.
+use mathlib.Core.Path.{_≡_, refl, sym, ap, _∙_}
+use mathlib.Core.Bool.{Bool, true, false, not, _&&_}
+use mathlib.Core.List.{List}
+use Prim.Native.Nat.{ℕ, _-_, _≤_, _<_}
+use native.Mathlib.Omega.{arith}
+use lib.Dec.{ltb}
+use borrow.Author.Tests.{ltb-true, ltb-false, not-true}
+use Rattle.ranges.proofs.Loops.{and-left, and-right}
+use lib.ListN.{length, getD, length-set}
+use Rattle.search.specs.Bracket.{start, over}
+use Rattle.session.specs.Record.{bracket}
+use Rattle.auction.specs.Auction.{IsAuction}
+use Rattle.auction.specs.Coins.{Coins, InRange}
+use Rattle.auction.proofs.Closed.{fresh-stage}
+use Rattle.session.specs.Open.{blank}
+use Rattle.standing.proofs.Standing.{Stands}
+use Rattle.probing.proofs.Leading.{Led, led-start, led-more, led-over, follows}
+use borrow.Author.Needs.{needs}
+use Rattle.probing.proofs.searching.search.Statement.{statement}
+use Rattle.probing.proofs.searching.search.Tie as tie
+
+abbrev Inv-loop : tie.InvT-loop
+Inv-loop n k totals sheets index₀ verdict₀ here₀ more₀ done₀ index verdict here more done =
+    (done ≤ 9)
+    × (length index ≡ 9)
+    × (length verdict ≡ 9)
+    × (more ≡ not (over (bracket (getD here 0 blank))))
+    × ((bids : List (List ℕ)) (c : Coins) → IsAuction (record { n = n; k = k; bids = bids }) → InRange (record { n = n; k = k; bids = bids }) c
+    → Stands (record { n = n; k = k; bids = bids }) c (fresh-stage (start k) 0) here₀ totals sheets
+    → Led (record { n = n; k = k; bids = bids }) c here totals sheets index verdict done)
+
+abbrev μ-loop : tie.MeasureT-loop
+μ-loop n k totals sheets index₀ verdict₀ here₀ more₀ done₀ index verdict here more done = 9 - done
+
+-- where a test of two fails and the second holds, the first does not
+stops : (x m : Bool) → (x && m) ≡ false → m ≡ true → x ≡ false
+stops true m e f = sym f ∙ e
+stops false m e f = refl
+
+inside : (c : tie.In-loop Inv-loop μ-loop) → c .before .loop .done < 9
+inside c = let l = c .before .loop in ltb-true (l .done) 9 (and-left (ltb (l .done) 9) (l .more) (c .loop-test .taken))
+
+array-copy-out-first : tie.Need-array-copy-out-first Inv-loop μ-loop
+array-copy-out-first c = search needs
+
+going-requires : tie.Need-going-requires Inv-loop μ-loop
+going-requires c κs = search needs
+
+loop-holds : tie.Need-loop-holds Inv-loop μ-loop
+loop-holds c = (omega arith, refl, refl, c .going .ensures, λ bids d A C H. led-start _ _ bids d A C _ _ _ _ _ H)
+
+array-copy-out-q : tie.Need-array-copy-out-q Inv-loop μ-loop
+array-copy-out-q c = search needs
+
+probe-requires : tie.Need-probe-requires Inv-loop μ-loop
+probe-requires c κs = search needs
+
+array-copy-out-r : tie.Need-array-copy-out-r Inv-loop μ-loop
+array-copy-out-r c = search needs
+
+probed-requires : tie.Need-probed-requires Inv-loop μ-loop
+probed-requires c κs = search needs
+
+decided-requires : tie.Need-decided-requires Inv-loop μ-loop
+decided-requires c κs = search needs
+
+mul-index : tie.Need-mul-index Inv-loop μ-loop
+mul-index c = search needs
+
+array-write-index : tie.Need-array-write-index Inv-loop μ-loop
+array-write-index c = inside (c .before .before .before .before .before)
+
+mul-verdict : tie.Need-mul-verdict Inv-loop μ-loop
+mul-verdict c = search needs
+
+array-write-verdict : tie.Need-array-write-verdict Inv-loop μ-loop
+array-write-verdict c = inside (c .before .before .before .before .before)
+
+going-requires-2 : tie.Need-going-requires-2 Inv-loop μ-loop
+going-requires-2 c κs = search needs
+
+add-done : tie.Need-add-done Inv-loop μ-loop
+add-done c = search needs
+
+loop-less : tie.Need-loop-less Inv-loop μ-loop
+loop-less c = omega (arith, inside (c .before .before .before .before .before .before))
+
+loop-again : tie.Need-loop-again Inv-loop μ-loop
+loop-again c =
+    let l = c .before .before .before .before .before .before .before .loop in
+    let a = c .before .before .before .before .before .before .before .before .before .before .before .before .args in
+    let t = c .before .before .before .before .before .before .loop-test .taken in
+    let h : l .done < 9 = inside (c .before .before .before .before .before .before) in
+    let g : over (bracket (getD (l .here) 0 blank)) ≡ false = not-true _ (sym (l .inv .3) ∙ and-right (ltb (l .done) 9) (l .more) t) in (
+      omega arith,
+      simp length-set (l .inv .1),
+      simp length-set (l .inv .2),
+      c .going2 .ensures,
+      λ bids d A C H.
+          led-more (a .n) (a .k) bids d A C (a .totals .now) (a .sheets .now) (l .here) (c .before .before .before .before .probe .result) (l .index) (l .verdict) (l .done)
+          (l .inv .4 bids d A C H) g (c .before .before .before .before .probe .ensures) _ _ (c .before .before .probed .ensures) (c .before .decided .ensures) (l .inv .1) (l .inv .2) h,
+    )
+
+array-copy-out-last : tie.Need-array-copy-out-last Inv-loop μ-loop
+array-copy-out-last c = search needs
+
+price-requires : tie.Need-price-requires Inv-loop μ-loop
+price-requires c κs = search needs
+
+returns : tie.Need-returns Inv-loop μ-loop
+returns c =
+    let l = c .before .before .before .loop in
+    let s = c .before .before .before .before .before .before .before .before in
+    let a = s .args in (
+      l .inv .0,
+      λ bids d A C H.
+          let L = l .inv .4 bids d A C H in
+          follows (a .n) (a .k) bids d A C (a .totals .now) (a .sheets .now) (l .here) (l .index) (l .verdict) (l .done) L
+          (led-over (a .n) (a .k) bids d A C (a .totals .now) (a .sheets .now) (l .here) (l .index) (l .verdict) (l .done) L (s .pre .1)
+          (λ e. ltb-false (l .done) 9 (stops (ltb (l .done) 9) (l .more) (c .before .before .loop-test .left) (l .inv .3 ∙ ap not e))))
+          _ refl refl refl (c .price .ensures),
+    )
+
+pub search-spec : {M : Type 1} → statement M
+search-spec =
+    tie.close
+    (tie.spec
+    Inv-loop
+    μ-loop
+    array-copy-out-first
+    going-requires
+    loop-holds
+    array-copy-out-q
+    probe-requires
+    array-copy-out-r
+    probed-requires
+    decided-requires
+    mul-index
+    array-write-index
+    mul-verdict
+    array-write-verdict
+    going-requires-2
+    add-done
+    loop-less
+    loop-again
+    array-copy-out-last
+    price-requires
+    returns)

@@ -1,0 +1,2 @@
+-- What the messages of a round open to, in laws.
+pub mod Opened

@@ -1,0 +1,117 @@
+-- What the messages of a round open to. Assumes nothing.
+use mathlib.Core.Path.{_≡_, refl, sym, ap, ap₂, _∙_}
+use mathlib.Core.Bool.{Bool, true, false, _&&_}
+use mathlib.Core.List.{List, map}
+use Prim.Native.Nat.{ℕ, _+_, _/_, _%_, _≤_, _<_}
+use native.Mathlib.Numerals.{lt-of-le-of-ne}
+use native.Mathlib.Omega.{arith}
+use lib.Dec.{leb, ltb, eqb}
+use lib.ListN.{length, take, set, getD, length-map, List·getD-map}
+use lib.Seq.{take-all}
+use borrow.Author.Tests.{leb-true, leb-false, eqb-true, eqb-false, le-leb, lt-leb, eq-eqb, ne-eqb}
+use Rattle.ranges.specs.Lists.{every}
+use Rattle.weights.specs.Rows.{Scheme, amount-scheme, byte-scheme}
+use Rattle.openings.specs.Opening.{readable, opened}
+use Rattle.openings.specs.declared.opening.Opening.{Opening}
+use Rattle.openings.specs.declared.opening.Opening.the-variants.{Secret, Inconsistent}
+use Rattle.openings.proofs.Laws.{byte-fits, exactly}
+use Rattle.ranges.proofs.Loops.{fill}
+use Rattle.round.specs.declared.Heard.the-variants.{Sum, Factors, Verdict}
+use Rattle.round.specs.Round.{sum-of, factors-of, verdict-of, heard, Possible}
+
+and-true : (a b : Bool) → a && b ≡ true → (a ≡ true) × (b ≡ true)
+and-true true b e = (refl, e)
+and-true false b e = (e, cc)
+
+-- there are at most 9 parties
+few-words : (size n : ℕ) (words : List ℕ) → readable size n words ≡ true → length words ≤ 9
+unfolding readable
+few-words size n words e =
+    let small = and-true _ (every (λ w. ltb w size) words) e in
+    let sized = and-true _ _ (small .0) in
+    let few = and-true (leb 3 n) _ (sized .0) in
+    omega (arith, leb-true n 9 (few .1), eqb-true (length words) n (sized .1))
+
+pub too-many : (S : Scheme) (n : ℕ) (words : List ℕ) → 9 < length words → opened S n words ≡ Inconsistent
+unfolding opened
+too-many S n words h = split (readable (S .size) n words) refl
+  where
+    split : (b : Bool) → readable (S .size) n words ≡ b → opened S n words ≡ Inconsistent
+    split false e = rw e
+    split true e = absurd (omega (arith, few-words (S .size) n words e))
+
+-- what is opened in the byte scheme is a byte
+pub opened-lt : (n v : ℕ) (words : List ℕ) → opened byte-scheme n words ≡ Secret v → v < 256
+opened-lt n v words e = exactly byte-fits n v words .0 e .secret-lt
+
+-- ---- by round
+
+module _ (n round : ℕ) (messages : List ℕ) where
+  pub heard-sum : round ≡ 1 → heard n round messages ≡ sum-of (opened amount-scheme n messages)
+  unfolding heard
+  heard-sum e = simp (eq-eqb round 1 e)
+
+  pub heard-factors : (round ≡ 1 → ⊥) → round ≤ 32
+      → heard n round messages ≡ factors-of (opened byte-scheme n (map (λ w. w % 256) messages)) (opened byte-scheme n (map (λ w. w / 256) messages))
+  unfolding heard
+  heard-factors e h = simp (ne-eqb round 1 e, le-leb round 32 h)
+
+  pub heard-verdict : 32 < round → heard n round messages ≡ verdict-of (opened byte-scheme n messages)
+  unfolding heard
+  heard-verdict h = simp (ne-eqb round 1 (λ e. omega arith), lt-leb round 32 h)
+
+-- and of messages that open
+module _ (n : ℕ) (messages : List ℕ) where
+  pub sum-heard : (v : ℕ) → opened amount-scheme n messages ≡ Secret v → heard n 1 messages ≡ Sum v
+  sum-heard v e = heard-sum n 1 messages refl ∙ ap sum-of e
+
+  pub factors-heard : (round d e : ℕ) → 2 ≤ round → round ≤ 32
+      → opened byte-scheme n (map (λ w. w % 256) messages) ≡ Secret d → opened byte-scheme n (map (λ w. w / 256) messages) ≡ Secret e
+      → heard n round messages ≡ Factors d e
+  factors-heard round d e h2 h32 low high = heard-factors n round messages (λ f. omega arith) h32 ∙ ap₂ factors-of low high
+
+  pub verdict-heard : (v : ℕ) → opened byte-scheme n messages ≡ Secret v → heard n 33 messages ≡ Verdict v
+  verdict-heard v e = heard-verdict n 33 messages (omega arith) ∙ ap verdict-of e
+
+-- what a round opens to is possible in it
+pub heard-possible : (n round : ℕ) (messages : List ℕ) → 1 ≤ round → Possible round (heard n round messages)
+heard-possible n round messages least = split (eqb round 1) (leb round 32) refl refl
+  where
+    of-sum : (o : Opening) → Possible round (sum-of o)
+    of-sum (Secret v) = tt
+    of-sum Inconsistent = tt
+
+    of-verdict : (o : Opening) → Possible round (verdict-of o)
+    of-verdict (Secret v) = tt
+    of-verdict Inconsistent = tt
+
+    of-factors : (low high : Opening) → 2 ≤ round → round ≤ 32 → ((d : ℕ) → low ≡ Secret d → d < 256) → ((e : ℕ) → high ≡ Secret e → e < 256)
+        → Possible round (factors-of low high)
+    of-factors (Secret d) (Secret e) h2 h32 hd he = (h2, h32, hd d refl, he e refl)
+    of-factors (Secret d) Inconsistent h2 h32 hd he = tt
+    of-factors Inconsistent high h2 h32 hd he = tt
+
+    split : (first product : Bool) → eqb round 1 ≡ first → leb round 32 ≡ product → Possible round (heard n round messages)
+    split true product f p = rw (heard-sum n round messages (eqb-true round 1 f)) (of-sum (opened amount-scheme n messages))
+    split false true f p =
+        let other = eqb-false round 1 f in
+        let h = leb-true round 32 p in
+        let low : List ℕ = map (λ (w : ℕ). w % 256) messages in
+        let high : List ℕ = map (λ (w : ℕ). w / 256) messages in
+        rw (heard-factors n round messages other h)
+        (of-factors (opened byte-scheme n low) (opened byte-scheme n high) (lt-of-le-of-ne least (λ e. other (sym e))) h
+        (λ d e. opened-lt n d low e) (λ d e. opened-lt n d high e))
+    split false false f p = rw (heard-verdict n round messages (leb-false round 32 p)) (of-verdict (opened byte-scheme n messages))
+
+-- a list that is filled from the left with a function of the words
+module _ (f : ℕ → ℕ) (zero : f 0 ≡ 0) (words out : List ℕ) where
+  pub fill-map : (i : ℕ) → i < length out → i < length words → take i out ≡ take i (map f words)
+      → take (i + 1) (set out i (f (getD words i 0))) ≡ take (i + 1) (map f words)
+  fill-map i ho hw e =
+      fill out (map f words) i (f (getD words i 0)) ho (simp length-map hw)
+      (sym (ap (getD (map f words) i) (sym zero) ∙ List·getD-map f words i 0)) e
+
+  pub filled-map : (i : ℕ) → i ≤ length words → length words ≤ i → take i out ≡ take i (map f words) → take (length words) out ≡ map f words
+  filled-map i l h e =
+      let done : length words ≡ i = omega arith in
+      ap (λ (k : ℕ). take k out) done ∙ e ∙ take-all i (map f words) (simp length-map h)

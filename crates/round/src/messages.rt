@@ -1,0 +1,94 @@
+// What the messages of a round open to, and when that is refused.
+ghost use mathlib.Core.Path.{_≡_};
+ghost use mathlib.Core.List.{map};
+ghost use Prim.Native.Nat.{_/_, _%_};
+ghost use Rattle.weights.specs.Rows.{byte-scheme};
+ghost use Rattle.openings.specs.Opening.{opened};
+ghost use Rattle.round.specs.Round.{factors-of, heard, unopened, sum-outside, verdict-outside};
+use crate::Heard;
+use openings::Opening;
+use openings::open_amount;
+use openings::open_byte;
+
+// The least and the greatest T: 2^59 + 2^32, less a mask below 2^58, with a difference of totals
+// below 2^32 either way.
+const LEAST: u64 = (1 << 58) + 2;
+
+const GREATEST: u64 = (1 << 59) + (1 << 33) - 1;
+
+pub fn open_round(n: u64, round: u64, messages: &[u64]) -> Heard
+    ensures { λ r. ⌜ r ≡ heard n round (now (messages .entry)) ⌝ }
+{
+    if round == 1 {
+        return match open_amount(n, messages) {
+            Opening::Secret(sum) => Heard::Sum(sum),
+            Opening::Inconsistent => Heard::Unopened,
+        };
+    }
+    if round <= 32 {
+        return factors(n, messages);
+    }
+    match open_byte(n, messages) {
+        Opening::Secret(verdict) => Heard::Verdict(verdict),
+        Opening::Inconsistent => Heard::Unopened,
+    }
+}
+
+// The low bytes are the words of one polynomial and the high parts those of another.
+fn factors(n: u64, messages: &[u64]) -> Heard
+    ensures { λ r. ⌜ r ≡ factors-of (opened byte-scheme n (map (λ w. w % 256) (now (messages .entry)))) (opened byte-scheme n (map (λ w. w / 256) (now (messages .entry)))) ⌝ }
+{
+    let count = messages.len();
+    if 9 < count {
+        return Heard::Unopened;
+    }
+    let mut low = [0u64; 9];
+    let mut high = [0u64; 9];
+    let mut i = 0;
+    while i < count {
+        let word = messages[i];
+        low[i] = word % 256;
+        high[i] = word / 256;
+        i += 1;
+    }
+    match open_byte(n, &low[..count]) {
+        Opening::Secret(d) => match open_byte(n, &high[..count]) {
+            Opening::Secret(e) => Heard::Factors(d, e),
+            Opening::Inconsistent => Heard::Unopened,
+        },
+        Opening::Inconsistent => Heard::Unopened,
+    }
+}
+
+pub fn unopened(heard: Heard) -> bool
+    ensures { λ r. ⌜ r ≡ unopened heard ⌝ }
+{
+    match heard {
+        Heard::Sum(_) => false,
+        Heard::Factors(_, _) => false,
+        Heard::Verdict(_) => false,
+        Heard::Unopened => true,
+    }
+}
+
+pub fn sum_outside(heard: Heard) -> bool
+    ensures { λ r. ⌜ r ≡ sum-outside heard ⌝ }
+{
+    match heard {
+        Heard::Sum(v) => !((LEAST <= v) & (v <= GREATEST)),
+        Heard::Factors(_, _) => false,
+        Heard::Verdict(_) => false,
+        Heard::Unopened => false,
+    }
+}
+
+pub fn verdict_outside(heard: Heard) -> bool
+    ensures { λ r. ⌜ r ≡ verdict-outside heard ⌝ }
+{
+    match heard {
+        Heard::Sum(_) => false,
+        Heard::Factors(_, _) => false,
+        Heard::Verdict(v) => 1 < v,
+        Heard::Unopened => false,
+    }
+}

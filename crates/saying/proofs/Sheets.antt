@@ -1,0 +1,78 @@
+-- The current sheet, and words that are shares: in the totals at the probed index, and in a sheet. Assumes nothing.
+use mathlib.Core.Path.{_≡_, refl, sym, ap₂}
+use mathlib.Core.Bool.{Bool, true, false, not, _&&_, _||_}
+use mathlib.Core.List.{List}
+use Prim.Native.Nat.{ℕ, _+_, _-_, _*_, _≤_, _<_}
+use native.Mathlib.Omega.{arith}
+use lib.Dec.{ltb, eqb}
+use lib.ListN.{length, drop, getD, length-drop}
+use lib.Seq.{getD-drop, length-take-le}
+use borrow.Author.Tests.{ltb-true, eqb-true, lt-ltb, eq-eqb}
+use Rattle.fields.specs.Amount.{p}
+use Rattle.ranges.specs.Below.{AllBelow}
+use Rattle.ranges.specs.Lists.{every}
+use Rattle.ranges.proofs.Loops.{every-at}
+use Rattle.session.proofs.Words.{all-below, all-below-of}
+use Rattle.session.specs.declared.record.Party.{Party}
+use Rattle.saying.specs.Say.{sheets-long, demand-share, supply-share, current, mask-share, in-field}
+use Rattle.session.proofs.Judging.{and-true}
+use Rattle.session.proofs.Soundness.{Probing}
+
+-- the current sheet is there, and it is whole
+module _ (q : Party) (sheets : List ℕ) (h : Probing q) (long : length sheets ≡ sheets-long (q .k)) where
+  pub current-there : 127 * q .probes + 127 ≤ length sheets
+  current-there = omega arith
+
+  pub current-long : length (current q sheets) ≡ 127
+  unfolding current
+  current-long =
+      length-take-le 127 (drop (127 * q .probes) sheets) (omega (arith, current-there, length-drop (127 * q .probes) sheets))
+
+-- every word of a sheet but the first is a byte
+pub byte-at : (sheet : List ℕ) (i : ℕ) → every (λ w. ltb w 256) (drop 1 sheet) ≡ true → 1 ≤ i → i < length sheet
+    → getD sheet i 0 < 256
+byte-at sheet i e least most =
+    let j : 1 + (i - 1) ≡ i = omega arith in
+    rw (sym j, sym (getD-drop 1 sheet (i - 1) 0))
+    (ltb-true _ 256 (every-at (λ w. ltb w 256) (drop 1 sheet) (i - 1) e (omega (arith, length-drop 1 sheet))))
+
+-- free of refusal 8, in facts
+pub record InField (q : Party) (totals sheet : List ℕ) : Type 0 where
+  pub demand : q .round ≡ 1 → demand-share q totals < p
+  pub supply : q .round ≡ 1 → supply-share q totals < p
+  pub mask : mask-share sheet < p
+  pub bytes : AllBelow 256 (drop 1 sheet)
+
+module _ (q : Party) (totals sheet : List ℕ) where
+  pub in-field-facts : in-field q totals sheet ≡ true → InField q totals sheet
+  unfolding in-field
+  in-field-facts e =
+      let a = and-true _ _ e in
+      let b = and-true _ _ (a .0) in
+      let used = used-first (q .round) _ _ (b .0) in
+      record {
+        demand = λ first. ltb-true _ _ (used first .0);
+        supply = λ first. ltb-true _ _ (used first .1);
+        mask = ltb-true _ _ (b .1);
+        bytes = all-below 256 (drop 1 sheet) (a .1);
+      }
+    where
+      used-first : (round : ℕ) (a b : Bool) → not (eqb round 1) || a && b ≡ true → round ≡ 1 → (a ≡ true) × (b ≡ true)
+      used-first round a b e first = and-true a b (rw (eq-eqb round 1 first) at e)
+
+  pub in-field-bytes : in-field q totals sheet ≡ true → every (λ w. ltb w 256) (drop 1 sheet) ≡ true
+  in-field-bytes e = all-below-of 256 (drop 1 sheet) (in-field-facts e .bytes)
+
+  pub in-field-of : InField q totals sheet → in-field q totals sheet ≡ true
+  unfolding in-field
+  in-field-of h = rw (used-of (q .round) _ both, lt-ltb (mask-share sheet) p (h .mask), all-below-of 256 (drop 1 sheet) (h .bytes))
+    where
+      used-of : (round : ℕ) (used : Bool) → (round ≡ 1 → used ≡ true) → not (eqb round 1) || used ≡ true
+      used-of round used first = split (eqb round 1) refl
+        where
+          split : (t : Bool) → eqb round 1 ≡ t → not t || used ≡ true
+          split true e = first (eqb-true round 1 e)
+          split false e = refl
+
+      both : q .round ≡ 1 → ltb (demand-share q totals) p && ltb (supply-share q totals) p ≡ true
+      both first = ap₂ _&&_ (lt-ltb (demand-share q totals) p (h .demand first)) (lt-ltb (supply-share q totals) p (h .supply first))

@@ -1,0 +1,2 @@
+-- What a party says: what the contracts cite.
+pub mod Say

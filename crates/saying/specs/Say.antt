@@ -1,0 +1,91 @@
+-- What a party says: "Saying changes nothing." Assumes nothing.
+use mathlib.Core.Bool.{Bool, cond, not, _&&_, _||_}
+use mathlib.Core.List.{List, [], _∷_}
+use Prim.Native.Nat.{ℕ, _+_, _-_, _*_}
+use lib.Dec.{leb, ltb, eqb}
+use lib.ListN.{take, drop, getD}
+use Rattle.fields.specs.Amount.{p, amounts}
+use Rattle.fields.specs.Byte.{bytes}
+use Rattle.refusal.specs.Refusal.{numberOf}
+use Rattle.refusal.specs.Judging.{_⇒_, judged}
+use Rattle.refusal.specs.declared.Judgement.{Judgement}
+use Rattle.refusal.specs.declared.Judgement.the-variants as judgement
+use Rattle.refusal.specs.declared.Refusal.the-variants.{OutOfRange, WrongLength, OutOfTurn, ShareOutOfRange}
+use Rattle.ranges.specs.Lists.{every}
+use Rattle.ranges.specs.Sizes.{long, sheet-size}
+use Rattle.comparison.specs.Local.{on-shares}
+use Rattle.comparison.specs.Rounds.{masked, left, right, both, last}
+use Rattle.search.specs.Bracket.{middle, over}
+use Rattle.search.specs.Limit.{limit}
+use Rattle.session.specs.declared.record.Party.{Party}
+use Rattle.saying.specs.declared.Said.{Said}
+use Rattle.saying.specs.declared.Said.the-variants.{Message, Refused}
+use Rattle.session.specs.Record.{bracket, sound}
+
+-- total demand and total supply at the probed index: indices count from 1, demand first
+abbrev pub demand-share : Party → List ℕ → ℕ
+demand-share q totals = getD totals (middle (bracket q) - 1) 0
+
+abbrev pub supply-share : Party → List ℕ → ℕ
+supply-share q totals = getD totals (q .k + middle (bracket q) - 1) 0
+
+-- "Every probe's sheets are lent in order, 127 times P words"
+abbrev pub sheets-long : (k : ℕ) → ℕ
+sheets-long k = sheet-size * limit k
+
+-- "With q probes done, sheet q + 1 is the current one."
+unfoldable pub current : Party → List ℕ → List ℕ
+current q sheets = take sheet-size (drop (sheet-size * q .probes) sheets)
+
+-- the words of a sheet: the mask's share, the share of its bit i, and alpha, beta, gamma of round i (0, 1, 2)
+abbrev pub mask-share : List ℕ → ℕ
+mask-share sheet = getD sheet 0 0
+
+abbrev pub bit-share : List ℕ → ℕ → ℕ
+bit-share sheet i = getD sheet i 0
+
+abbrev pub triple-share : List ℕ → ℕ → ℕ → ℕ
+triple-share sheet i which = getD sheet (34 + 3 * (i - 2) + which) 0
+
+-- Free of refusal 8: "a bundle or book word used at or above p; in the current sheet, mask share at or above p or another word above
+-- 255". Round 1 uses two words of the book, later rounds none.
+unfoldable pub in-field : (q : Party) (totals sheet : List ℕ) → Bool
+in-field q totals sheet =
+    (not (eqb (q .round) 1) || ltb (demand-share q totals) p && ltb (supply-share q totals) p)
+    && ltb (mask-share sheet) p
+    && every (λ w. ltb w 256) (drop 1 sheet)
+
+unfoldable pub say-judgement : (q : Party) (totals sheets : List ℕ) → Judgement
+say-judgement q totals sheets =
+    judged
+    ((not (sound q) ⇒ OutOfRange)
+    ∷ (not (long (2 * q .k) totals && long (sheets-long (q .k)) sheets) ⇒ WrongLength)
+    ∷ (over (bracket q) ⇒ OutOfTurn)
+    ∷ (not (in-field q totals (current q sheets)) ⇒ ShareOutOfRange)
+    ∷ [])
+
+-- "Words by round": round 1, rounds 2 to 32, round 33
+unfoldable pub message : (q : Party) (totals sheet : List ℕ) → ℕ
+message q totals sheet =
+    cond (eqb (q .round) 1) (masked (on-shares amounts) (mask-share sheet) (demand-share q totals) (supply-share q totals))
+    (cond (leb (q .round) 32)
+    (both (left (on-shares bytes) (q .sum) (q .round) (bit-share sheet (q .round)) (triple-share sheet (q .round) 0))
+    (right (on-shares bytes) (q .sum) (q .round) (q .carry) (triple-share sheet (q .round) 1)))
+    (last (on-shares bytes) (q .sum) (bit-share sheet 33) (q .carry)))
+
+unfoldable pub said : Judgement → ℕ → Said
+said judgement.Accepted word = Message word
+said (judgement.Refused why) word = Refused why
+
+abbrev pub say-reply : (q : Party) (totals sheets : List ℕ) → Said
+say-reply q totals sheets = said (say-judgement q totals sheets) (message q totals (current q sheets))
+
+-- ---- "this paper's number and values for each of its cases": a refused call leaves the place for the word as it was
+
+abbrev pub said-number : Said → ℕ
+said-number (Message word) = 0
+said-number (Refused why) = numberOf why
+
+abbrev pub said-word : Said → (old : ℕ) → ℕ
+said-word (Message word) old = word
+said-word (Refused why) old = old

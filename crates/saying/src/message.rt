@@ -1,0 +1,69 @@
+// The message of a round: the words that it uses, and the word that it is.
+ghost use mathlib.Core.Path.{_≡_};
+ghost use mathlib.Core.Bool.{true, false};
+ghost use Prim.Native.Nat.{_*_};
+ghost use lib.ListN.{length};
+ghost use Rattle.search.specs.Bracket.{over};
+ghost use Rattle.session.specs.Record.{bracket, sound};
+ghost use Rattle.saying.specs.Say.{demand-share, supply-share, in-field, message};
+use crate::sheet::byte_share;
+use crate::sheet::triple_share;
+use comparison::factors;
+use comparison::last;
+use comparison::masked;
+use fields::AmountShare;
+use fields::BitShare;
+use fields::P;
+use ranges::all_below;
+use search::middle;
+use session::Party;
+use session::bracket;
+
+// Total demand at the probed index. Indices count from 1.
+pub(crate) fn demand_share(q: Party, totals: &[u64]) -> u64
+    requires { ⌜ (sound q ≡ true) × (over (bracket q) ≡ false) × (length (now totals) ≡ 2 * q .k) ⌝ }
+    ensures { λ r. ⌜ r ≡ demand-share q (now (totals .entry)) ⌝ }
+{
+    let at = middle(bracket(q)) as usize - 1;
+    totals[at]
+}
+
+// Total supply at the probed index: demand stands first.
+pub(crate) fn supply_share(q: Party, totals: &[u64]) -> u64
+    requires { ⌜ (sound q ≡ true) × (over (bracket q) ≡ false) × (length (now totals) ≡ 2 * q .k) ⌝ }
+    ensures { λ r. ⌜ r ≡ supply-share q (now (totals .entry)) ⌝ }
+{
+    let at = (q.k + middle(bracket(q))) as usize - 1;
+    totals[at]
+}
+
+// Round 1 uses two words of the totals, later rounds none. The sheet is judged whole.
+pub(crate) fn in_field(q: Party, totals: &[u64], sheet: &[u64]) -> bool
+    requires { ⌜ (sound q ≡ true) × (over (bracket q) ≡ false) × (length (now totals) ≡ 2 * q .k)
+        × (length (now sheet) ≡ 127) ⌝ }
+    ensures { λ r. ⌜ r ≡ in-field q (now (totals .entry)) (now (sheet .entry)) ⌝ }
+{
+    let used = (demand_share(q, totals) < P) & (supply_share(q, totals) < P);
+    ((q.round != 1) | used) & (sheet[0] < P) & all_below(&sheet[1..], 256)
+}
+
+// The word of the round.
+pub(crate) fn message(q: Party, totals: &[u64], sheet: &[u64]) -> u64
+    requires { ⌜ (sound q ≡ true) × (over (bracket q) ≡ false) × (length (now totals) ≡ 2 * q .k)
+        × (length (now sheet) ≡ 127) × (in-field q (now totals) (now sheet) ≡ true) ⌝ }
+    ensures { λ r. ⌜ r ≡ message q (now (totals .entry)) (now (sheet .entry)) ⌝ }
+{
+    if q.round == 1 {
+        let demand = AmountShare(demand_share(q, totals));
+        let supply = AmountShare(supply_share(q, totals));
+        return masked(AmountShare(sheet[0]), demand, supply).0;
+    }
+    let carry = BitShare(q.carry as u8);
+    let mask_bit = byte_share(sheet, q.round);
+    if q.round <= 32 {
+        let alpha = triple_share(sheet, q.round, 0);
+        let beta = triple_share(sheet, q.round, 1);
+        return factors(q.sum, q.round, mask_bit, carry, alpha, beta);
+    }
+    last(q.sum, mask_bit, carry).0 as u64
+}

@@ -1,0 +1,38 @@
+// The current sheet, and the shares of bits and bytes in it.
+ghost use mathlib.Core.Path.{_≡_};
+ghost use mathlib.Core.Bool.{true};
+ghost use Prim.Native.Nat.{_+_, _*_, _≤_, _<_};
+ghost use lib.Dec.{ltb};
+ghost use lib.ListN.{length, drop, getD};
+ghost use Rattle.ranges.specs.Lists.{every};
+ghost use Rattle.saying.specs.Say.{current, triple-share};
+use fields::BitShare;
+use session::Party;
+
+pub fn current(q: Party, sheets: &[u64]) -> &[u64]
+    requires { ⌜ 127 * q .probes + 127 ≤ length (now sheets) ⌝ }
+    ensures { λ r. ⌜ now r ≡ current q (now (sheets .entry)) ⌝ }
+{
+    let from = 127 * q.probes as usize;
+    let to = from + 127;
+    &sheets[from..to]
+}
+
+// Every word but the mask's share is one: the share of the mask's bit i stands at i.
+pub fn byte_share(sheet: &[u64], at: u64) -> BitShare
+    requires { ⌜ (length (now sheet) ≡ 127) × (every (λ w. ltb w 256) (drop 1 (now sheet)) ≡ true)
+        × (1 ≤ at) × (at < 127) ⌝ }
+    ensures { λ r. ⌜ r .0 ≡ getD (now (sheet .entry)) at 0 ⌝ }
+{
+    let i = at as usize;
+    BitShare(sheet[i] as u8)
+}
+
+// Alpha, beta and gamma of round i are 0, 1 and 2.
+pub fn triple_share(sheet: &[u64], i: u64, which: u64) -> BitShare
+    requires { ⌜ (length (now sheet) ≡ 127) × (every (λ w. ltb w 256) (drop 1 (now sheet)) ≡ true)
+        × (2 ≤ i) × (i ≤ 32) × (which ≤ 2) ⌝ }
+    ensures { λ r. ⌜ r .0 ≡ triple-share (now (sheet .entry)) i which ⌝ }
+{
+    byte_share(sheet, 34 + 3 * (i - 2) + which)
+}

@@ -1,0 +1,87 @@
+-- Numbers that are counted from the left until one fails. Assumes nothing.
+use mathlib.Core.Path.{_≡_, refl, ap}
+use mathlib.Core.Bool.{Bool, true, false, cond, _&&_}
+use mathlib.Core.List.{List, [], _∷_}
+use Prim.Native.Nat.{ℕ, suc, _+_, _≤_, _<_}
+use native.Mathlib.Omega.{arith}
+use lib.Bits.{bitXor}
+use lib.ListN.{length, take, drop, getD, drop-of-length-le, length-take}
+use Rattle.ranges.specs.Lists.{every}
+use Rattle.ranges.proofs.Bends.{first}
+use Rattle.lines.specs.Lines.{numbers, formed}
+use Rattle.lines.proofs.Again.{formed-most}
+use Rattle.sections.specs.Sections.{next-price, passed, rising, xor-of, good-prices}
+
+module _ (test : ℕ → Bool) (xs : List ℕ) (i : ℕ) where
+  pub passed-more : i < length xs → test (getD xs i 0) ≡ true → i + passed test (drop i xs) ≡ i + 1 + passed test (drop (i + 1) xs)
+  unfolding passed
+  passed-more h e = rw (first xs i h, e) (omega arith)
+
+  pub passed-fails : i < length xs → test (getD xs i 0) ≡ false → i + passed test (drop i xs) ≡ i
+  unfolding passed
+  passed-fails h e = rw (first xs i h, e) (omega arith)
+
+  pub passed-ends : length xs ≤ i → i + passed test (drop i xs) ≡ i
+  unfolding passed
+  passed-ends h = rw (drop-of-length-le xs h) (omega arith)
+
+module _ (last : ℕ) (xs : List ℕ) (i : ℕ) where
+  pub rising-more : i < length xs → next-price last (getD xs i 0) ≡ true
+      → i + rising last (drop i xs) ≡ i + 1 + rising (getD xs i 0) (drop (i + 1) xs)
+  unfolding rising
+  rising-more h e = rw (first xs i h, e) (omega arith)
+
+  pub rising-fails : i < length xs → next-price last (getD xs i 0) ≡ false → i + rising last (drop i xs) ≡ i
+  unfolding rising
+  rising-fails h e = rw (first xs i h, e) (omega arith)
+
+  pub rising-ends : length xs ≤ i → i + rising last (drop i xs) ≡ i
+  unfolding rising
+  rising-ends h = rw (drop-of-length-le xs h) (omega arith)
+
+pub xor-more : (xs : List ℕ) (i : ℕ) → i < length xs → xor-of (drop i xs) ≡ bitXor (getD xs i 0) (xor-of (drop (i + 1) xs))
+unfolding xor-of
+xor-more xs i h = ap xor-of (first xs i h)
+
+-- all pass exactly where the count is the length
+pub passed-every : (test : ℕ → Bool) (xs : List ℕ) → passed test xs ≡ length xs → every test xs ≡ true
+unfolding passed every
+passed-every test [] h = refl
+passed-every test (x ∷ xs) h = cases (test x) (λ e. passed-every test xs e) h
+  where
+    cases : (t : Bool) → (passed test xs ≡ length xs → every test xs ≡ true) → cond t (suc (passed test xs)) 0 ≡ suc (length xs) → (t && every test xs) ≡ true
+    cases true go h = go (omega arith)
+    cases false go h = absurd (omega arith)
+
+pub every-passed : (test : ℕ → Bool) (xs : List ℕ) → every test xs ≡ true → passed test xs ≡ length xs
+unfolding passed every
+every-passed test [] h = refl
+every-passed test (x ∷ xs) h = cases (test x) (λ e. every-passed test xs e) h
+  where
+    cases : (t : Bool) → (every test xs ≡ true → passed test xs ≡ length xs) → (t && every test xs) ≡ true → cond t (suc (passed test xs)) 0 ≡ suc (length xs)
+    cases true go h = ap suc (go h)
+    cases false go h = cc
+
+pub rising-most : (last : ℕ) (xs : List ℕ) → rising last xs ≤ length xs
+unfolding rising
+rising-most last [] = omega arith
+rising-most last (x ∷ xs) = cases (next-price last x) (rising-most x xs)
+  where
+    cases : (t : Bool) {r : ℕ} → r ≤ length xs → cond t (suc r) 0 ≤ suc (length xs)
+    cases true h = omega arith
+    cases false h = omega arith
+
+pub passed-most : (test : ℕ → Bool) (xs : List ℕ) → passed test xs ≤ length xs
+unfolding passed
+passed-most test [] = omega arith
+passed-most test (x ∷ xs) = cases (test x) (passed-most test xs)
+  where
+    cases : (t : Bool) {r : ℕ} → r ≤ length xs → cond t (suc r) 0 ≤ suc (length xs)
+    cases true h = omega arith
+    cases false h = omega arith
+
+-- of k prices, no more are good
+pub good-most : (k last : ℕ) (bytes : List ℕ) → good-prices k last bytes ≤ k
+good-most k last bytes =
+    let l = length-take (formed k bytes) (numbers k bytes) in
+    omega (arith, rising-most last (take (formed k bytes) (numbers k bytes)), l, formed-most k bytes)

@@ -1,0 +1,4 @@
+-- Laws of judging a section.
+pub mod Counts
+pub mod Tables
+pub mod Bids

@@ -1,0 +1,2 @@
+-- The sections of the input.
+pub mod Sections

@@ -1,0 +1,92 @@
+-- The calls' judgements, in facts: a call is accepted exactly where they hold. Assumes nothing.
+use mathlib.Core.Path.{_≡_, refl}
+use mathlib.Core.Bool.{Bool, true, false, _||_}
+use mathlib.Core.List.{List}
+use Prim.Native.Nat.{ℕ, _*_, _<_}
+use native.Mathlib.Omega.{arith}
+use lib.ListN.{length}
+use borrow.Author.Tests.{ltb-false, leb-false, eqb-true, not-false, le-ltb, lt-leb, eq-eqb}
+use Rattle.fields.specs.Amount.{p}
+use Rattle.ranges.specs.Below.{AllBelow}
+use Rattle.refusal.specs.Judging.{judged}
+use Rattle.refusal.specs.declared.Judgement.the-variants.{Accepted}
+use Rattle.session.specs.declared.record.Party.{Party}
+use Rattle.session.specs.Record.{sound}
+use Rattle.session.specs.Open.{open-judgement}
+use Rattle.session.specs.Add.{add-judgement}
+use Rattle.session.proofs.Judging.{and-true, passed}
+use Rattle.session.proofs.Soundness.{OnList, on-list, on-list-of, Sound, sound-facts, sound-of}
+use Rattle.session.proofs.Words.{all-below, all-below-of}
+
+-- ---- opening
+
+pub record Opens (n own k : ℕ) (totals : List ℕ) : Type 0 where
+  pub listed : OnList n own k
+  pub totals-long : length totals ≡ 2 * k
+
+module _ (n own k : ℕ) (totals : List ℕ) where
+  pub opens : open-judgement n own k totals ≡ Accepted → Opens n own k totals
+  unfolding open-judgement
+  opens e =
+      let range = passed _ _ _ e in
+      let size = passed _ _ _ (range .1) in
+      record { listed = on-list n own k (not-false _ (range .0)); totals-long = eqb-true _ _ (not-false _ (size .0)) }
+
+  pub open-accepted : Opens n own k totals → open-judgement n own k totals ≡ Accepted
+  unfolding open-judgement judged
+  open-accepted h = rw (on-list-of n own k (h .listed), eq-eqb (length totals) (2 * k) (h .totals-long))
+
+-- ---- adding
+
+pub record Adds (q : Party) (totals shares : List ℕ) : Type 0 where
+  pub sound : Sound q
+  pub totals-long : length totals ≡ 2 * q .k
+  pub shares-long : length shares ≡ 2 * q .k
+  -- before the first heard round
+  pub no-probes : q .probes ≡ 0
+  pub first-round : q .round ≡ 1
+  pub room : q .bids < 1000
+  pub totals-below : AllBelow p totals
+  pub shares-below : AllBelow p shares
+
+or-false : (a b : Bool) → a || b ≡ false → (a ≡ false) × (b ≡ false)
+or-false true b e = (e, cc)
+or-false false b e = (refl, e)
+
+module _ (q : Party) (totals shares : List ℕ) where
+  pub adds : add-judgement q totals shares ≡ Accepted → Adds q totals shares
+  unfolding add-judgement
+  adds e =
+      let whole = passed _ _ _ e in
+      let size = passed _ _ _ (whole .1) in
+      let turn = passed _ _ _ (size .1) in
+      let many = passed _ _ _ (turn .1) in
+      let field = passed _ _ _ (many .1) in
+      let s = sound-facts q (not-false _ (whole .0)) in
+      let l = and-true _ _ (not-false _ (size .0)) in
+      let t = or-false _ _ (turn .0) in
+      let f = and-true _ _ (not-false _ (field .0)) in
+      record {
+        sound = s;
+        totals-long = eqb-true _ _ (l .0);
+        shares-long = eqb-true _ _ (l .1);
+        no-probes = omega (arith, ltb-false 0 (q .probes) (t .0));
+        first-round = omega (arith, ltb-false 1 (q .round) (t .1), s .round-least);
+        room = leb-false 1000 (q .bids) (many .0);
+        totals-below = all-below p totals (f .0);
+        shares-below = all-below p shares (f .1);
+      }
+
+  pub add-accepted : Adds q totals shares → add-judgement q totals shares ≡ Accepted
+  unfolding add-judgement judged
+  add-accepted h =
+      rw (
+        sound-of q (h .sound),
+        eq-eqb (length totals) (2 * q .k) (h .totals-long),
+        eq-eqb (length shares) (2 * q .k) (h .shares-long),
+        le-ltb 0 (q .probes) (omega (arith, h .no-probes)),
+        le-ltb 1 (q .round) (omega (arith, h .first-round)),
+        lt-leb 1000 (q .bids) (h .room),
+        all-below-of p totals (h .totals-below),
+        all-below-of p shares (h .shares-below),
+      )

@@ -1,0 +1,6 @@
+-- What the tests of the calls say, for theorems about runs, and lemmas that the functions' proofs share.
+pub mod Judging
+pub mod Soundness
+pub mod Updates
+pub mod Words
+pub mod Laws

@@ -1,0 +1,75 @@
+-- `add` meets its contract: nothing is written unless the call is accepted. Assumes nothing.
+use mathlib.Core.Path.{_≡_, sym, _∙_}
+use native.Mathlib.Omega.{arith}
+use Rattle.refusal.specs.declared.Judgement.the-variants.{Accepted}
+use Rattle.session.specs.Add.{add-judgement}
+use Rattle.session.specs.Updates.{counted}
+use Rattle.session.proofs.Judging.{kept-new, kept-old, next-accepted, next-refused}
+use Rattle.session.proofs.Laws.{adds}
+use borrow.Author.Needs.{needs}
+use Rattle.session.proofs.adding.add.Statement.{statement}
+use Rattle.session.proofs.adding.add.Tie as tie
+
+abbrev start : tie.After-enum-told → tie.Start
+start c = c .before .before .before .before .before .before
+
+yes : (c : tie.After-enum-told)
+    → add-judgement (start c .args .q) (start c .args .totals .now) (start c .args .shares .now) ≡ Accepted
+yes c = sym (c .before .before .judge .ensures) ∙ c .enum-told .given .1
+
+judge-requires : tie.Need-judge-requires
+judge-requires c κs = search needs
+
+enum-known-judgement : tie.Need-enum-known-judgement
+enum-known-judgement c = search needs
+
+refused-requires : tie.Need-refused-requires
+refused-requires c κs = search needs
+
+same-length : tie.Need-same-length
+same-length c = search needs
+
+returns : tie.Need-returns
+returns c =
+    let d = c .before in
+    let j = sym (d .before .before .before .judge .ensures) ∙ d .before .judgement .given .1 in
+    (c .refused .ensures ∙ sym (next-refused _ _ _ _ j), sym (kept-old _ _ _ _ j))
+
+enum-told : tie.Need-enum-told
+enum-told c = search needs
+
+add-words-requires : tie.Need-add-words-requires
+add-words-requires c κs =
+    let h = adds _ _ _ (yes (c .before)) in
+    h .totals-long ∙ sym (h .shares-long)
+
+add-next : tie.Need-add-next
+add-next c = omega (arith, adds _ _ _ (yes (c .before .before .before .before .before)) .room)
+
+accepted-requires : tie.Need-accepted-requires
+accepted-requires c κs = search needs
+
+same-length-2 : tie.Need-same-length-2
+same-length-2 c = search needs
+
+returns-2 : tie.Need-returns-2
+unfolding counted
+returns-2 c =
+    let j = yes (c .before .before .before .before .before .before) in
+    (c .accepted .ensures ∙ sym (next-accepted _ _ _ j), c .before .before .before .before .add-words .ensures ∙ sym (kept-new _ _ _ j))
+
+pub add-spec : {M : Type 1} → statement M
+add-spec =
+    tie.close
+    (tie.spec
+    judge-requires
+    enum-known-judgement
+    refused-requires
+    same-length
+    returns
+    enum-told
+    add-words-requires
+    add-next
+    accepted-requires
+    same-length-2
+    returns-2)

@@ -1,0 +1,103 @@
+-- `judge` of a bid meets its contract: each return answers one test of the list. Assumes nothing.
+use mathlib.Core.Path.{_≡_, sym, ap, ap₂, _∙_}
+use mathlib.Core.Bool.{false, not, _&&_}
+use Prim.Native.Nat.{_≤_}
+use native.Mathlib.Omega.{arith}
+use borrow.Author.Tests.{not-false, le-leb, lt-leb}
+use Rattle.session.specs.Record.{sound}
+use Rattle.session.specs.Add.{amounts-below, add-judgement}
+use Rattle.session.proofs.Judging.{refuses, passes, all-passed}
+use Rattle.session.proofs.Soundness.{sound-facts}
+use borrow.Author.Needs.{needs}
+use Rattle.session.proofs.adding.judge.Statement.{statement}
+use Rattle.session.proofs.adding.judge.Tie as tie
+
+abbrev start : tie.Else1 → tie.Start
+start c = c .before .before .before .before
+
+abbrev later : tie.After-all-below2 → tie.Start
+later c = start (c .before .before .before .before .before .before .before .before)
+
+-- a sound record, and the words of both lists
+whole : (c : tie.Else1) → not (sound (start c .args .q)) ≡ false
+whole c = ap not (sym (c .before .sound .ensures)) ∙ c .if1 .left
+
+few : (c : tie.Else1) → start c .args .q .k ≤ 1024
+few c = sound-facts _ (not-false _ (whole c)) .listed .prices-most
+
+below : (c : tie.After-all-below2)
+    → c .before .all-below .result && c .all-below2 .result
+    ≡ amounts-below (later c .args .totals .now) && amounts-below (later c .args .shares .now)
+below c = ap₂ _&&_ (c .before .all-below .ensures) (c .all-below2 .ensures)
+
+sound-requires : tie.Need-sound-requires
+sound-requires c κs = search needs
+
+returns : tie.Need-returns
+unfolding add-judgement
+returns c = sym (refuses _ _ _ (ap not (sym (c .before .sound .ensures)) ∙ c .if1 .taken))
+
+mul-words : tie.Need-mul-words
+mul-words c = omega (arith, few c)
+
+returns-2 : tie.Need-returns-2
+unfolding add-judgement
+returns-2 c = sym (passes _ _ _ (whole (c .before)) ∙ refuses _ _ _ (c .if2 .taken))
+
+returns-3 : tie.Need-returns-3
+unfolding add-judgement
+returns-3 c =
+    let two = c .before .before .before in
+    sym (passes _ _ _ (whole (two .before)) ∙ passes _ _ _ (two .if2 .left) ∙ refuses _ _ _ (c .if3 .taken))
+
+returns-4 : tie.Need-returns-4
+unfolding add-judgement
+returns-4 c =
+    let three = c .before .before in
+    let two = three .before .before .before in
+    sym
+    (passes _ _ _ (whole (two .before)) ∙ passes _ _ _ (two .if2 .left) ∙ passes _ _ _ (three .if3 .left)
+    ∙ refuses _ _ _ (le-leb _ _ (c .if4 .taken)))
+
+all-below-requires : tie.Need-all-below-requires
+all-below-requires c κs = search needs
+
+all-below-requires-2 : tie.Need-all-below-requires-2
+all-below-requires-2 c κs = search needs
+
+returns-5 : tie.Need-returns-5
+unfolding add-judgement
+returns-5 c =
+    let four = c .before .before .before in
+    let three = four .before .before in
+    let two = three .before .before .before in
+    sym
+    (passes _ _ _ (whole (two .before)) ∙ passes _ _ _ (two .if2 .left) ∙ passes _ _ _ (three .if3 .left)
+    ∙ passes _ _ _ (lt-leb _ _ (four .if4 .left))
+    ∙ refuses _ _ _ (ap not (sym (below (c .before))) ∙ c .if5 .taken))
+
+returns-6 : tie.Need-returns-6
+unfolding add-judgement
+returns-6 c =
+    let four = c .before .before .before in
+    let three = four .before .before in
+    let two = three .before .before .before in
+    sym
+    (passes _ _ _ (whole (two .before)) ∙ passes _ _ _ (two .if2 .left) ∙ passes _ _ _ (three .if3 .left)
+    ∙ passes _ _ _ (lt-leb _ _ (four .if4 .left))
+    ∙ passes _ _ _ (ap not (sym (below (c .before))) ∙ c .if5 .left) ∙ all-passed)
+
+pub judge-spec : {M : Type 1} → statement M
+judge-spec =
+    tie.close
+    (tie.spec
+    sound-requires
+    returns
+    mul-words
+    returns-2
+    returns-3
+    returns-4
+    all-below-requires
+    all-below-requires-2
+    returns-5
+    returns-6)

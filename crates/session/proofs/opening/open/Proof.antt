@@ -1,0 +1,92 @@
+-- `open` meets its contract: each early return answers one test of the list, before anything is written. Assumes nothing.
+use mathlib.Core.Path.{_≡_, sym, ap, _∙_}
+use mathlib.Core.Bool.{false, not, _&&_}
+use Prim.Native.Nat.{ℕ, _≤_}
+use native.Mathlib.Omega.{arith}
+use lib.ListN.{replicate}
+use borrow.Author.Tests.{not-false, eq-eqb, ne-eqb}
+use Rattle.ranges.specs.Sizes.{party, listed}
+use Rattle.session.specs.Open.{open-judgement, fresh}
+use Rattle.session.proofs.Judging.{refuses, passes, all-passed, kept-new, kept-old, next-accepted, next-refused}
+use Rattle.session.proofs.Soundness.{on-list}
+use borrow.Author.Needs.{needs}
+use Rattle.session.proofs.opening.open.Statement.{statement}
+use Rattle.session.proofs.opening.open.Tie as tie
+
+abbrev start : tie.Else1 → tie.Start
+start c = c .before .before .before
+
+ranged : (c : tie.Else1) → not (party (start c .args .n) (start c .args .own) && listed (start c .args .k)) ≡ false
+ranged c = ap not (sym (c .before .on-list .ensures)) ∙ c .if1 .left
+
+few : (c : tie.Else1) → start c .args .k ≤ 1024
+few c = on-list _ _ _ (not-false _ (ranged c)) .prices-most
+
+on-list-requires : tie.Need-on-list-requires
+on-list-requires c κs = search needs
+
+blank-requires : tie.Need-blank-requires
+blank-requires c κs = search needs
+
+refused-requires : tie.Need-refused-requires
+refused-requires c κs = search needs
+
+returns : tie.Need-returns
+unfolding open-judgement
+returns c =
+    let d = c .before .before in
+    let j = refuses _ _ _ (ap not (sym (d .before .on-list .ensures)) ∙ d .if1 .taken) in
+    (c .refused .ensures ∙ rw (c .before .blank .ensures) (sym (next-refused _ _ _ _ j)), sym (kept-old _ _ _ _ j))
+
+mul-if2 : tie.Need-mul-if2
+mul-if2 c = omega (arith, few c)
+
+blank-requires-2 : tie.Need-blank-requires-2
+blank-requires-2 c κs = search needs
+
+refused-requires-2 : tie.Need-refused-requires-2
+refused-requires-2 c κs = search needs
+
+returns-2 : tie.Need-returns-2
+unfolding open-judgement
+returns-2 c =
+    let d = c .before .before in
+    let j = passes _ _ _ (ranged (d .before)) ∙ refuses _ _ _ (ap not (ne-eqb _ _ (d .if2 .taken))) in
+    (c .refused2 .ensures ∙ rw (c .before .blank2 .ensures) (sym (next-refused _ _ _ _ j)), sym (kept-old _ _ _ _ j))
+
+clear-requires : tie.Need-clear-requires
+clear-requires c κs = search needs
+
+add-hi : tie.Need-add-hi
+add-hi c = omega (arith, few (c .before .before .before .before .before))
+
+accepted-requires : tie.Need-accepted-requires
+accepted-requires c κs = search needs
+
+same-length : tie.Need-same-length
+same-length c = search needs
+
+returns-3 : tie.Need-returns-3
+unfolding open-judgement fresh
+returns-3 c =
+    let d = c .before .before .before .before .before in
+    let j = passes _ _ _ (ranged (d .before)) ∙ passes _ _ _ (ap not (eq-eqb _ _ (d .if2 .left))) ∙ all-passed in
+    (c .accepted .ensures ∙ sym (next-accepted _ _ _ j), c .before .before .before .clear .ensures ∙ ap (λ (m : ℕ). replicate m 0) (d .if2 .left) ∙ sym (kept-new _ _ _ j))
+
+pub open-spec : {M : Type 1} → statement M
+open-spec =
+    tie.close
+    (tie.spec
+    on-list-requires
+    blank-requires
+    refused-requires
+    returns
+    mul-if2
+    blank-requires-2
+    refused-requires-2
+    returns-2
+    clear-requires
+    add-hi
+    accepted-requires
+    same-length
+    returns-3)

@@ -1,0 +1,39 @@
+-- "Adding a bundle adds it to the book modulo p, word by word." Assumes nothing.
+use mathlib.Core.Bool.{Bool, not, _&&_, _||_}
+use mathlib.Core.List.{List, [], _∷_}
+use Prim.Native.Nat.{ℕ, _*_}
+use lib.Dec.{leb, ltb}
+use Rattle.fields.specs.Amount.{p, amounts}
+use Rattle.refusal.specs.Judging.{_⇒_, judged, kept}
+use Rattle.refusal.specs.declared.Judgement.{Judgement}
+use Rattle.refusal.specs.declared.Refusal.the-variants.{OutOfRange, WrongLength, OutOfTurn, TooManyBids, ShareOutOfRange}
+use Rattle.ranges.specs.Lists.{every}
+use Rattle.sharing.specs.Linear.{sums}
+use Rattle.ranges.specs.Sizes.{long}
+use Rattle.session.specs.declared.record.Party.{Party}
+use Rattle.session.specs.declared.record.Reply.{Reply}
+use Rattle.session.specs.Record.{sound, replied}
+use Rattle.session.specs.Updates.{counted}
+
+-- "after the first heard round (probes done above 0 or round above 1)"
+abbrev pub begun : Party → Bool
+begun q = ltb 0 (q .probes) || ltb 1 (q .round)
+
+abbrev pub amounts-below : List ℕ → Bool
+amounts-below words = every (λ w. ltb w p) words
+
+unfoldable pub add-judgement : (q : Party) (totals shares : List ℕ) → Judgement
+add-judgement q totals shares =
+    judged
+    ((not (sound q) ⇒ OutOfRange)
+    ∷ (not (long (2 * q .k) totals && long (2 * q .k) shares) ⇒ WrongLength)
+    ∷ (begun q ⇒ OutOfTurn)
+    ∷ (leb 1000 (q .bids) ⇒ TooManyBids)
+    ∷ (not (amounts-below totals && amounts-below shares) ⇒ ShareOutOfRange)
+    ∷ [])
+
+abbrev pub add-reply : (q : Party) (totals shares : List ℕ) → Reply
+add-reply q totals shares = replied (add-judgement q totals shares) (counted q) q
+
+abbrev pub add-left : (q : Party) (totals shares : List ℕ) → List ℕ
+add-left q totals shares = kept (add-judgement q totals shares) (sums amounts totals shares) totals

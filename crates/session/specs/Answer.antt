@@ -1,0 +1,38 @@
+-- Asking for the answer: "Its answer is lo, 0 meaning no price, with the number of probes made". Assumes nothing.
+use mathlib.Core.Bool.{not}
+use mathlib.Core.List.{[], _∷_}
+use Prim.Native.Nat.{ℕ}
+use Rattle.refusal.specs.Refusal.{numberOf}
+use Rattle.refusal.specs.Judging.{_⇒_, judged}
+use Rattle.refusal.specs.declared.Judgement.{Judgement}
+use Rattle.refusal.specs.declared.Judgement.the-variants as judgement
+use Rattle.refusal.specs.declared.Refusal.the-variants.{OutOfRange, OutOfTurn}
+use Rattle.search.specs.Bracket.{over}
+use Rattle.session.specs.declared.record.Party.{Party}
+use Rattle.session.specs.declared.record.Answer.{Answer}
+use Rattle.session.specs.declared.record.Answer.the-variants.{Cleared, Refused}
+use Rattle.session.specs.Record.{bracket, sound}
+
+unfoldable pub answer-judgement : Party → Judgement
+answer-judgement q = judged ((not (sound q) ⇒ OutOfRange) ∷ (not (over (bracket q)) ⇒ OutOfTurn) ∷ [])
+
+unfoldable pub answered : Judgement → Party → Answer
+answered judgement.Accepted q = Cleared (q .lo) (q .probes)
+answered (judgement.Refused why) q = Refused why
+
+abbrev pub answer-reply : Party → Answer
+answer-reply q = answered (answer-judgement q) q
+
+-- ---- "this paper's number and values for each of its cases": a refused call leaves the places for the values as they were
+
+abbrev pub answer-number : Answer → ℕ
+answer-number (Cleared index probes) = 0
+answer-number (Refused why) = numberOf why
+
+abbrev pub cleared-index : Answer → (old : ℕ) → ℕ
+cleared-index (Cleared index probes) old = index
+cleared-index (Refused why) old = old
+
+abbrev pub cleared-probes : Answer → (old : ℕ) → ℕ
+cleared-probes (Cleared index probes) old = probes
+cleared-probes (Refused why) old = old

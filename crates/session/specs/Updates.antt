@@ -1,0 +1,19 @@
+-- What the calls make of a record. Of each, proofs/Updates says what it leaves as it was, and when the record stays sound. Assumes nothing.
+use Prim.Native.Nat.{ℕ, _+_}
+use Rattle.search.specs.declared.Bracket.{Bracket}
+use Rattle.session.specs.declared.record.Party.{Party}
+
+-- one bid more is held
+unfoldable pub counted : Party → Party
+counted q =
+    record { n = q .n; own = q .own; k = q .k; bids = q .bids + 1; lo = q .lo; hi = q .hi; probes = q .probes; round = q .round; sum = q .sum; carry = q .carry }
+
+-- the probe goes on: a round, T and the carry's share
+unfoldable pub in-round : Party → (round sum carry : ℕ) → Party
+in-round q round sum carry =
+    record { n = q .n; own = q .own; k = q .k; bids = q .bids; lo = q .lo; hi = q .hi; probes = q .probes; round = round; sum = sum; carry = carry }
+
+-- a verdict moved the search: "Probes done grows by one, and round, T and carry return to 1, 0, 0."
+unfoldable pub decided : Party → Bracket → Party
+decided q b =
+    record { n = q .n; own = q .own; k = q .k; bids = q .bids; lo = b .lo; hi = b .hi; probes = q .probes + 1; round = 1; sum = 0; carry = 0 }

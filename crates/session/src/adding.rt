@@ -1,0 +1,68 @@
+// Adding a bid.
+ghost use mathlib.Core.Path.{_≡_};
+ghost use lib.ListN.{length};
+ghost use Rattle.fields.specs.Amount.{amounts};
+ghost use Rattle.sharing.specs.Linear.{sums};
+ghost use Rattle.session.specs.Add.{add-judgement, add-reply, add-left};
+use crate::checking::sound;
+use crate::record::Party;
+use crate::record::Reply;
+use crate::record::accepted;
+use crate::record::refused;
+use fields::AmountShare;
+use fields::P;
+use ranges::all_below;
+use refusal::Judgement;
+use refusal::Refusal;
+
+// Adds a party's shares of a bid to its totals, and counts the bid. Nothing is written unless all
+// of the call is accepted.
+pub fn add(q: Party, totals: &mut [u64], shares: &[u64]) -> Reply
+    ensures { λ r. ⌜ (r ≡ add-reply q (now (totals .entry)) (now (shares .entry)))
+        × (now (totals .exit) ≡ add-left q (now (totals .entry)) (now (shares .entry))) ⌝ }
+{
+    let judgement = judge(q, &totals[..], shares);
+    if let Judgement::Refused(why) = judgement {
+        return refused(why, q);
+    }
+    add_words(totals, shares);
+    let mut next = q;
+    next.bids = q.bids + 1;
+    accepted(next)
+}
+
+// The first refusal that applies.
+fn judge(q: Party, totals: &[u64], shares: &[u64]) -> Judgement
+    ensures { λ r. ⌜ r ≡ add-judgement q (now (totals .entry)) (now (shares .entry)) ⌝ }
+{
+    if !sound(q) {
+        return Judgement::Refused(Refusal::OutOfRange);
+    }
+    let words = 2 * q.k as usize;
+    if !((totals.len() == words) & (shares.len() == words)) {
+        return Judgement::Refused(Refusal::WrongLength);
+    }
+    if (0 < q.probes) | (1 < q.round) {
+        return Judgement::Refused(Refusal::OutOfTurn);
+    }
+    if 1000 <= q.bids {
+        return Judgement::Refused(Refusal::TooManyBids);
+    }
+    if !(all_below(totals, P) & all_below(shares, P)) {
+        return Judgement::Refused(Refusal::ShareOutOfRange);
+    }
+    Judgement::Accepted
+}
+
+fn add_words(totals: &mut [u64], shares: &[u64])
+    requires { ⌜ length (now totals) ≡ length (now shares) ⌝ }
+    ensures { λ _. ⌜ now (totals .exit) ≡ sums amounts (now (totals .entry)) (now (shares .entry)) ⌝ }
+{
+    let mut i = 0;
+    while i < shares.len() {
+        let total = AmountShare(totals[i]);
+        let share = AmountShare(shares[i]);
+        totals[i] = total.add(share).0;
+        i += 1;
+    }
+}

@@ -1,0 +1,21 @@
+// Asking for the answer of a session that is over.
+ghost use mathlib.Core.Path.{_≡_};
+ghost use Rattle.session.specs.Answer.{answer-reply};
+use crate::checking::bracket;
+use crate::checking::sound;
+use crate::record::Answer;
+use crate::record::Party;
+use refusal::Refusal;
+use search::over;
+
+pub fn answer(q: Party) -> Answer
+    ensures { λ r. ⌜ r ≡ answer-reply q ⌝ }
+{
+    if !sound(q) {
+        return Answer::Refused(Refusal::OutOfRange);
+    }
+    if !over(bracket(q)) {
+        return Answer::Refused(Refusal::OutOfTurn);
+    }
+    Answer::Cleared(q.lo, q.probes)
+}

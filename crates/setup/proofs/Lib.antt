@@ -1,0 +1,2 @@
+-- Laws of dealing sheet after sheet.
+pub mod Dealing

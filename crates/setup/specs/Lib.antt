@@ -1,0 +1,2 @@
+-- The sheets that are dealt.
+pub mod Dealt

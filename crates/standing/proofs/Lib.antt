@@ -1,0 +1,4 @@
+-- Where the parties stand, and laws of it.
+pub mod Standing
+pub mod Rounds
+pub mod Holding

@@ -1,0 +1,71 @@
+-- A round of the program is a round of the auction. Assumes nothing.
+use mathlib.Core.Path.{_≡_, refl, ap, ap₂, _∙_}
+use mathlib.Core.List.{List, _∷_, map}
+use Prim.Native.Nat.{ℕ, zero, suc, _+_, _*_, _<_}
+use native.Mathlib.Numerals.{add-one}
+use native.Mathlib.Omega.{arith}
+use lib.ListN.{getD}
+use Rattle.ranges.specs.Lists.{from}
+use Rattle.sharing.specs.Scheme.{points}
+use Rattle.search.specs.Limit.{limit}
+use Rattle.search.specs.declared.Bracket.{Bracket}
+use Rattle.search.specs.Bracket.{middle, step}
+use Rattle.comparison.specs.Probe as probe
+use Rattle.comparison.specs.Probe.{Probe}
+use Rattle.session.specs.declared.record.Party.{Party}
+use Rattle.auction.specs.Auction.{Auction, IsAuction}
+use Rattle.auction.specs.Coins.{Coins, InRange}
+use Rattle.auction.specs.Canonical as canonical
+use Rattle.auction.specs.Canonical.{word-by}
+use Rattle.auction.proofs.Closed.{polynomials, probe-at, Stage, fresh-stage}
+use Rattle.auction.proofs.Step.{Step}
+use Rattle.auction.proofs.Round.{Ready, stage-of, words-at, first-step, product-step, last-step}
+use Rattle.session.specs.Open.{blank}
+use Rattle.panel.specs.Parties.{All, part}
+use Rattle.panel_rounds.specs.Round.{said-by, all-said, heard-by}
+use Rattle.standing.proofs.Standing.{Stands, verdict-at}
+
+map-shifted : (f g : ℕ → ℕ) (a m : ℕ) → ((i : ℕ) → i < m → f (a + i) ≡ g (suc a + i)) → map f (from a m) ≡ map g (from (suc a) m)
+unfolding from
+map-shifted f g a zero h = refl
+map-shifted f g a (suc m) h =
+    let e : f a ≡ g (suc a) = ap f (omega arith) ∙ h 0 (omega arith) ∙ ap g (omega arith) in
+    ap₂ (λ (x : ℕ) (xs : List ℕ). x ∷ xs) e
+    (map-shifted f g (suc a) m (λ i l. ap f (omega arith) ∙ h (suc i) (omega arith) ∙ ap g (omega arith)))
+
+module _ (a : Auction) (c : Coins) (σ τ : Stage) (w : ℕ → ℕ) (S : Step a c σ τ w) (parties : List Party) (totals sheets : List ℕ)
+    (H : Stands a c σ parties totals sheets) where
+  says : (i : ℕ) → i < a .n → said-by (a .k) parties totals sheets i ≡ w (i + 1)
+  unfolding said-by word-by
+  says i h = ap (word-by a c) (H i h) ∙ S .word (i + 1) (omega arith) (omega arith)
+
+  pub words-said : all-said (a .n) (a .k) parties totals sheets ≡ map w (points (a .n))
+  unfolding all-said
+  words-said = map-shifted (said-by (a .k) parties totals sheets) w 0 (a .n) (λ i h. ap (said-by (a .k) parties totals sheets) (omega arith) ∙ says i h ∙ ap w (omega arith))
+
+  -- after the round
+  pub round-stands : (after : List Party)
+      → All (a .n) (λ i. getD after i blank ≡ heard-by (a .k) parties totals sheets (all-said (a .n) (a .k) parties totals sheets) i)
+      → Stands a c τ after totals sheets
+  unfolding heard-by canonical.heard
+  round-stands after e i h =
+      ap (λ (q : Party). record { party = q; totals = part (2 * a .k) i totals; sheets = part (127 * limit (a .k)) i sheets })
+      (e i h ∙ ap (λ (x : List ℕ). heard-by (a .k) parties totals sheets x i) words-said)
+      ∙ ap (canonical.heard a c (map w (points (a .n)))) (H i h)
+      ∙ S .next (i + 1) (omega arith) (omega arith)
+
+-- ---- the rounds of a probe
+
+module _ (a : Auction) (c : Coins) (A : IsAuction a) (C : InRange a c) (b : Bracket) (m : ℕ) (s : probe.Coins)
+    (ss : List probe.Coins) (R : Ready a c b m s ss) where
+  abbrev q : Probe
+  q = probe-at a (polynomials a c) (middle b) s
+
+  -- rounds 1 to 32
+  pub step-at : (i : ℕ) → i < 32 → Step a c (stage-of b m q i) (stage-of b m q (i + 1)) (words-at q i)
+  step-at zero h = first-step a c A C b m s ss R
+  step-at (suc i) h = rw (add-one (suc i)) (product-step a c A C b m s ss R i (omega arith))
+
+  -- round 33
+  pub step-last : Step a c (stage-of b m q 32) (fresh-stage (step b (verdict-at a c b s)) (suc m)) (words-at q 32)
+  step-last = last-step a c A C b m s ss R

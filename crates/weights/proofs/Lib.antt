@@ -1,0 +1,3 @@
+-- What the functions' proofs share. The crate that opens cites both.
+pub mod Products
+pub mod Picked

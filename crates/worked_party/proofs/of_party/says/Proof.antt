@@ -1,0 +1,23 @@
+-- `says` lends a part that is there. Assumes nothing.
+use mathlib.Core.Path.{sym}
+use lib.Seq.{length-take-le}
+use borrow.Author.Needs.{needs}
+use Rattle.worked_party.proofs.of_party.says.Statement.{statement}
+use Rattle.worked_party.proofs.of_party.says.Tie as tie
+
+array-share-prefix-sheets : tie.Need-array-share-prefix-sheets
+array-share-prefix-sheets c = search needs
+
+slice-aggregate-said-code : tie.Need-slice-aggregate-said-code
+slice-aggregate-said-code c = sym (length-take-le _ _ (search needs))
+
+said-code-requires : tie.Need-said-code-requires
+said-code-requires c κs = search needs
+
+returns : tie.Need-returns
+returns c = search needs
+
+pub says-spec : {M : Type 1} → statement M
+says-spec =
+    tie.close
+    (tie.spec array-share-prefix-sheets slice-aggregate-said-code said-code-requires returns)
