@@ -1,40 +1,38 @@
 -- Opening a session, splitting a bid and adding its shares, for parties that hold the polynomials of the totals between them. Assumes nothing.
 use mathlib.Core.Path.{_≡_, refl, sym, ap, ap₂, _∙_}
-use mathlib.Core.Bool.{true}
 use mathlib.Core.List.{List, [], _∷_, _++_}
 use Prim.Native.Nat.{ℕ, zero, suc, _+_, _*_, _%_, _≤_, _<_}
 use native.Mathlib.Nat.{suc-inj, mul-zero}
+use native.Mathlib.Numerals.{add-one}
 use native.Mathlib.Omega.{arith}
 use lib.ListN.{length, replicate, length-append, length-map, length-replicate}
 use lib.Seq.{take-at, drop-at}
-use borrow.Author.Tests.{le-leb, lt-leb, lt-ltb, eq-eqb, ne-eqb}
 use Rattle.fields.specs.Amount.{p, amounts}
 use Rattle.ranges.specs.Below.{AllBelow}
 use Rattle.fields.proofs.Fields.{amount-field}
-use Rattle.refusal.specs.Judging.{judged}
 use Rattle.refusal.specs.declared.Judgement.the-variants.{Accepted}
 use Rattle.sharing.specs.Polynomial.{value, share-each}
 use Rattle.sharing.specs.Linear.{sums}
 use Rattle.sharing.specs.Scheme.{threshold}
-use Rattle.ranges.specs.Sizes.{party}
+use Rattle.ranges.proofs.Ranges.{OnList}
 use Rattle.sharing.proofs.Laws.{value-lt, value-sums}
-use Rattle.search.specs.Limit.{limit}
-use Rattle.search.proofs.Logarithm.{limit-half}
 use Rattle.comparison.specs.Probe.{Each, Group}
 use Rattle.comparison.proofs.Values.{Shared}
-use Rattle.bid.specs.Table.{monotone}
 use Rattle.bid.specs.Split.{split-judgement, bid-shares, split-left}
-use Rattle.session.specs.declared.record.Party.{Party}
-use Rattle.session.specs.Record.{sound}
-use Rattle.session.specs.Open.{open-judgement, fresh}
-use Rattle.session.specs.Open as opening
+use Rattle.bid.proofs.Laws.{split-accepted}
+use Rattle.record.specs.declared.Party.{Party}
+use Rattle.record.specs.Record.{blank}
+use Rattle.session.specs.Open.{open-judgement}
+use Rattle.record.specs.Updates.{fresh, counted}
+use Rattle.record.proofs.Soundness.{Sound}
+use Rattle.record.proofs.Updates.{fresh-sound, counted-sound}
 use Rattle.session.specs.Add.{add-judgement, add-reply, add-left}
-use Rattle.session.specs.Updates.{counted}
+use Rattle.session.proofs.Laws.{open-accepted, add-accepted}
 use Rattle.auction.specs.Auction.{Auction, IsAuction}
 use Rattle.auction.specs.Coins.{Coins, flat}
-use Rattle.auction.specs.Canonical.{Seat, blank, seated, shares-for, added}
+use Rattle.auction.specs.Canonical.{Seat, zeros, seated, shares-for, after-adding}
 use Rattle.auction.proofs.Closed.{entries, added-polynomials, at-party, no-totals}
-use Rattle.auction.proofs.Judging.{kept-new, replied-next, is-party, is-listed, is-below}
+use Rattle.auction.proofs.Judging.{kept-new, replied-next}
 use Rattle.auction.proofs.Totals.{GoodBid, Held, entries-held}
 
 -- ---- flattened groups
@@ -66,67 +64,26 @@ shares-written t j (x ∷ xs) (g ∷ gs) l h =
     ap₂ (λ (u v : List ℕ). value amounts (x ∷ u) j ∷ bid-shares t j xs v) (take-at g (flat gs) t (h .0 .0)) (drop-at g (flat gs) t (h .0 .0))
     ∙ ap (λ (z : List ℕ). value amounts (x ∷ g) j ∷ z) (shares-written t j xs gs (suc-inj l) (h .1))
 
-module _ (n j k : ℕ) (h3 : 3 ≤ n) (h9 : n ≤ 9) (h1 : 1 ≤ j) (hn : j ≤ n) (k1 : 1 ≤ k) (k2 : k ≤ 1024) where
-  pub split-accepted : (b : List ℕ × List (List ℕ)) (shares : List ℕ) → GoodBid k (threshold n) b → length shares ≡ 2 * k
-      → split-judgement n j k (b .0) (flat (b .1)) shares ≡ Accepted
-  unfolding split-judgement judged
-  split-accepted b shares B l =
-      let many : length (flat (b .1)) ≡ 2 * k * threshold n = flat-length p (threshold n) (b .1) (B .groups) ∙ ap (λ (z : ℕ). z * threshold n) (B .many) in
-      simp (
-        is-party n j h3 h9 h1 hn,
-        is-listed k k1 k2,
-        eq-eqb _ _ (B .table .long),
-        eq-eqb _ _ many,
-        eq-eqb _ _ l,
-        is-below p (flat (b .1)) (flat-below p (threshold n) (b .1) (B .groups)),
-        B .table .small,
-        B .table .monotone,
-      )
+module _ (n j k : ℕ) (L : OnList n j k) (b : List ℕ × List (List ℕ)) (shares : List ℕ) (B : GoodBid k (threshold n) b) (l : length shares ≡ 2 * k) where
+  pub splits-bid : split-judgement n j k (b .0) (flat (b .1)) shares ≡ Accepted
+  splits-bid =
+      split-accepted n j k (b .0) (flat (b .1)) shares
+      (record {
+        listed = L;
+        table-long = B .table .long;
+        coins-long = flat-length p (threshold n) (b .1) (B .groups) ∙ ap (λ (z : ℕ). z * threshold n) (B .many);
+        shares-long = l;
+        coins-below = flat-below p (threshold n) (b .1) (B .groups);
+        small = B .table .small;
+        monotone = B .table .monotone;
+      })
 
-  pub split-writes : (b : List ℕ × List (List ℕ)) (shares : List ℕ) → GoodBid k (threshold n) b → length shares ≡ 2 * k
-      → split-left n j k (b .0) (flat (b .1)) shares ≡ at-party j (entries (b .0) (b .1))
-  split-writes b shares B l =
-      kept-new _ (split-accepted b shares B l) _ shares ∙ shares-written (threshold n) j (b .0) (b .1) (B .many ∙ sym (B .table .long)) (B .groups)
-
-  -- ---- opening
-
-  pub open-accepted : (totals : List ℕ) → length totals ≡ 2 * k → open-judgement n j k totals ≡ Accepted
-  unfolding open-judgement judged
-  open-accepted totals l = simp (is-party n j h3 h9 h1 hn, is-listed k k1 k2, eq-eqb _ _ l)
+  pub split-writes : split-left n j k (b .0) (flat (b .1)) shares ≡ at-party j (entries (b .0) (b .1))
+  split-writes = kept-new _ splits-bid _ shares ∙ shares-written (threshold n) j (b .0) (b .1) (B .many ∙ sym (B .table .long)) (B .groups)
 
 -- the record of party j with m bids held
 unfoldable pub holding : (n k m j : ℕ) → Party
 holding n k m j = record { n = n; own = j; k = k; bids = m; lo = 0; hi = k + 1; probes = 0; round = 1; sum = 0; carry = 0 }
-
-limit-some : (k : ℕ) → 1 ≤ k → 0 < limit k
-limit-some k h = omega (arith, limit-half k h)
-
-module _ (n j k m : ℕ) (h3 : 3 ≤ n) (h9 : n ≤ 9) (h1 : 1 ≤ j) (hn : j ≤ n) (k1 : 1 ≤ k) (k2 : k ≤ 1024) (hm : m < 1000) where
-  holding-sound : sound (holding n k m j) ≡ true
-  unfolding sound holding
-  holding-sound =
-      simp (
-        is-party n j h3 h9 h1 hn,
-        is-listed k k1 k2,
-        le-leb m 1000 (omega arith),
-        lt-ltb 0 (k + 1) (omega arith),
-        le-leb (k + 1) (k + 1) (omega arith),
-        le-leb 0 (limit k) (omega arith),
-        ne-eqb 0 (limit k) (λ e. omega (arith, limit-some k k1)),
-      )
-
-  pub add-accepted : (totals shares : List ℕ) → length totals ≡ 2 * k → length shares ≡ 2 * k → AllBelow p totals → AllBelow p shares
-      → add-judgement (holding n k m j) totals shares ≡ Accepted
-  unfolding add-judgement judged holding
-  add-accepted totals shares lt ls ht hs =
-      simp (
-        holding-sound,
-        eq-eqb _ _ lt,
-        eq-eqb _ _ ls,
-        lt-leb 1000 m hm,
-        is-below p totals ht,
-        is-below p shares hs,
-      )
 
 fresh-holding : (n k j : ℕ) → fresh n j k ≡ holding n k 0 j
 unfolding fresh holding
@@ -135,6 +92,13 @@ fresh-holding n k j = refl
 pub one-more : (n k m j : ℕ) → counted (holding n k m j) ≡ holding n k (m + 1) j
 unfolding counted holding
 one-more n k m j = refl
+
+holding-sound : (n k j m : ℕ) → OnList n j k → m ≤ 1000 → Sound (holding n k m j)
+unfolding holding fresh counted
+holding-sound n k j zero L h = fresh-sound n j k L
+holding-sound n k j (suc m) L h =
+    let next : Sound (holding n k (m + 1) j) = counted-sound (holding n k m j) (holding-sound n k j m L (omega arith)) (omega arith) in
+    rw (add-one m) at next
 
 -- ---- the words of a party
 
@@ -170,40 +134,62 @@ at-party-zeros t j (suc m) = ap₂ (λ (x : ℕ) (xs : List ℕ). x ∷ xs) (val
 unfoldable pub holding-seat : (a : Auction) (m : ℕ) (fs : List (List ℕ)) (j : ℕ) → Seat
 holding-seat a m fs j = record { party = holding (a .n) (a .k) m j; totals = at-party j fs; sheets = [] }
 
+module _ {a : Auction} (A : IsAuction a) (j : ℕ) (h1 : 1 ≤ j) (hn : j ≤ a .n) where
+  -- every party of an auction is one of n, with k listed prices
+  pub member : OnList (a .n) j (a .k)
+  member =
+      record {
+        parties-least = A .n-least;
+        parties-most = A .n-most;
+        own-least = h1;
+        own-most = hn;
+        prices-least = A .k-least;
+        prices-most = A .k-most;
+      }
+
+  pub opening-accepted : (totals : List ℕ) → length totals ≡ 2 * a .k → open-judgement (a .n) j (a .k) totals ≡ Accepted
+  opening-accepted totals l = open-accepted (a .n) j (a .k) totals (record { listed = member; totals-long = l })
+
 module _ {a : Auction} (c : Coins) (A : IsAuction a) (j : ℕ) (h1 : 1 ≤ j) (hn : j ≤ a .n) where
-  pub opening-accepted : open-judgement (a .n) j (a .k) (blank a c) ≡ Accepted
-  opening-accepted = open-accepted (a .n) j (a .k) (A .n-least) (A .n-most) h1 hn (A .k-least) (A .k-most) (blank a c) (length-replicate (2 * a .k) 0)
+  pub opened : open-judgement (a .n) j (a .k) (zeros a c) ≡ Accepted
+  opened = opening-accepted A j h1 hn (zeros a c) (length-replicate (2 * a .k) 0)
 
   pub seated-holding : seated a c j ≡ holding-seat a 0 (no-totals a) j
   unfolding seated holding-seat
   seated-holding =
       ap₂ (λ (q : Party) (totals : List ℕ). record { party = q; totals = totals; sheets = [] })
-      (replied-next _ opening-accepted (fresh (a .n) j (a .k)) opening.blank ∙ fresh-holding (a .n) (a .k) j)
-      (kept-new _ opening-accepted (replicate (2 * a .k) 0) (blank a c) ∙ sym (at-party-zeros (threshold (a .n)) j (2 * a .k)))
+      (replied-next _ opened (fresh (a .n) j (a .k)) blank ∙ fresh-holding (a .n) (a .k) j)
+      (kept-new _ opened (replicate (2 * a .k) 0) (zeros a c) ∙ sym (at-party-zeros (threshold (a .n)) j (2 * a .k)))
 
   module _ (b : List ℕ × List (List ℕ)) (B : GoodBid (a .k) (threshold (a .n)) b) where
-    pub splitting-accepted : split-judgement (a .n) j (a .k) (b .0) (flat (b .1)) (blank a c) ≡ Accepted
-    splitting-accepted =
-        split-accepted (a .n) j (a .k) (A .n-least) (A .n-most) h1 hn (A .k-least) (A .k-most) b (blank a c) B (length-replicate (2 * a .k) 0)
+    pub splitting-accepted : split-judgement (a .n) j (a .k) (b .0) (flat (b .1)) (zeros a c) ≡ Accepted
+    splitting-accepted = splits-bid (a .n) j (a .k) (member A j h1 hn) b (zeros a c) B (length-replicate (2 * a .k) 0)
 
     module _ (m : ℕ) (fs : List (List ℕ)) (F : Held (a .k) (threshold (a .n)) fs) where
       pub shares-for-party : shares-for a c b (holding-seat a m fs j) ≡ at-party j (entries (b .0) (b .1))
       unfolding shares-for holding-seat holding
-      shares-for-party =
-          split-writes (a .n) j (a .k) (A .n-least) (A .n-most) h1 hn (A .k-least) (A .k-most) b (blank a c) B (length-replicate (2 * a .k) 0)
+      shares-for-party = split-writes (a .n) j (a .k) (member A j h1 hn) b (zeros a c) B (length-replicate (2 * a .k) 0)
 
       module _ (hm : m < 1000) where
         pub adding-accepted : add-judgement (holding (a .n) (a .k) m j) (at-party j fs) (at-party j (entries (b .0) (b .1))) ≡ Accepted
+        unfolding holding
         adding-accepted =
             let E : Held (a .k) (threshold (a .n)) (entries (b .0) (b .1)) = entries-held (a .k) (threshold (a .n)) b B in
             let hj : j < p = point-below (a .n) j (A .n-most) hn in
-            add-accepted (a .n) j (a .k) m (A .n-least) (A .n-most) h1 hn (A .k-least) (A .k-most) hm
-            (at-party j fs) (at-party j (entries (b .0) (b .1)))
-            (length-map fs (λ f. value amounts f j) ∙ F .many) (length-map (entries (b .0) (b .1)) (λ f. value amounts f j) ∙ E .many)
-            (at-party-below (threshold (a .n)) j fs hj (F .shared)) (at-party-below (threshold (a .n)) j (entries (b .0) (b .1)) hj (E .shared))
+            add-accepted (holding (a .n) (a .k) m j) (at-party j fs) (at-party j (entries (b .0) (b .1)))
+            (record {
+              sound = holding-sound (a .n) (a .k) j m (member A j h1 hn) (omega (arith, hm));
+              totals-long = length-map fs (λ f. value amounts f j) ∙ F .many;
+              shares-long = length-map (entries (b .0) (b .1)) (λ f. value amounts f j) ∙ E .many;
+              no-probes = refl;
+              first-round = refl;
+              room = hm;
+              totals-below = at-party-below (threshold (a .n)) j fs hj (F .shared);
+              shares-below = at-party-below (threshold (a .n)) j (entries (b .0) (b .1)) hj (E .shared);
+            })
 
-        pub added-holding : added a c b (holding-seat a m fs j) ≡ holding-seat a (m + 1) (added-polynomials fs (entries (b .0) (b .1))) j
-        unfolding added holding-seat
+        pub added-holding : after-adding a c b (holding-seat a m fs j) ≡ holding-seat a (m + 1) (added-polynomials fs (entries (b .0) (b .1))) j
+        unfolding after-adding holding-seat
         added-holding =
             let q : Party = holding (a .n) (a .k) m j in
             let E : Held (a .k) (threshold (a .n)) (entries (b .0) (b .1)) = entries-held (a .k) (threshold (a .n)) b B in

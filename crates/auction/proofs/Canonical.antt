@@ -6,13 +6,13 @@ use mathlib.Core.Option.{Option}
 use Prim.Native.Nat.{ℕ, _*_, _≤_}
 use lib.ListN.{length, replicate, length-map}
 use Rattle.ranges.specs.Sizes.{probe-rounds}
-use Rattle.session.specs.declared.record.Answer.the-variants.{Cleared}
+use Rattle.session.specs.declared.reply.Answer.the-variants.{Cleared}
 use Rattle.auction.specs.Auction.{Auction, IsAuction, clearing-answer}
 use Rattle.auction.specs.Coins.{Coins, InRange}
 use Rattle.auction.specs.Call.{Call}
 use Rattle.auction.specs.Canonical.{canonical}
 use Rattle.auction.specs.Run.{own}
-use Rattle.auction.specs.Received.{collect, bid-shares-in, hearing-in, answer-in, bid-shares, hearings, answers, messages, sheets, decisions, verdicts}
+use Rattle.auction.specs.Received.{collect, bid-shares-in, hearing-in, answer-in, received-shares, hearings, answers, messages, sheets, decisions, verdicts}
 use Rattle.auction.specs.Demands.{all-accepted}
 use Rattle.auction.proofs.Closed.{decision, all-spoken, sheets-at, probes}
 use Rattle.auction.proofs.Calls.{own-append, collect-append, all-accepted-append}
@@ -36,7 +36,7 @@ module _ (a : Auction) (c : Coins) (A : IsAuction a) (C : InRange a c) where
         ∙ ap (λ l. l ++ collect f (own j (round-calls a c))) e
         ∙ ap (λ l. xs ++ l) g
 
-    pub canonical-bid-shares : bid-shares j (canonical a c) ≡ bid-words j (a .bids) (c .bids)
+    pub canonical-bid-shares : received-shares j (canonical a c) ≡ bid-words j (a .bids) (c .bids)
     canonical-bid-shares = reads bid-shares-in _ [] (setup-shares A C j j1 jn) (rounds-bids a c A C j j1 jn) ∙ append-nil _
 
     canonical-hearings : hearings j (canonical a c) ≡ collect hearing-in (own j (round-calls a c))

@@ -10,12 +10,11 @@ use lib.ListN.{length}
 use Rattle.ranges.specs.Lists.{from}
 use Rattle.sharing.specs.Scheme.{points}
 use Rattle.search.specs.Bracket.{middle, over}
-use Rattle.round.specs.Round as round
+use Rattle.round.specs.Round.{heard}
 use Rattle.auction.specs.Auction.{Auction}
 use Rattle.auction.specs.Coins.{Coins}
 use Rattle.auction.specs.Call.{Call, accepted, whose, of-party, given}
-use Rattle.auction.specs.Canonical as canonical
-use Rattle.auction.specs.Canonical.{Seat, all-over, say-by, word-by, hear-by, ask, from-rounds}
+use Rattle.auction.specs.Canonical.{Seat, all-over, say-by, word-by, hear-by, ask, from-rounds, after-hearing}
 use Rattle.auction.specs.Run.{select, own}
 use Rattle.auction.specs.Received.{collect, bid-shares-in, Hearing, hearing-in, answer-in, verdict-in, decision-in}
 use Rattle.auction.specs.Demands.{all-accepted}
@@ -34,7 +33,7 @@ module _ (a : Auction) (c : Coins) where
   from-going : (fuel : ℕ) (ss : List Seat) → all-over ss ≡ false
       → from-rounds a c (suc fuel) ss
       ≡ map (say-by a c) ss
-      ++ (map (hear-by a c (map (word-by a c) ss)) ss ++ from-rounds a c fuel (map (canonical.heard a c (map (word-by a c) ss)) ss))
+      ++ (map (hear-by a c (map (word-by a c) ss)) ss ++ from-rounds a c fuel (map (after-hearing a c (map (word-by a c) ss)) ss))
   unfolding from-rounds
   from-going fuel ss e = rw (e, from-rounds)
 
@@ -73,7 +72,7 @@ module _ (a : Auction) (c : Coins) where
   hearing-of j r = record { party = record-at a c (r .stage) j; sheets = sheets-at a c j; messages = all-words r }
 
   abbrev pub verdict-heard : Turn → Option ℕ
-  verdict-heard r = verdict-in (round.heard (a .n) (r .stage .round) (all-words r))
+  verdict-heard r = verdict-in (heard (a .n) (r .stage .round) (all-words r))
 
 -- rounds that lead from one stage to another, with the verdicts that are heard in them
 pub data Chain (a : Auction) (c : Coins) : Stage → List Turn → List (ℕ × ℕ) → Stage → Type 0 where
@@ -102,10 +101,10 @@ module _ (a : Auction) (c : Coins) (many : 1 ≤ a .n) where
     pub words-are : map (word-by a c) (seats a c σ) ≡ map w (points (a .n))
     words-are = map-map (word-by a c) (seat a c σ) (points (a .n)) ∙ map-points (λ j. word-by a c (seat a c σ j)) w (a .n) (S .word)
 
-    pub seats-are : map (canonical.heard a c (map w (points (a .n)))) (seats a c σ) ≡ seats a c τ
+    pub seats-are : map (after-hearing a c (map w (points (a .n)))) (seats a c σ) ≡ seats a c τ
     seats-are =
-        map-map (canonical.heard a c (map w (points (a .n)))) (seat a c σ) (points (a .n))
-        ∙ map-points (λ j. canonical.heard a c (map w (points (a .n))) (seat a c σ j)) (seat a c τ) (a .n) (S .next)
+        map-map (after-hearing a c (map w (points (a .n)))) (seat a c σ) (points (a .n))
+        ∙ map-points (λ j. after-hearing a c (map w (points (a .n))) (seat a c σ j)) (seat a c τ) (a .n) (S .next)
 
     pub turn-rounds : (fuel : ℕ) → from-rounds a c (suc fuel) (seats a c σ) ≡ turn-calls a c this ++ from-rounds a c fuel (seats a c τ)
     unfolding turn-calls

@@ -13,9 +13,8 @@ use Rattle.ranges.specs.Lists.{from}
 use Rattle.sharing.specs.Scheme.{threshold, points}
 use Rattle.search.specs.declared.Bracket.{Bracket}
 use Rattle.search.specs.Bracket.{start, middle, over, step}
-use Rattle.comparison.specs.Probe as probe
-use Rattle.comparison.specs.Probe.{Probe, secret, round, carry-after, opened-sum, carry-one, last-polynomial}
-use Rattle.session.specs.declared.record.Party.{Party}
+use Rattle.comparison.specs.Probe.{SheetCoins, sheet-polynomials, sheet-shares, probe-messages, Probe, secret, round, carry-after, opened-sum, carry-one, last-polynomial}
+use Rattle.record.specs.declared.Party.{Party}
 use Rattle.auction.specs.Auction.{Auction}
 use Rattle.auction.specs.Coins.{Coins, flat}
 use Rattle.auction.specs.Canonical.{Seat}
@@ -53,8 +52,8 @@ module _ (a : Auction) where
   -- ---- one probe
 
   -- the probe at index i with the totals fs and this sheet
-  unfoldable pub probe-at : List (List ℕ) → ℕ → probe.Coins → Probe
-  probe-at fs i s = record { demand = getD fs (i - 1) []; supply = getD fs (a .k + i - 1) []; sheet = probe.dealt s }
+  unfoldable pub probe-at : List (List ℕ) → ℕ → SheetCoins → Probe
+  probe-at fs i s = record { demand = getD fs (i - 1) []; supply = getD fs (a .k + i - 1) []; sheet = sheet-polynomials s }
 
 -- C_(m + 1): the carry after round m + 1
 unfoldable pub carry-at : Probe → ℕ → List ℕ
@@ -78,7 +77,7 @@ abbrev pub decision : Made → ℕ × ℕ
 decision d = (middle (d .bracket), decided d)
 
 -- the probes that the search makes with these sheets, until it is over
-unfoldable pub made : (a : Auction) → List (List ℕ) → Bracket → List probe.Coins → List Made
+unfoldable pub made : (a : Auction) → List (List ℕ) → Bracket → List SheetCoins → List Made
 made a fs b [] = []
 made a fs b (s ∷ ss) =
     let q = probe-at a fs (middle b) s in
@@ -86,7 +85,7 @@ made a fs b (s ∷ ss) =
 
 -- the messages of the n parties, round by round
 unfoldable pub spoken : (n : ℕ) → Probe → List (List ℕ)
-spoken n q = map (λ i. map (λ j. getD (probe.probe-messages q j) i 0) (points n)) (from 0 probe-rounds)
+spoken n q = map (λ i. map (λ j. getD (probe-messages q j) i 0) (points n)) (from 0 probe-rounds)
 
 -- those of these probes
 abbrev pub all-spoken : (n : ℕ) → List Made → List (List ℕ)
@@ -128,7 +127,7 @@ module _ (a : Auction) (c : Coins) where
       }
 
   unfoldable pub sheets-at : ℕ → List ℕ
-  sheets-at j = flat (map (λ s. probe.sheet-shares j (probe.dealt s)) (c .sheets))
+  sheets-at j = flat (map (λ s. sheet-shares j (sheet-polynomials s)) (c .sheets))
 
   unfoldable pub seat : Stage → ℕ → Seat
   seat σ j = record { party = record-at σ j; totals = at-party j (polynomials a c); sheets = sheets-at j }

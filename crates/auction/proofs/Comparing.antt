@@ -10,7 +10,7 @@ use Rattle.sharing.specs.Scheme.{threshold}
 use Rattle.search.specs.declared.Bracket.{Bracket}
 use Rattle.search.specs.Bracket.{middle, over}
 use Rattle.search.proofs.Narrowing.{over-false, middle-above, middle-below}
-use Rattle.comparison.specs.Probe as probe
+use Rattle.comparison.specs.Probe.{SheetCoins, SheetInRange}
 use Rattle.comparison.proofs.Values.{Shared}
 use Rattle.comparison.proofs.Promise.{Compares}
 use Rattle.auction.specs.Auction.{Auction, IsAuction, demand, supply}
@@ -26,7 +26,7 @@ module _ (a : Auction) (c : Coins) (A : IsAuction a) (C : InRange a c) (i : ℕ)
   supply-shared = polynomial-shared A C (a .k + i - 1) (omega arith)
 
   -- a probe compares the totals at its index
-  pub compares : (s : probe.Coins) → probe.InRange (threshold (a .n)) s
+  pub compares : (s : SheetCoins) → SheetInRange (threshold (a .n)) s
       → Compares (threshold (a .n)) (demand a i) (supply a i) s (probe-at a (polynomials a c) i s)
   unfolding probe-at
   compares s h =

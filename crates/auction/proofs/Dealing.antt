@@ -1,26 +1,25 @@
 -- Dealing a sheet: the words that are written are those of the polynomials that its coins make. Assumes nothing.
 use mathlib.Core.Path.{_≡_, refl, ap, ap₂, _∙_}
 use mathlib.Core.List.{List, [], _∷_, _++_, map, append-assoc}
-use Prim.Native.Nat.{ℕ, zero, suc, _+_, _*_, _^_, _≤_}
+use Prim.Native.Nat.{ℕ, zero, suc, _+_, _*_}
 use native.Mathlib.Nat.{suc-inj}
 use native.Mathlib.Omega.{arith}
-use lib.ListN.{length, replicate, length-append}
+use lib.ListN.{length, length-append}
 use lib.Seq.{take-at, drop-at}
-use borrow.Author.Tests.{lt-ltb, eq-eqb}
 use Rattle.ranges.specs.Sizes.{sheet-size}
-use Rattle.fields.specs.Amount.{p, amounts}
+use Rattle.fields.specs.Amount.{amounts}
 use Rattle.fields.specs.Byte.{product, bytes}
-use Rattle.refusal.specs.Judging.{judged}
 use Rattle.refusal.specs.declared.Judgement.the-variants.{Accepted}
 use Rattle.ranges.specs.Lists.{from}
 use Rattle.sharing.specs.Polynomial.{value, share-each}
 use Rattle.sharing.specs.Scheme.{threshold}
-use Rattle.comparison.specs.Probe as probe
-use Rattle.comparison.specs.Probe.{Each, Group, TripleCoins, TripleInRange, bit-polynomials, triple-polynomials, triple-words}
+use Rattle.comparison.specs.Probe.{SheetCoins, SheetInRange, sheet-polynomials, sheet-shares, Each, Group, TripleCoins, TripleInRange, bit-polynomials, triple-polynomials, triple-words}
 use Rattle.fields.specs.Bits.{bit}
 use Rattle.dealer.specs.Deal.{deal-judgement, byte-shares, triple, triples, preprocessing, deal-left}
+use Rattle.dealer.proofs.Laws.{deal-accepted}
+use Rattle.ranges.proofs.Ranges.{IsParty}
 use Rattle.auction.specs.Coins.{flat, coin-words, triple-bytes, coin-bytes}
-use Rattle.auction.proofs.Judging.{kept-new, is-party, is-below}
+use Rattle.auction.proofs.Judging.{kept-new}
 use Rattle.auction.proofs.Bidding.{flat-length}
 
 -- ---- how many bytes
@@ -35,7 +34,7 @@ triples-length t [] h = omega arith
 triples-length t (c ∷ cs) h =
     length-append (triple-bytes c) (flat (map triple-bytes cs)) ∙ omega (arith, triple-length t c (h .0), triples-length t cs (h .1))
 
-pub bytes-length : (t : ℕ) (s : probe.Coins) → probe.InRange t s → length (coin-bytes s) ≡ 126 * t + 62
+pub bytes-length : (t : ℕ) (s : SheetCoins) → SheetInRange t s → length (coin-bytes s) ≡ 126 * t + 62
 unfolding coin-bytes
 bytes-length t s h =
     length-append (flat (s .of-bits)) (flat (map triple-bytes (s .triples)))
@@ -89,9 +88,9 @@ triples-written t j (suc m) (c ∷ cs) l h =
 
 -- ---- a sheet
 
-pub sheet-written : (t j : ℕ) (s : probe.Coins) → probe.InRange t s
-    → preprocessing t j (coin-words s) (coin-bytes s) ≡ probe.sheet-shares j (probe.dealt s)
-unfolding preprocessing coin-bytes probe.sheet-shares probe.dealt
+pub sheet-written : (t j : ℕ) (s : SheetCoins) → SheetInRange t s
+    → preprocessing t j (coin-words s) (coin-bytes s) ≡ sheet-shares j (sheet-polynomials s)
+unfolding preprocessing coin-bytes sheet-shares sheet-polynomials
 sheet-written t j s h =
     let many : length (flat (s .of-bits)) ≡ 33 * t = flat-length 256 t (s .of-bits) (h .of-bits) ∙ ap (λ (z : ℕ). z * t) (h .bits-long) in
     ap₂ (λ (u v : List ℕ). value amounts (s .mask ∷ s .of-mask) j ∷ (u ++ v))
@@ -99,18 +98,18 @@ sheet-written t j s h =
     (ap (triples t j 31) (drop-at (flat (s .of-bits)) (flat (map triple-bytes (s .triples))) (33 * t) many)
     ∙ triples-written t j 31 (s .triples) (h .triples-long) (h .triples))
 
-module _ (n j : ℕ) (h3 : 3 ≤ n) (h9 : n ≤ 9) (h1 : 1 ≤ j) (hn : j ≤ n) (s : probe.Coins) (h : probe.InRange (threshold n) s) where
-  pub deal-accepted : deal-judgement n j (coin-words s) (coin-bytes s) (replicate sheet-size 0) ≡ Accepted
-  unfolding deal-judgement judged
-  deal-accepted =
-      let words : length (coin-words s) ≡ 1 + threshold n = ap suc (h .of-mask .0) ∙ omega arith in
-      simp (
-        is-party n j h3 h9 h1 hn,
-        eq-eqb _ _ words,
-        eq-eqb _ _ (bytes-length (threshold n) s h),
-        lt-ltb (s .mask) (2 ^ 58) (h .mask),
-        is-below p (s .of-mask) (h .of-mask .1),
-      )
+module _ (n j : ℕ) (P : IsParty n j) (s : SheetCoins) (h : SheetInRange (threshold n) s) (sheet : List ℕ) (l : length sheet ≡ sheet-size) where
+  pub deals-sheet : deal-judgement n j (coin-words s) (coin-bytes s) sheet ≡ Accepted
+  deals-sheet =
+      deal-accepted n j (coin-words s) (coin-bytes s) sheet
+      (record {
+        party = P;
+        words-long = ap suc (h .of-mask .0) ∙ omega arith;
+        drawn-long = bytes-length (threshold n) s h;
+        sheet-long = l;
+        mask-below = h .mask;
+        coins-below = h .of-mask .1;
+      })
 
-  pub deal-writes : deal-left n j (coin-words s) (coin-bytes s) (replicate sheet-size 0) ≡ probe.sheet-shares j (probe.dealt s)
-  deal-writes = kept-new _ deal-accepted _ (replicate sheet-size 0) ∙ sheet-written (threshold n) j s h
+  pub deal-writes : deal-left n j (coin-words s) (coin-bytes s) sheet ≡ sheet-shares j (sheet-polynomials s)
+  deal-writes = kept-new _ deals-sheet _ sheet ∙ sheet-written (threshold n) j s h

@@ -2,7 +2,7 @@
 use mathlib.Core.Path.{_≡_, refl, ap, _∙_}
 use mathlib.Core.Bool.{Bool, true, false, not, _&&_, true≢false}
 use mathlib.Core.List.{List, [], _∷_, _++_, map, zip}
-use Prim.Native.Nat.{ℕ, zero, suc, _+_, _*_, _≤_}
+use Prim.Native.Nat.{ℕ, zero, suc, _+_, _≤_}
 use native.Mathlib.Omega.{arith}
 use lib.Dec.{eqb}
 use borrow.Author.Tests.{ne-eqb}
@@ -13,22 +13,21 @@ use Rattle.refusal.specs.declared.Judgement.the-variants.{Accepted, Refused}
 use Rattle.ranges.specs.Lists.{from}
 use Rattle.sharing.specs.Scheme.{points}
 use Rattle.comparison.specs.Probe.{Each}
-use Rattle.session.specs.declared.record.Party.{Party}
-use Rattle.session.specs.Record.{sound, replied}
-use Rattle.session.specs.Open.{fresh, open-judgement}
-use Rattle.session.specs.Open as opening
+use Rattle.record.specs.declared.Party.{Party}
+use Rattle.record.specs.Record.{sound, replied, blank}
+use Rattle.record.specs.Updates.{fresh, counted}
+use Rattle.session.specs.Open.{open-judgement}
 use Rattle.session.specs.Add.{add-judgement}
 use Rattle.session.specs.Answer.{answer-judgement}
-use Rattle.session.specs.Updates.{counted}
-use Rattle.session.proofs.Updates.{blank-unsound, counted-same}
-use Rattle.saying.specs.Say.{current, say-judgement}
+use Rattle.record.proofs.Updates.{blank-unsound, counted-same}
+use Rattle.saying.specs.Say.{current, turn-judgement, say-judgement}
 use Rattle.hearing.proofs.Next.{after-same}
 use Rattle.hearing.specs.Hear.{hear-judgement, after}
-use Rattle.round.specs.Round as round
+use Rattle.round.specs.Round.{heard}
 use Rattle.auction.specs.Auction.{Auction}
 use Rattle.auction.specs.Coins.{Coins}
 use Rattle.auction.specs.Call.{Call, open-call, service, judgement, is-accepted, accepted, whose, of-party}
-use Rattle.auction.specs.Canonical.{Seat, all-over, blank, seated, shares-for, split-for, add-by, added, deal-for, dealt, say-by, word-by, hear-by, heard, ask, enough-rounds, from-rounds, deals, from-bids, canonical}
+use Rattle.auction.specs.Canonical.{Seat, all-over, zeros, seated, shares-for, split-for, add-by, after-adding, deal-for, after-dealing, say-by, word-by, hear-by, after-hearing, ask, enough-rounds, from-rounds, deals, from-bids, canonical}
 use Rattle.auction.specs.Run.{select, own}
 use Rattle.auction.proofs.Selected.{and-false}
 use Rattle.auction.proofs.Calls.{select-append}
@@ -41,7 +40,7 @@ module _ (q : Party) (unsound : sound q ≡ false) where
   no-add totals shares = ap is-accepted (refuses _ _ _ (ap not unsound))
 
   no-say : (totals sheets : List ℕ) → is-accepted (say-judgement q totals sheets) ≡ false
-  unfolding say-judgement is-accepted
+  unfolding turn-judgement is-accepted
   no-say totals sheets = ap is-accepted (refuses _ _ _ (ap not unsound))
 
   no-hear : (totals sheets messages : List ℕ) → is-accepted (hear-judgement q totals sheets messages) ≡ false
@@ -113,23 +112,23 @@ module _ (j : ℕ) where
   module _ (a : Auction) (c : Coins) where
     away-seated : (i : ℕ) → eqb i j ≡ false → Away (seated a c i)
     unfolding seated replied kept fresh
-    away-seated i h = split (open-judgement (a .n) i (a .k) (blank a c))
+    away-seated i h = split (open-judgement (a .n) i (a .k) (zeros a c))
       where
-        split : (J : Judgement) → Not (kept J (fresh (a .n) i (a .k)) opening.blank)
+        split : (J : Judgement) → Not (kept J (fresh (a .n) i (a .k)) blank)
         split Accepted = and-false (sound (fresh (a .n) i (a .k))) (eqb i j) h
         split (Refused why) = rw blank-unsound
 
-    away-added : (b : List ℕ × List (List ℕ)) (s : Seat) → Away s → Away (added a c b s)
-    unfolding added
+    away-added : (b : List ℕ × List (List ℕ)) (s : Seat) → Away s → Away (after-adding a c b s)
+    unfolding after-adding
     away-added b s h =
         left-away (s .party) (counted (s .party)) (add-judgement (s .party) (s .totals) (shares-for a c b s)) (λ e. no-add (s .party) e (s .totals) (shares-for a c b s))
         (counted-same (s .party) .own) h
 
-    away-heard : (words : List ℕ) (s : Seat) → Away s → Away (heard a c words s)
-    unfolding heard
+    away-heard : (words : List ℕ) (s : Seat) → Away s → Away (after-hearing a c words s)
+    unfolding after-hearing
     away-heard words s h =
         let sheet = current (s .party) (s .sheets) in
-        let opening = round.heard (s .party .n) (s .party .round) words in
+        let opening = heard (s .party .n) (s .party .round) words in
         left-away (s .party) (after (s .party) sheet opening) (hear-judgement (s .party) (s .totals) (s .sheets) words)
         (λ e. no-hear (s .party) e (s .totals) (s .sheets) words) (after-same (s .party) sheet opening .own) h
 
@@ -163,15 +162,15 @@ module _ (j : ℕ) where
     none-rounds zero ss h = none-asks ss h
     none-rounds (suc fuel) ss h =
         let words = map (word-by a c) ss in
-        let rest = none-rounds fuel (map (heard a c words) ss) (away-map Away (heard a c words) (away-heard words) ss h) in
+        let rest = none-rounds fuel (map (after-hearing a c words) ss) (away-map Away (after-hearing a c words) (away-heard words) ss h) in
         either (own j) (all-over ss) _ _ [] (none-asks ss h) (none-append _ _ (none-says ss h) (none-append _ _ (none-hears words ss h) rest))
 
     none-bids : (bs : List (List ℕ × List (List ℕ))) (ss : List Seat) → Each Away ss → own j (from-bids a c bs ss) ≡ []
-    unfolding from-bids dealt
+    unfolding from-bids after-dealing
     none-bids [] ss h =
-        none-append _ _ (none-deals ss) (none-rounds (enough-rounds a) (map (dealt a c) ss) (away-map Away (dealt a c) (λ s e. e) ss h))
+        none-append _ _ (none-deals ss) (none-rounds (enough-rounds a) (map (after-dealing a c) ss) (away-map Away (after-dealing a c) (λ s e. e) ss h))
     none-bids (b ∷ bs) ss h =
-        let rest = none-bids bs (map (added a c b) ss) (away-map Away (added a c b) (away-added b) ss h) in
+        let rest = none-bids bs (map (after-adding a c b) ss) (away-map Away (after-adding a c b) (away-added b) ss h) in
         none-append _ _ (none-splits b ss) (none-append _ _ (none-adds b ss h) rest)
 
     module _ (outside : 1 ≤ j → j ≤ a .n → ⊥) where
@@ -184,9 +183,9 @@ module _ (j : ℕ) where
       away-points : Each (λ x. eqb x j ≡ false) (points (a .n))
       away-points = away-from 1 (a .n) (omega arith) (omega arith)
 
-      none-opens : own j (map (λ i. open-call (a .n) i (a .k) (blank a c)) (points (a .n))) ≡ []
+      none-opens : own j (map (λ i. open-call (a .n) i (a .k) (zeros a c)) (points (a .n))) ≡ []
       unfolding whose of-party
-      none-opens = none-map (λ x. eqb x j ≡ false) _ (λ x e. and-false (accepted (open-call (a .n) x (a .k) (blank a c))) (eqb x j) e) (points (a .n)) away-points
+      none-opens = none-map (λ x. eqb x j ≡ false) _ (λ x e. and-false (accepted (open-call (a .n) x (a .k) (zeros a c))) (eqb x j) e) (points (a .n)) away-points
 
       -- no call of the canonical list is party j's own
       pub none-told : own j (canonical a c) ≡ []

@@ -18,8 +18,7 @@ use Rattle.search.specs.Bracket.{start, middle}
 use Rattle.search.specs.Search.{promise, trail}
 use Rattle.search.proofs.Narrowing.{encloses-start}
 use Rattle.search.proofs.Clearing.{verdict-by-clearing}
-use Rattle.comparison.specs.Probe as probe
-use Rattle.comparison.specs.Probe.{Each}
+use Rattle.comparison.specs.Probe.{probe-messages, Each}
 use Rattle.comparison.proofs.Agreement.{In}
 use Rattle.auction.specs.Auction.{Auction, IsAuction, demand, supply}
 use Rattle.auction.specs.Coins.{Coins, InRange, flat}
@@ -41,7 +40,7 @@ pub record Match (a b : Auction) (xs : List ℕ) (c : Coins) : Type 0 where
   pub same-sheets : (j : ℕ) → List·Memᴰ j xs → sheets-at b (match-coins a b xs c) j ≡ sheets-at a c j
   -- the probes: where the search stands at each, the words that are said, the verdicts, and how many there are
   pub same-brackets : map (λ d. d .bracket) (probes b (match-coins a b xs c)) ≡ map (λ d. d .bracket) (probes a c)
-  pub same-messages : (j : ℕ) → map (λ d. probe.probe-messages (d .probe) j) (probes b (match-coins a b xs c)) ≡ map (λ d. probe.probe-messages (d .probe) j) (probes a c)
+  pub same-messages : (j : ℕ) → map (λ d. probe-messages (d .probe) j) (probes b (match-coins a b xs c)) ≡ map (λ d. probe-messages (d .probe) j) (probes a c)
   pub same-spoken : map (λ d. spoken (b .n) (d .probe)) (probes b (match-coins a b xs c)) ≡ map (λ d. spoken (a .n) (d .probe)) (probes a c)
   pub same-decisions : map decision (probes b (match-coins a b xs c)) ≡ map decision (probes a c)
   pub same-many : length (probes b (match-coins a b xs c)) ≡ length (probes a c)
@@ -192,7 +191,7 @@ module _ (n k : ℕ) (bids bids′ : List (List ℕ)) (A : IsAuction (auction n 
         same-shares = shares-same xs (polynomials a c) (polynomials b c₀) same-totals;
         same-sheets = λ j i. ap flat (words-same j i on-course);
         same-brackets = made-same (λ d. d .bracket) (λ br s s′ P. refl) on-course;
-        same-messages = λ j. made-same (λ d. probe.probe-messages (d .probe) j) (λ br s s′ P. P .said j) on-course;
+        same-messages = λ j. made-same (λ d. probe-messages (d .probe) j) (λ br s s′ P. P .said j) on-course;
         same-spoken = made-same (λ d. spoken n (d .probe)) (λ br s s′ P. spoken-same n _ _ (P .said)) on-course;
         same-decisions = made-same decision (λ br s s′ P. ap (λ (z : ℕ). (middle br, z)) (P .same)) on-course;
         same-many =

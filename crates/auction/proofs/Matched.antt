@@ -4,7 +4,7 @@ use mathlib.Core.List.{List, [], _∷_}
 use Prim.Native.Nat.{ℕ, _+_, _-_, _^_}
 use Rattle.fields.proofs.Fields.{amount-field}
 use Rattle.sharing.proofs.Laws.{recolour}
-use Rattle.comparison.specs.Probe as probe
+use Rattle.comparison.specs.Probe.{SheetCoins}
 use Rattle.comparison.proofs.Matched.{moved, matched}
 use Rattle.auction.specs.Auction.{Auction, demand, supply}
 use Rattle.auction.specs.Coins.{Coins}
@@ -30,12 +30,12 @@ module _ (xs : List ℕ) where
 
 module _ (a b : Auction) (xs : List ℕ) where
   -- the sheet of the probe at index i: its mask moved by the second's surplus minus the first's, so that the same T opens
-  unfoldable pub matched-sheet : (i : ℕ) → probe.Coins → probe.Coins
+  unfoldable pub matched-sheet : (i : ℕ) → SheetCoins → SheetCoins
   matched-sheet i s =
       matched xs (opening (demand a i) (supply a i) (s .mask)) (moved (s .mask) (demand a i) (supply a i) (demand b i) (supply b i)) s
 
   -- one sheet for each probed index, and unused sheets kept
-  unfoldable pub matched-sheets : (indices : List ℕ) → List probe.Coins → List probe.Coins
+  unfoldable pub matched-sheets : (indices : List ℕ) → List SheetCoins → List SheetCoins
   matched-sheets [] ss = ss
   matched-sheets (i ∷ is) [] = []
   matched-sheets (i ∷ is) (s ∷ ss) = matched-sheet i s ∷ matched-sheets is ss

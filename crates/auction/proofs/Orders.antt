@@ -8,14 +8,14 @@ use Prim.Native.Nat.{ℕ, suc, _≤_}
 use native.Mathlib.Omega.{arith}
 use lib.ListN.{replicate}
 use borrow.Author.Tests.{eqb-true}
-use Rattle.session.specs.declared.record.Party.{Party}
-use Rattle.session.specs.declared.record.Answer.{Answer}
+use Rattle.record.specs.declared.Party.{Party}
+use Rattle.session.specs.declared.reply.Answer.{Answer}
 use Rattle.auction.specs.Auction.{Auction}
 use Rattle.auction.specs.Coins.{Coins}
 use Rattle.auction.specs.Call.{Call, say-call, answer-call, accepted, Whose, party, service, whose, of-party, of-service, given}
 use Rattle.auction.specs.Canonical.{canonical}
 use Rattle.auction.specs.Run.{Run, Repeats, Shuffle, select, own, services}
-use Rattle.auction.specs.Received.{collect, bid-shares-in, hearing-in, answer-in, bid-shares, hearings, answers, messages, sheets, decisions, verdicts, indices, unused}
+use Rattle.auction.specs.Received.{collect, bid-shares-in, hearing-in, answer-in, received-shares, hearings, answers, messages, sheets, decisions, verdicts, indices, unused}
 use Rattle.auction.proofs.Selected.{and-false, with-call, select-cons, select-skip}
 use Rattle.auction.proofs.Calls.{select-append}
 use Rattle.auction.proofs.Swaps.{shuffle-swap, shuffle-refl, repeats-refl, repeats-say, repeats-ask, repeats-none}
@@ -43,7 +43,7 @@ module _ {B : Type 0} (f : Call → Option B) (no-say : (q : Party) (t s : List 
   same-reading (Repeats.ask-again {q} {ds} h) = ap (λ o. with-read o (collect f ds)) (no-ask q) ∙ same-reading h
 
 module _ (a : Auction) (c : Coins) (l : List Call) (run : Run a c l) (j : ℕ) where
-  pub run-bid-shares : bid-shares j l ≡ bid-shares j (canonical a c)
+  pub run-bid-shares : received-shares j l ≡ received-shares j (canonical a c)
   unfolding bid-shares-in
   run-bid-shares = same-reading bid-shares-in (λ q t s. refl) (λ q. refl) (run .parties j)
 

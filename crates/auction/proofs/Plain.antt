@@ -11,8 +11,7 @@ use borrow.Author.Tests.{le-leb, lt-ltb}
 use Rattle.fields.specs.Amount.{p}
 use Rattle.sharing.specs.Scheme.{threshold}
 use Rattle.search.specs.Limit.{limit}
-use Rattle.comparison.specs.Probe as probe
-use Rattle.comparison.specs.Probe.{Group, Each}
+use Rattle.comparison.specs.Probe.{SheetCoins, SheetInRange, Group, Each}
 use Rattle.comparison.proofs.Plain.{each-replicate, zeros-group, plain-coins, plain-mask, plain-ranged}
 use Rattle.auction.specs.Auction.{Auction, IsAuction, demand, supply}
 use Rattle.auction.specs.Coins.{Coins, InRange}
@@ -21,7 +20,7 @@ use Rattle.auction.proofs.Totals.{demand-small, supply-small}
 
 module _ (a : Auction) where
   -- every coefficient 0, every mask in the middle of its range
-  plain-sheet : probe.Coins
+  plain-sheet : SheetCoins
   plain-sheet = plain-coins (threshold (a .n)) (2 ^ 57)
 
   plain : Coins
@@ -41,7 +40,7 @@ module _ (a : Auction) where
             each-replicate (λ groups. (length groups ≡ 2 * a .k) × Each (Group p t) groups) (length (a .bids)) _
             (length-replicate (2 * a .k) _, each-replicate (Group p t) (2 * a .k) _ (zeros-group p t (lit< tt)));
         sheets-many = length-replicate (limit (a .k)) _;
-        sheets = each-replicate (probe.InRange t) (limit (a .k)) _ (plain-ranged t (2 ^ 57) (lit< tt));
+        sheets = each-replicate (SheetInRange t) (limit (a .k)) _ (plain-ranged t (2 ^ 57) (lit< tt));
       }
 
 module _ (a b : Auction) (A : IsAuction a) (B : IsAuction b) where

@@ -1,29 +1,26 @@
 -- A whole probe: 33 rounds, in the last of which its verdict is heard. Assumes nothing.
 use mathlib.Core.Path.{_≡_, refl, ap, subst}
-use mathlib.Core.List.{List, [], _∷_, _++_, map}
+use mathlib.Core.List.{List, [], _∷_, map}
 use Prim.Native.Nat.{ℕ, zero, suc, _+_, _<_}
 use native.Mathlib.Omega.{arith}
 use Rattle.ranges.specs.Sizes.{probe-rounds}
 use Rattle.ranges.specs.Lists.{from}
-use Rattle.sharing.specs.Scheme.{points}
 use Rattle.search.specs.declared.Bracket.{Bracket}
 use Rattle.search.specs.Bracket.{middle, step}
-use Rattle.comparison.specs.Probe as probe
-use Rattle.comparison.specs.Probe.{Probe, secret, last-polynomial}
+use Rattle.comparison.specs.Probe.{SheetCoins, Probe, secret, last-polynomial}
 use Rattle.auction.specs.Auction.{Auction, IsAuction}
 use Rattle.auction.specs.Coins.{Coins, InRange}
-use Rattle.auction.specs.Canonical.{from-rounds}
 use Rattle.auction.specs.Received.{verdict-in}
-use Rattle.auction.proofs.Closed.{polynomials, probe-at, fresh-stage, seat}
+use Rattle.auction.proofs.Closed.{polynomials, probe-at, fresh-stage}
 use Rattle.auction.proofs.Round.{stage-of, words-at, Ready, first-step, first-opens, product-step, product-opens, last-step, last-opens}
-use Rattle.auction.proofs.Chain.{Turn, Chain, done, quiet, decides, calls, chain-rounds}
+use Rattle.auction.proofs.Chain.{Turn, Chain, done, quiet, decides}
 
 -- round i + 1
 abbrev pub turn-of : Bracket → ℕ → Probe → ℕ → Turn
 turn-of b m q i = record { stage = stage-of b m q i; words = words-at q i }
 
-module _ (a : Auction) (c : Coins) (A : IsAuction a) (C : InRange a c) (b : Bracket) (m : ℕ) (s : probe.Coins)
-    (ss : List probe.Coins) (R : Ready a c b m s ss) where
+module _ (a : Auction) (c : Coins) (A : IsAuction a) (C : InRange a c) (b : Bracket) (m : ℕ) (s : SheetCoins)
+    (ss : List SheetCoins) (R : Ready a c b m s ss) where
   abbrev q : Probe
   q = probe-at a (polynomials a c) (middle b) s
 

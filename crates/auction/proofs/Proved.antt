@@ -12,12 +12,12 @@ use Rattle.search.specs.Limit.{limit}
 use Rattle.search.specs.Clearing.{highest, covered, clearing}
 use Rattle.search.specs.Search.{promise, trail}
 use Rattle.search.proofs.Trails.{trail-given}
-use Rattle.session.specs.declared.record.Answer.the-variants.{Cleared}
+use Rattle.session.specs.declared.reply.Answer.the-variants.{Cleared}
 use Rattle.auction.specs.Auction.{Auction, IsAuction, sum, demand, supply, clearing-answer}
 use Rattle.auction.specs.Coins.{Coins, InRange}
 use Rattle.auction.specs.Call.{Call}
 use Rattle.auction.specs.Run.{Run}
-use Rattle.auction.specs.Received.{bid-shares, sheets, messages, decisions, verdicts, unused}
+use Rattle.auction.specs.Received.{received-shares, sheets, messages, decisions, verdicts, unused}
 use Rattle.auction.specs.Demands.{Outcome, Demand2, Alike, Pool, Same, Matched, Demand3}
 use Rattle.auction.proofs.Matched.{match-coins}
 use Rattle.auction.proofs.Closed.{decision, all-spoken, sheets-at, probes}
@@ -47,7 +47,7 @@ pooled n j (x ∷ xs) P m =
 -- ---- what every run has, in closed form
 
 module _ (a : Auction) (c : Coins) (A : IsAuction a) (C : InRange a c) (l : List Call) (run : Run a c l) (j : ℕ) (j1 : 1 ≤ j) (jn : j ≤ a .n) where
-  bid-shares-are : bid-shares j l ≡ bid-words j (a .bids) (c .bids)
+  bid-shares-are : received-shares j l ≡ bid-words j (a .bids) (c .bids)
   bid-shares-are = run-bid-shares a c l run j ∙ canonical-bid-shares a c A C j j1 jn
 
   messages-are : messages j l ≡ all-spoken (a .n) (probes a c)

@@ -22,16 +22,14 @@ use Rattle.search.specs.Bracket.{middle, over, step}
 use Rattle.search.specs.Limit.{limit}
 use Rattle.comparison.specs.Local.{on-shares, on-polynomials}
 use Rattle.comparison.specs.Rounds.{both, masked, first-carry, left, right, next-carry, last}
-use Rattle.comparison.specs.Probe as probe
-use Rattle.comparison.specs.Probe.{Probe, Round, secret, round, carry-after, sum-polynomial, opened-sum, carry-one, last-polynomial, probe-messages}
+use Rattle.comparison.specs.Probe.{SheetCoins, SheetInRange, sheet-polynomials, sheet-shares, Probe, Round, secret, round, carry-after, sum-polynomial, opened-sum, carry-one, last-polynomial, probe-messages}
 use Rattle.comparison.proofs.Values.{Shared, secret-value, masked-value, first-carry-value, left-value, right-value, next-carry-value, last-value}
 use Rattle.comparison.proofs.Dealt.{ProbeShared, SheetShared, bit-at, sum-shared, last-polynomial-shared}
 use Rattle.comparison.proofs.Promise.{Compares, probe-shared, sum-least, sum-most, promised}
 use Rattle.round.specs.declared.Heard.the-variants.{Sum, Factors, Verdict}
 use Rattle.saying.specs.Say.{message}
-use Rattle.round.specs.Round as round
-use Rattle.round.specs.Round.{sum-of, factors-of, verdict-of, sum-outside, verdict-outside}
-use Rattle.session.specs.Updates.{in-round, decided}
+use Rattle.round.specs.Round.{heard, sum-of, factors-of, verdict-of, sum-outside, verdict-outside}
+use Rattle.record.specs.Updates.{in-round, decided}
 use Rattle.hearing.specs.Hear.{after}
 use Rattle.saying.proofs.Messages.{first-message, product-message, last-message}
 use Rattle.round.proofs.Opened.{heard-sum, heard-factors, heard-verdict}
@@ -91,14 +89,14 @@ abbrev pub words-at : Probe → ℕ → ℕ → ℕ
 words-at q i j = getD (probe-messages q j) i 0
 
 -- a probe is to be made with the sheet s
-pub record Ready (a : Auction) (c : Coins) (b : Bracket) (m : ℕ) (s : probe.Coins) (ss : List probe.Coins) : Type 0 where
+pub record Ready (a : Auction) (c : Coins) (b : Bracket) (m : ℕ) (s : SheetCoins) (ss : List SheetCoins) : Type 0 where
   pub apart : b .lo < b .hi
   pub inside : b .hi ≤ a .k + 1
   pub going : over b ≡ false
   pub left : drop m (c .sheets) ≡ s ∷ ss
 
-module _ (a : Auction) (c : Coins) (A : IsAuction a) (C : InRange a c) (b : Bracket) (m : ℕ) (s : probe.Coins)
-    (ss : List probe.Coins) (R : Ready a c b m s ss) where
+module _ (a : Auction) (c : Coins) (A : IsAuction a) (C : InRange a c) (b : Bracket) (m : ℕ) (s : SheetCoins)
+    (ss : List SheetCoins) (R : Ready a c b m s ss) where
   abbrev t : ℕ
   t = threshold (a .n)
 
@@ -119,7 +117,7 @@ module _ (a : Auction) (c : Coins) (A : IsAuction a) (C : InRange a c) (b : Brac
         left = R .left;
       }
 
-  ranged : probe.InRange t s
+  ranged : SheetInRange t s
   ranged = coins-ranged a c A C (fresh-stage b m) s ss fresh-placed
 
   one : 1 ≤ middle b
@@ -134,7 +132,7 @@ module _ (a : Auction) (c : Coins) (A : IsAuction a) (C : InRange a c) (b : Brac
   shared : ProbeShared t q
   shared = probe-shared t (demand a (middle b)) (supply a (middle b)) s q comparing
 
-  sheet-shared : SheetShared t (probe.dealt s)
+  sheet-shared : SheetShared t (sheet-polynomials s)
   unfolding probe-at
   sheet-shared = shared .sheet
 
@@ -165,32 +163,32 @@ module _ (a : Auction) (c : Coins) (A : IsAuction a) (C : InRange a c) (b : Brac
   -- ---- round 1
 
   first-says : (j : ℕ) → 1 ≤ j → j ≤ a .n
-      → message (record-at a c (fresh-stage b m) j) (at-party j (polynomials a c)) (probe.sheet-shares j (probe.dealt s)) ≡ words-at q 0 j
+      → message (record-at a c (fresh-stage b m) j) (at-party j (polynomials a c)) (sheet-shares j (sheet-polynomials s)) ≡ words-at q 0 j
   unfolding record-at probe-at sum-polynomial probe-messages
   first-says j j1 jn =
-      first-message (record-at a c (fresh-stage b m) j) (at-party j (polynomials a c)) (probe.sheet-shares j (probe.dealt s)) refl
-      ∙ masked-same (mask-word t j (probe.dealt s) sheet-shared) (demand-word a c A C (fresh-stage b m) s ss fresh-placed j j1 jn)
+      first-message (record-at a c (fresh-stage b m) j) (at-party j (polynomials a c)) (sheet-shares j (sheet-polynomials s)) refl
+      ∙ masked-same (mask-word t j (sheet-polynomials s) sheet-shared) (demand-word a c A C (fresh-stage b m) s ss fresh-placed j j1 jn)
       (supply-word a c A C (fresh-stage b m) s ss fresh-placed j j1 jn)
       ∙ sym
-      (masked-value t j (probe.dealt s .mask) (getD (polynomials a c) (middle b - 1) []) (getD (polynomials a c) (a .k + middle b - 1) [])
+      (masked-value t j (sheet-polynomials s .mask) (getD (polynomials a c) (middle b - 1) []) (getD (polynomials a c) (a .k + middle b - 1) [])
       (sheet-shared .mask) (demand-shared a c A C (middle b) one most) (supply-shared a c A C (middle b) one most) (omega (arith, A .n-most)))
 
-  pub first-opens : round.heard (a .n) 1 (map (words-at q 0) (points (a .n))) ≡ Sum T
+  pub first-opens : heard (a .n) 1 (map (words-at q 0) (points (a .n))) ≡ Sum T
   unfolding probe-messages
   first-opens =
       heard-sum (a .n) 1 (map (words-at q 0) (points (a .n))) refl
       ∙ ap sum-of (amount-opens (a .n) (sum-polynomial q) (A .n-least) (A .n-most) (sum-shared t q shared))
 
   first-carry-is : (j : ℕ) → 1 ≤ j → j ≤ a .n
-      → value bytes (carry-at q 0) j ≡ first-carry (on-shares bytes) T (getD (probe.sheet-shares j (probe.dealt s)) 1 0)
+      → value bytes (carry-at q 0) j ≡ first-carry (on-shares bytes) T (getD (sheet-shares j (sheet-polynomials s)) 1 0)
   unfolding carry-one probe-at
   first-carry-is j j1 jn =
       ap (λ (x : List ℕ). value bytes x j) (carry-first q)
-      ∙ first-carry-value T 1 t j (omega (arith, A .n-most)) (getD (probe.dealt s .bits) 0 []) (bit-at t q shared 0 (omega arith))
-      ∙ ap (first-carry (on-shares bytes) T) (sym (bit-word t j (probe.dealt s) sheet-shared 0 (omega arith)))
+      ∙ first-carry-value T 1 t j (omega (arith, A .n-most)) (getD (sheet-polynomials s .bits) 0 []) (bit-at t q shared 0 (omega arith))
+      ∙ ap (first-carry (on-shares bytes) T) (sym (bit-word t j (sheet-polynomials s) sheet-shared 0 (omega arith)))
 
   first-turns : (j : ℕ) → 1 ≤ j → j ≤ a .n
-      → after (record-at a c (fresh-stage b m) j) (probe.sheet-shares j (probe.dealt s)) (Sum T) ≡ record-at a c (inner-stage b m q 0) j
+      → after (record-at a c (fresh-stage b m) j) (sheet-shares j (sheet-polynomials s)) (Sum T) ≡ record-at a c (inner-stage b m q 0) j
   unfolding record-at after in-round decided
   first-turns j j1 jn = rw (first-carry-is j j1 jn)
 
@@ -212,12 +210,12 @@ module _ (a : Auction) (c : Coins) (A : IsAuction a) (C : InRange a c) (b : Brac
 
     module _ (j : ℕ) (j1 : 1 ≤ j) (jn : j ≤ a .n) where
       abbrev W : List ℕ
-      W = probe.sheet-shares j (probe.dealt s)
+      W = sheet-shares j (sheet-polynomials s)
 
-      bit-here : getD W (i + 2) 0 ≡ value bytes (getD (probe.dealt s .bits) (i + 1) []) j
+      bit-here : getD W (i + 2) 0 ≡ value bytes (getD (sheet-polynomials s .bits) (i + 1) []) j
       bit-here =
           let e : i + 2 ≡ suc (i + 1) = omega arith in
-          rw e (bit-word t j (probe.dealt s) sheet-shared (i + 1) (omega arith))
+          rw e (bit-word t j (sheet-polynomials s) sheet-shared (i + 1) (omega arith))
 
       abbrev small : j < 10
       small = omega (arith, A .n-most)
@@ -225,17 +223,17 @@ module _ (a : Auction) (c : Coins) (A : IsAuction a) (C : InRange a c) (b : Brac
       left-is : left (on-shares bytes) T (i + 2) (getD W (i + 2) 0) (getD W (34 + 3 * (i + 2 - 2) + 0) 0) ≡ value bytes (r .left) j
       unfolding round probe-at
       left-is =
-          ap₂ (left (on-shares bytes) T (i + 2)) bit-here (alpha-word t j (probe.dealt s) sheet-shared i l)
+          ap₂ (left (on-shares bytes) T (i + 2)) bit-here (alpha-word t j (sheet-polynomials s) sheet-shared i l)
           ∙ sym
-          (left-value T (i + 2) t j small (getD (probe.dealt s .bits) (i + 1) []) (getD (probe.dealt s .triples) i no-triple .alpha)
+          (left-value T (i + 2) t j small (getD (sheet-polynomials s .bits) (i + 1) []) (getD (sheet-polynomials s .triples) i no-triple .alpha)
           (bit-at t q shared (i + 1) (omega arith)) (triple-at t q shared i l .alpha))
 
       right-is : right (on-shares bytes) T (i + 2) (value bytes (carry-at q i) j) (getD W (34 + 3 * (i + 2 - 2) + 1) 0) ≡ value bytes (r .right) j
       unfolding round probe-at
       right-is =
-          ap (right (on-shares bytes) T (i + 2) (value bytes (carry-at q i) j)) (beta-word t j (probe.dealt s) sheet-shared i l)
+          ap (right (on-shares bytes) T (i + 2) (value bytes (carry-at q i) j)) (beta-word t j (sheet-polynomials s) sheet-shared i l)
           ∙ sym
-          (right-value T (i + 2) t j small (carry-at q i) (getD (probe.dealt s .triples) i no-triple .beta)
+          (right-value T (i + 2) t j small (carry-at q i) (getD (sheet-polynomials s .triples) i no-triple .beta)
           (carry-shared t q shared i (omega arith)) (triple-at t q shared i l .beta))
 
       product-says : message (record-at a c now j) (at-party j (polynomials a c)) W ≡ words-at q (suc i) j
@@ -251,12 +249,12 @@ module _ (a : Auction) (c : Coins) (A : IsAuction a) (C : InRange a c) (b : Brac
       unfolding carry-after probe-at in-round decided
       product-carry-is =
           ap (λ (x : List ℕ). value bytes x j) (carry-next q i)
-          ∙ next-carry-value T (i + 2) t j small (secret (r .left)) (secret (r .right)) (getD (probe.dealt s .triples) i no-triple .alpha)
-          (getD (probe.dealt s .triples) i no-triple .beta) (getD (probe.dealt s .triples) i no-triple .gamma)
+          ∙ next-carry-value T (i + 2) t j small (secret (r .left)) (secret (r .right)) (getD (sheet-polynomials s .triples) i no-triple .alpha)
+          (getD (sheet-polynomials s .triples) i no-triple .beta) (getD (sheet-polynomials s .triples) i no-triple .gamma)
           (secret-value 256 t (r .left) (round-at-shared t q shared i l .left)) (secret-value 256 t (r .right) (round-at-shared t q shared i l .right))
           (triple-at t q shared i l .alpha) (triple-at t q shared i l .beta) (triple-at t q shared i l .gamma)
-          ∙ next-same T (i + 2) (secret (r .left)) (secret (r .right)) (sym (alpha-word t j (probe.dealt s) sheet-shared i l))
-          (sym (beta-word t j (probe.dealt s) sheet-shared i l)) (sym (gamma-word t j (probe.dealt s) sheet-shared i l))
+          ∙ next-same T (i + 2) (secret (r .left)) (secret (r .right)) (sym (alpha-word t j (sheet-polynomials s) sheet-shared i l))
+          (sym (beta-word t j (sheet-polynomials s) sheet-shared i l)) (sym (gamma-word t j (sheet-polynomials s) sheet-shared i l))
 
       product-turns : after (record-at a c now j) W (Factors (secret (r .left)) (secret (r .right))) ≡ record-at a c (inner-stage b m q (suc i)) j
       unfolding record-at after in-round decided
@@ -288,7 +286,7 @@ module _ (a : Auction) (c : Coins) (A : IsAuction a) (C : InRange a c) (b : Brac
         (map-map (λ w. w / 256) (words-at q (suc i)) (points (a .n)) ∙ map-points (λ j. words-at q (suc i) j / 256) (value bytes (r .right)) (a .n) high-is)
         ∙ byte-opens (a .n) (r .right) (A .n-least) (A .n-most) (round-at-shared t q shared i l .right)
 
-    pub product-opens : round.heard (a .n) (i + 2) (map (words-at q (suc i)) (points (a .n))) ≡ Factors (secret (r .left)) (secret (r .right))
+    pub product-opens : heard (a .n) (i + 2) (map (words-at q (suc i)) (points (a .n))) ≡ Factors (secret (r .left)) (secret (r .right))
     product-opens =
         heard-factors (a .n) (i + 2) (map (words-at q (suc i)) (points (a .n))) (λ e. omega arith) (omega arith) ∙ ap₂ factors-of low-opens high-opens
 
@@ -300,23 +298,23 @@ module _ (a : Auction) (c : Coins) (A : IsAuction a) (C : InRange a c) (b : Brac
   -- ---- round 33
 
   module _ (j : ℕ) (j1 : 1 ≤ j) (jn : j ≤ a .n) where
-    last-says : message (record-at a c (inner-stage b m q 31) j) (at-party j (polynomials a c)) (probe.sheet-shares j (probe.dealt s)) ≡ words-at q 32 j
+    last-says : message (record-at a c (inner-stage b m q 31) j) (at-party j (polynomials a c)) (sheet-shares j (sheet-polynomials s)) ≡ words-at q 32 j
     unfolding record-at last-polynomial probe-at
     last-says =
-        last-message (record-at a c (inner-stage b m q 31) j) (at-party j (polynomials a c)) (probe.sheet-shares j (probe.dealt s)) refl
-        ∙ ap (λ (x : ℕ). last (on-shares bytes) T x (value bytes (carry-at q 31) j)) (bit-word t j (probe.dealt s) sheet-shared 32 (omega arith))
+        last-message (record-at a c (inner-stage b m q 31) j) (at-party j (polynomials a c)) (sheet-shares j (sheet-polynomials s)) refl
+        ∙ ap (λ (x : ℕ). last (on-shares bytes) T x (value bytes (carry-at q 31) j)) (bit-word t j (sheet-polynomials s) sheet-shared 32 (omega arith))
         ∙ sym
-        (last-value T 33 t j (omega (arith, A .n-most)) (getD (probe.dealt s .bits) 32 []) (carry-at q 31)
+        (last-value T 33 t j (omega (arith, A .n-most)) (getD (sheet-polynomials s .bits) 32 []) (carry-at q 31)
         (bit-at t q shared 32 (omega arith)) (carry-shared t q shared 31 (omega arith)))
-        ∙ ap (λ (x : List ℕ). value bytes (last (on-polynomials bytes) T (getD (probe.dealt s .bits) 32 []) x) j) (sym (last-carry t q shared))
+        ∙ ap (λ (x : List ℕ). value bytes (last (on-polynomials bytes) T (getD (sheet-polynomials s .bits) 32 []) x) j) (sym (last-carry t q shared))
         ∙ sym (last-said t q shared j)
 
-    last-turns : after (record-at a c (inner-stage b m q 31) j) (probe.sheet-shares j (probe.dealt s)) (Verdict (secret (last-polynomial q)))
+    last-turns : after (record-at a c (inner-stage b m q 31) j) (sheet-shares j (sheet-polynomials s)) (Verdict (secret (last-polynomial q)))
         ≡ record-at a c (fresh-stage (step b (secret (last-polynomial q))) (suc m)) j
     unfolding record-at after value in-round decided
     last-turns = rw add-one
 
-  pub last-opens : round.heard (a .n) 33 (map (words-at q 32) (points (a .n))) ≡ Verdict (secret (last-polynomial q))
+  pub last-opens : heard (a .n) 33 (map (words-at q 32) (points (a .n))) ≡ Verdict (secret (last-polynomial q))
   last-opens =
       heard-verdict (a .n) 33 (map (words-at q 32) (points (a .n))) (omega arith)
       ∙ ap verdict-of

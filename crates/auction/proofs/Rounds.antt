@@ -14,9 +14,9 @@ use Rattle.ranges.specs.Lists.{from}
 use Rattle.sharing.specs.Scheme.{points}
 use Rattle.search.specs.Bracket.{start, over}
 use Rattle.search.proofs.Narrowing.{over-true}
-use Rattle.session.specs.declared.record.Party.{Party}
-use Rattle.session.specs.declared.record.Answer.the-variants.{Cleared}
-use Rattle.session.specs.Record.{bracket, sound}
+use Rattle.record.specs.declared.Party.{Party}
+use Rattle.session.specs.declared.reply.Answer.the-variants.{Cleared}
+use Rattle.record.specs.Record.{bracket, sound}
 use Rattle.session.specs.Answer.{answer-judgement, answered, answer-reply}
 use Rattle.auction.specs.Auction.{Auction, IsAuction, clearing-answer}
 use Rattle.auction.specs.Coins.{Coins, InRange}

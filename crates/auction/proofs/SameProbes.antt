@@ -21,8 +21,7 @@ use Rattle.search.specs.declared.Bracket.{Bracket}
 use Rattle.search.specs.Bracket.{middle, over, step}
 use Rattle.search.specs.Search.{promise, trail}
 use Rattle.search.proofs.Narrowing.{Encloses, encloses-step, over-false, middle-above, middle-below}
-use Rattle.comparison.specs.Probe as probe
-use Rattle.comparison.specs.Probe.{Each, Probe, InRange, sheet-shares, dealt, probe-messages, secret, opened-sum, last-polynomial}
+use Rattle.comparison.specs.Probe.{SheetCoins, Each, Probe, SheetInRange, sheet-shares, sheet-polynomials, probe-messages, secret, opened-sum, last-polynomial}
 use Rattle.comparison.proofs.Matched.{moved, matched}
 use Rattle.comparison.proofs.Promise.{Compares, probe-shared, sum-law, promised}
 use Rattle.comparison.proofs.Agreement.{In, map-same, same-map}
@@ -38,11 +37,11 @@ use Rattle.auction.proofs.SameSheets.{append-parts, words-long, sheet-f
 -- ---- the search, probe by probe
 
 -- a probe with the sheet s where the search stands
-abbrev probing-at : Auction → List (List ℕ) → Bracket → probe.Coins → Made
+abbrev probing-at : Auction → List (List ℕ) → Bracket → SheetCoins → Made
 probing-at a fs br s = record { bracket = br; probe = probe-at a fs (middle br) s }
 
 -- and its verdict
-abbrev canonical-at : Auction → List (List ℕ) → Bracket → probe.Coins → ℕ
+abbrev canonical-at : Auction → List (List ℕ) → Bracket → SheetCoins → ℕ
 canonical-at a fs br s = secret (last-polynomial (probe-at a fs (middle br) s))
 
 module _ (a : Auction) (fs : List (List ℕ)) (br : Bracket) where
@@ -50,12 +49,12 @@ module _ (a : Auction) (fs : List (List ℕ)) (br : Bracket) where
   unfolding made
   made-none = refl
 
-  made-over : (ss : List probe.Coins) → over br ≡ true → made a fs br ss ≡ []
+  made-over : (ss : List SheetCoins) → over br ≡ true → made a fs br ss ≡ []
   unfolding made
   made-over [] e = refl
   made-over (s ∷ ss) e = rw (e, made)
 
-  made-going : (s : probe.Coins) (ss : List probe.Coins) {next : Bracket} → over br ≡ false → step br (canonical-at a fs br s) ≡ next
+  made-going : (s : SheetCoins) (ss : List SheetCoins) {next : Bracket} → over br ≡ false → step br (canonical-at a fs br s) ≡ next
       → made a fs br (s ∷ ss) ≡ probing-at a fs br s ∷ made a fs next ss
   unfolding made
   made-going s ss {next} o e = rw (o, made) (ap (λ (z : Bracket). probing-at a fs br s ∷ made a fs z ss) e)
@@ -68,7 +67,7 @@ auction n k bids = record { n = n; k = k; bids = bids }
 -- every probe at a listed index compares the totals there
 abbrev pub Compared : Auction → List (List ℕ) → Type 0
 Compared a fs =
-    (i : ℕ) → 1 ≤ i → i ≤ a .k → (s : probe.Coins) → InRange (threshold (a .n)) s
+    (i : ℕ) → 1 ≤ i → i ≤ a .k → (s : SheetCoins) → SheetInRange (threshold (a .n)) s
     → Compares (threshold (a .n)) (demand a i) (supply a i) s (probe-at a fs i s)
 
 -- fs and fs′ are the polynomials of their totals, of which the pool xs has the same shares
@@ -84,23 +83,23 @@ pub record Setting (n k : ℕ) (bids bids′ : List (List ℕ)) (xs : List ℕ) 
       → verdict (demand (auction n k bids) i) (supply (auction n k bids) i) ≡ verdict (demand (auction n k bids′) i) (supply (auction n k bids′) i)
 
 -- the sheets s and s′ of two probes at the index i
-pub record Pair (n k : ℕ) (bids bids′ : List (List ℕ)) (xs : List ℕ) (fs fs′ : List (List ℕ)) (i : ℕ) (s s′ : probe.Coins) : Type 0 where
+pub record Pair (n k : ℕ) (bids bids′ : List (List ℕ)) (xs : List ℕ) (fs fs′ : List (List ℕ)) (i : ℕ) (s s′ : SheetCoins) : Type 0 where
   pub least : 1 ≤ i
   pub most : i ≤ k
-  pub ranged : InRange (threshold n) s
-  pub ranged′ : InRange (threshold n) s′
-  pub words : (x : ℕ) → In x xs → sheet-shares x (dealt s′) ≡ sheet-shares x (dealt s)
+  pub ranged : SheetInRange (threshold n) s
+  pub ranged′ : SheetInRange (threshold n) s′
+  pub words : (x : ℕ) → In x xs → sheet-shares x (sheet-polynomials s′) ≡ sheet-shares x (sheet-polynomials s)
   pub said : (j : ℕ) → probe-messages (probe-at (auction n k bids′) fs′ i s′) j ≡ probe-messages (probe-at (auction n k bids) fs i s) j
   pub same : secret (last-polynomial (probe-at (auction n k bids′) fs′ i s′)) ≡ secret (last-polynomial (probe-at (auction n k bids) fs i s))
-  pub only : (e : probe.Coins) → InRange (threshold n) e → ((x : ℕ) → In x xs → sheet-shares x (dealt e) ≡ sheet-shares x (dealt s))
+  pub only : (e : SheetCoins) → SheetInRange (threshold n) e → ((x : ℕ) → In x xs → sheet-shares x (sheet-polynomials e) ≡ sheet-shares x (sheet-polynomials s))
       → ((j : ℕ) → 1 ≤ j → j ≤ n → probe-messages (probe-at (auction n k bids′) fs′ i e) j ≡ probe-messages (probe-at (auction n k bids) fs i s) j)
       → e ≡ s′
 
 -- the sheets of two searches from the same bracket on
-pub data Course (n k : ℕ) (bids bids′ : List (List ℕ)) (xs : List ℕ) (fs fs′ : List (List ℕ)) : Bracket → List probe.Coins → List probe.Coins → Type 0 where
+pub data Course (n k : ℕ) (bids bids′ : List (List ℕ)) (xs : List ℕ) (fs fs′ : List (List ℕ)) : Bracket → List SheetCoins → List SheetCoins → Type 0 where
   none : {br : Bracket} → Course n k bids bids′ xs fs fs′ br [] []
-  ended : {br : Bracket} {ss : List probe.Coins} → over br ≡ true → Each (InRange (threshold n)) ss → Course n k bids bids′ xs fs fs′ br ss ss
-  probing : {br next : Bracket} {s s′ : probe.Coins} {ss ss′ : List probe.Coins} → over br ≡ false
+  ended : {br : Bracket} {ss : List SheetCoins} → over br ≡ true → Each (SheetInRange (threshold n)) ss → Course n k bids bids′ xs fs fs′ br ss ss
+  probing : {br next : Bracket} {s s′ : SheetCoins} {ss ss′ : List SheetCoins} → over br ≡ false
       → Pair n k bids bids′ xs fs fs′ (middle br) s s′ → step br (canonical-at (auction n k bids) fs br s) ≡ next
       → Course n k bids bids′ xs fs fs′ next ss ss′ → Course n k bids bids′ xs fs fs′ br (s ∷ ss) (s′ ∷ ss′)
 
@@ -120,7 +119,7 @@ module _ {n k : ℕ} {bids bids′ : List (List ℕ)} {xs : List ℕ} {fs fs′ 
 
   -- ---- one probe
 
-  module _ (i : ℕ) (lo : 1 ≤ i) (hi : i ≤ k) (s : probe.Coins) (h : InRange t s) (stay : stays a b i (s .mask) ≡ true) where
+  module _ (i : ℕ) (lo : 1 ≤ i) (hi : i ≤ k) (s : SheetCoins) (h : SheetInRange t s) (stay : stays a b i (s .mask) ≡ true) where
     mask-stays : demand a i + supply b i ≤ s .mask + demand b i + supply a i
     unfolding stays
     mask-stays = leb-true (demand a i + supply b i) (s .mask + demand b i + supply a i) (and-left (leb (demand a i + supply b i) (s .mask + demand b i + supply a i)) _ stay)
@@ -171,10 +170,10 @@ module _ {n k : ℕ} {bids bids′ : List (List ℕ)} {xs : List ℕ} {fs fs′ 
           most = hi;
           ranged = h;
           ranged′ = M .ranged;
-          words = same-map (λ x. sheet-shares x (dealt (matched-sheet a b xs i s))) (λ x. sheet-shares x (dealt s)) xs (M .same-words);
+          words = same-map (λ x. sheet-shares x (sheet-polynomials (matched-sheet a b xs i s))) (λ x. sheet-shares x (sheet-polynomials s)) xs (M .same-words);
           said = M .same-messages;
           same = M .same-verdict;
-          only = λ e he w said. M .only e he (map-same (λ x. sheet-shares x (dealt e)) (λ x. sheet-shares x (dealt s)) xs w) said;
+          only = λ e he w said. M .only e he (map-same (λ x. sheet-shares x (sheet-polynomials e)) (λ x. sheet-shares x (sheet-polynomials s)) xs w) said;
         }
 
   -- ---- the matching sheets
@@ -188,17 +187,17 @@ module _ {n k : ℕ} {bids bids′ : List (List ℕ)} {xs : List ℕ} {fs fs′ 
   abbrev indices : ℕ → Bracket → List ℕ
   indices q br = map (λ d. d .0) (trail given q br)
 
-  abbrev Staying : ℕ → Bracket → List probe.Coins → Type 0
+  abbrev Staying : ℕ → Bracket → List SheetCoins → Type 0
   Staying q br ss = Each (λ z. stays a b (z .0) (z .1 .mask) ≡ true) (zip (indices q br) ss)
 
-  pub course : (ss : List probe.Coins) {m : ℕ} (br : Bracket) → Encloses marked k m br → Each (InRange t) ss → Staying (length ss) br ss
+  pub course : (ss : List SheetCoins) {m : ℕ} (br : Bracket) → Encloses marked k m br → Each (SheetInRange t) ss → Staying (length ss) br ss
       → Course n k bids bids′ xs fs fs′ br ss (matched-sheets a b xs (indices (length ss) br) ss)
   unfolding trail matched-sheets zip zipWith
   course [] br E h st = none
   course (s ∷ ss) {m} br E h st = split (over br) refl (course ss {m = suc m} (step br (given (middle br))))
     where
       split : (o : Bool) → over br ≡ o
-          → (Encloses marked k (suc m) (step br (given (middle br))) → Each (InRange t) ss → Staying (length ss) (step br (given (middle br))) ss
+          → (Encloses marked k (suc m) (step br (given (middle br))) → Each (SheetInRange t) ss → Staying (length ss) (step br (given (middle br))) ss
           → Course n k bids bids′ xs fs fs′ (step br (given (middle br))) ss (matched-sheets a b xs (indices (length ss) (step br (given (middle br)))) ss))
           → Course n k bids bids′ xs fs fs′ br (s ∷ ss) (matched-sheets a b xs (indices (suc (length ss)) br) (s ∷ ss))
       split true o later =
@@ -222,40 +221,40 @@ module _ {n k : ℕ} {bids bids′ : List (List ℕ)} {xs : List ℕ} {fs fs′ 
 -- ---- what two such searches have in common
 
 -- party j's words of a list of sheets, sheet by sheet
-abbrev pub words-of : ℕ → List probe.Coins → List (List ℕ)
-words-of j ss = map (λ s. sheet-shares j (dealt s)) ss
+abbrev pub words-of : ℕ → List SheetCoins → List (List ℕ)
+words-of j ss = map (λ s. sheet-shares j (sheet-polynomials s)) ss
 
 -- without the sheets of m + 1 probes
-drop-words : (t j m : ℕ) {m′ : ℕ} (s : probe.Coins) (ss : List probe.Coins) → InRange t s → m′ ≡ suc m
+drop-words : (t j m : ℕ) {m′ : ℕ} (s : SheetCoins) (ss : List SheetCoins) → SheetInRange t s → m′ ≡ suc m
     → drop (sheet-size * m′) (flat (words-of j (s ∷ ss))) ≡ drop (sheet-size * m) (flat (words-of j ss))
 unfolding flat
 drop-words t j m {m′} s ss h l =
-    let w : List ℕ = sheet-shares j (dealt s) in
+    let w : List ℕ = sheet-shares j (sheet-polynomials s) in
     let e : sheet-size * m′ ≡ length w + sheet-size * m = omega (arith, words-long t j s h) in
     ap (λ (z : ℕ). drop z (w ++ flat (words-of j ss))) e ∙ drop-append-add w (flat (words-of j ss)) (sheet-size * m)
 
 module _ {n k : ℕ} {bids bids′ : List (List ℕ)} {xs : List ℕ} {fs fs′ : List (List ℕ)} where
-  pub sheets-ranged : {br : Bracket} {ss ss′ : List probe.Coins} → Course n k bids bids′ xs fs fs′ br ss ss′ → Each (InRange (threshold n)) ss′
+  pub sheets-ranged : {br : Bracket} {ss ss′ : List SheetCoins} → Course n k bids bids′ xs fs fs′ br ss ss′ → Each (SheetInRange (threshold n)) ss′
   sheets-ranged none = tt
   sheets-ranged (ended o h) = h
   sheets-ranged (probing o P e C) = (P .ranged′, sheets-ranged C)
 
-  pub sheets-many : {br : Bracket} {ss ss′ : List probe.Coins} → Course n k bids bids′ xs fs fs′ br ss ss′ → length ss′ ≡ length ss
+  pub sheets-many : {br : Bracket} {ss ss′ : List SheetCoins} → Course n k bids bids′ xs fs fs′ br ss ss′ → length ss′ ≡ length ss
   sheets-many none = refl
   sheets-many (ended o h) = refl
   sheets-many (probing o P e C) = ap suc (sheets-many C)
 
   -- the pool's words
-  pub words-same : (j : ℕ) → In j xs → {br : Bracket} {ss ss′ : List probe.Coins} → Course n k bids bids′ xs fs fs′ br ss ss′ → words-of j ss′ ≡ words-of j ss
+  pub words-same : (j : ℕ) → In j xs → {br : Bracket} {ss ss′ : List SheetCoins} → Course n k bids bids′ xs fs fs′ br ss ss′ → words-of j ss′ ≡ words-of j ss
   words-same j i none = refl
   words-same j i (ended o h) = refl
   words-same j i (probing o P e C) = ap₂ (λ (z : List ℕ) (zs : List (List ℕ)). z ∷ zs) (P .words j i) (words-same j i C)
 
   -- the probes, one by one: whatever is the same of the probes of each pair
   pub made-same : {X : Type 0} (f : Made → X)
-      → ((br : Bracket) (s s′ : probe.Coins) → Pair n k bids bids′ xs fs fs′ (middle br) s s′
+      → ((br : Bracket) (s s′ : SheetCoins) → Pair n k bids bids′ xs fs fs′ (middle br) s s′
       → f (probing-at (auction n k bids′) fs′ br s′) ≡ f (probing-at (auction n k bids) fs br s))
-      → {br : Bracket} {ss ss′ : List probe.Coins} → Course n k bids bids′ xs fs fs′ br ss ss′
+      → {br : Bracket} {ss ss′ : List SheetCoins} → Course n k bids bids′ xs fs fs′ br ss ss′
       → map f (made (auction n k bids′) fs′ br ss′) ≡ map f (made (auction n k bids) fs br ss)
   made-same f h {br} none = ap (map f) (made-none (auction n k bids′) fs′ br ∙ sym (made-none (auction n k bids) fs br))
   made-same f h {br} {ss} (ended o r) = ap (map f) (made-over (auction n k bids′) fs′ br ss o ∙ sym (made-over (auction n k bids) fs br ss o))
@@ -265,7 +264,7 @@ module _ {n k : ℕ} {bids bids′ : List (List ℕ)} {xs : List ℕ} {fs fs′ 
       ∙ ap (map f) (sym (made-going (auction n k bids) fs br s ss o e))
 
   -- unused sheets
-  pub unused-same : (j : ℕ) {br : Bracket} {ss ss′ : List probe.Coins} → Course n k bids bids′ xs fs fs′ br ss ss′
+  pub unused-same : (j : ℕ) {br : Bracket} {ss ss′ : List SheetCoins} → Course n k bids bids′ xs fs fs′ br ss ss′
       → drop (sheet-size * length (made (auction n k bids) fs br ss)) (flat (words-of j ss′))
       ≡ drop (sheet-size * length (made (auction n k bids) fs br ss)) (flat (words-of j ss))
   unused-same j none = refl
@@ -279,21 +278,21 @@ module _ {n k : ℕ} {bids bids′ : List (List ℕ)} {xs : List ℕ} {fs fs′ 
 
 -- of sheets that all n parties read the same
 module _ (n t : ℕ) (more : t < n) (most : n ≤ 9) where
-  words-parts : (j : ℕ) (s u : probe.Coins) (ss us : List probe.Coins) → InRange t s → InRange t u
+  words-parts : (j : ℕ) (s u : SheetCoins) (ss us : List SheetCoins) → SheetInRange t s → SheetInRange t u
       → flat (words-of j (u ∷ us)) ≡ flat (words-of j (s ∷ ss))
-      → (sheet-shares j (dealt u) ≡ sheet-shares j (dealt s)) × (flat (words-of j us) ≡ flat (words-of j ss))
+      → (sheet-shares j (sheet-polynomials u) ≡ sheet-shares j (sheet-polynomials s)) × (flat (words-of j us) ≡ flat (words-of j ss))
   unfolding flat
   words-parts j s u ss us h k e =
-      append-parts (sheet-shares j (dealt u)) (sheet-shares j (dealt s)) (flat (words-of j us)) (flat (words-of j ss))
+      append-parts (sheet-shares j (sheet-polynomials u)) (sheet-shares j (sheet-polynomials s)) (flat (words-of j us)) (flat (words-of j ss))
       (words-long t j u k ∙ sym (words-long t j s h)) e
 
-  sheets-fixed : (ss us : List probe.Coins) → Each (InRange t) ss → Each (InRange t) us → length us ≡ length ss
+  sheets-fixed : (ss us : List SheetCoins) → Each (SheetInRange t) ss → Each (SheetInRange t) us → length us ≡ length ss
       → ((j : ℕ) → 1 ≤ j → j ≤ n → flat (words-of j us) ≡ flat (words-of j ss)) → us ≡ ss
   sheets-fixed [] [] h k l w = refl
   sheets-fixed [] (u ∷ us) h k l w = absurd (omega arith)
   sheets-fixed (s ∷ ss) [] h k l w = absurd (omega arith)
   sheets-fixed (s ∷ ss) (u ∷ us) h k l w =
-      ap₂ (λ (z : probe.Coins) (zs : List probe.Coins). z ∷ zs)
+      ap₂ (λ (z : SheetCoins) (zs : List SheetCoins). z ∷ zs)
       (sheet-fixed n t more most s u (h .0) (k .0) (λ j h1 hn. words-parts j s u ss us (h .0) (k .0) (w j h1 hn) .0))
       (sheets-fixed ss us (h .1) (k .1) (suc-inj l) (λ j h1 hn. words-parts j s u ss us (h .0) (k .0) (w j h1 hn) .1))
 
@@ -308,8 +307,8 @@ module _ {n k : ℕ} {bids bids′ : List (List ℕ)} {xs : List ℕ} {fs fs′ 
   unfolding flatten
   said-parts q q′ ds ds′ br br′ e = append-parts (spoken n q′) (spoken n q) (all-said ds′) (all-said ds) (spoken-long n q′ ∙ sym (spoken-long n q)) e
 
-  pub sheets-only : {br : Bracket} {ss ss′ : List probe.Coins} → Course n k bids bids′ xs fs fs′ br ss ss′
-      → (us : List probe.Coins) → length us ≡ length ss → Each (InRange (threshold n)) us
+  pub sheets-only : {br : Bracket} {ss ss′ : List SheetCoins} → Course n k bids bids′ xs fs fs′ br ss ss′
+      → (us : List SheetCoins) → length us ≡ length ss → Each (SheetInRange (threshold n)) us
       → ((j : ℕ) → In j xs → flat (words-of j us) ≡ flat (words-of j ss))
       → ((j : ℕ) → 1 ≤ j → j ≤ n
       → drop (sheet-size * length (made (auction n k bids) fs br ss)) (flat (words-of j us))
@@ -340,8 +339,8 @@ module _ {n k : ℕ} {bids bids′ : List (List ℕ)} {xs : List ℕ} {fs fs′ 
       (spoken-heard n t (probe-at a fs i s) (probe-at b fs′ i u)
       (probe-shared t (demand a i) (supply a i) s (probe-at a fs i s) (S .first i (P .least) (P .most) s (P .ranged)))
       (probe-shared t (demand b i) (supply b i) u (probe-at b fs′ i u) (S .second i (P .least) (P .most) u (h .0))) (parts .0)) in
-      let on : step br (canonical-at b fs′ br u) ≡ next = ap (λ (z : probe.Coins). step br (canonical-at b fs′ br z)) same ∙ ap (step br) (P .same) ∙ n′ in
-      ap₂ (λ (z : probe.Coins) (zs : List probe.Coins). z ∷ zs) same
+      let on : step br (canonical-at b fs′ br u) ≡ next = ap (λ (z : SheetCoins). step br (canonical-at b fs′ br z)) same ∙ ap (step br) (P .same) ∙ n′ in
+      ap₂ (λ (z : SheetCoins) (zs : List SheetCoins). z ∷ zs) same
       (sheets-only C us (suc-inj l) (h .1) (λ x m. words-parts n t (S .more) (S .at-most) x s u ss us (P .ranged) (h .0) (w x m) .1)
       (λ j h1 hn. sym (drop-words t j m u us (h .0) one) ∙ v j h1 hn ∙ drop-words t j m s ss (P .ranged) one)
       (ap (λ (z : Bracket). all-said (made b fs′ z us)) (sym on) ∙ parts .1))

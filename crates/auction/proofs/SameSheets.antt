@@ -17,7 +17,7 @@ use Rattle.sharing.specs.Scheme.{points}
 use Rattle.ranges.proofs.Loops.{length-from}
 use Rattle.fields.specs.Bits.{bit}
 use Rattle.comparison.specs.Rounds.{both}
-use Rattle.comparison.specs.Probe.{Triple, Sheet, TripleCoins, Coins, Group, Each, TripleInRange, InRange, Probe, bit-polynomials, triple-polynomials, dealt, triple-words, sheet-shares, probe-messages, product-rounds, last-polynomial}
+use Rattle.comparison.specs.Probe.{Triple, Sheet, TripleCoins, SheetCoins, Group, Each, TripleInRange, SheetInRange, Probe, bit-polynomials, triple-polynomials, sheet-polynomials, triple-words, sheet-shares, probe-messages, product-rounds, last-polynomial}
 use Rattle.comparison.proofs.Values.{bit-byte}
 use Rattle.comparison.proofs.Dealt.{SheetShared, ProbeShared, TripleShared, shared-cons, triple-polynomials-shared, bit-polynomials-length, dealt-shared, product-rounds-long}
 use Rattle.comparison.proofs.Agreement.{In, same-map, heard}
@@ -59,8 +59,8 @@ sheet-shares-long t j s h =
       h .triples-long,
     )
 
-pub words-long : (t j : ℕ) (c : Coins) → InRange t c → length (sheet-shares j (dealt c)) ≡ sheet-size
-words-long t j c h = sheet-shares-long t j (dealt c) (dealt-shared t c h)
+pub words-long : (t j : ℕ) (c : SheetCoins) → SheetInRange t c → length (sheet-shares j (sheet-polynomials c)) ≡ sheet-size
+words-long t j c h = sheet-shares-long t j (sheet-polynomials c) (dealt-shared t c h)
 
 -- ---- the words of all n parties fix the coins
 
@@ -117,10 +117,10 @@ module _ (n t : ℕ) (more : t < n) (most : n ≤ 9) where
       (λ j h1 hn. head-eq-of-cons-eq (tail-eq-of-cons-eq (tail-eq-of-cons-eq (w j h1 hn)))))
       (triples-fixed cs cs′ (h .1) (h′ .1) (suc-inj l) (λ j h1 hn. tail-eq-of-cons-eq (tail-eq-of-cons-eq (tail-eq-of-cons-eq (w j h1 hn)))))
 
-  module _ (c c′ : Coins) (h : InRange t c) (h′ : InRange t c′)
-      (w : (j : ℕ) → 1 ≤ j → j ≤ n → sheet-shares j (dealt c′) ≡ sheet-shares j (dealt c)) where
+  module _ (c c′ : SheetCoins) (h : SheetInRange t c) (h′ : SheetInRange t c′)
+      (w : (j : ℕ) → 1 ≤ j → j ≤ n → sheet-shares j (sheet-polynomials c′) ≡ sheet-shares j (sheet-polynomials c)) where
     mask-fixed : c′ .mask ∷ c′ .of-mask ≡ c .mask ∷ c .of-mask
-    unfolding sheet-shares dealt
+    unfolding sheet-shares sheet-polynomials
     mask-fixed =
         heard amount-field t n (c′ .mask ∷ c′ .of-mask) (c .mask ∷ c .of-mask) more most
         (shared-cons (c′ .mask) (c′ .of-mask) (omega (arith, h′ .mask)) (h′ .of-mask)) (shared-cons (c .mask) (c .of-mask) (omega (arith, h .mask)) (h .of-mask))
@@ -129,7 +129,7 @@ module _ (n t : ℕ) (more : t < n) (most : n ≤ 9) where
     later : (j : ℕ) → 1 ≤ j → j ≤ n
         → (map (λ b. value bytes b j) (bit-polynomials 1 (c′ .mask) (c′ .of-bits)) ≡ map (λ b. value bytes b j) (bit-polynomials 1 (c .mask) (c .of-bits)))
         × (triple-words j (map triple-polynomials (c′ .triples)) ≡ triple-words j (map triple-polynomials (c .triples)))
-    unfolding sheet-shares dealt
+    unfolding sheet-shares sheet-polynomials
     later j h1 hn =
         let bs : List (List ℕ) = bit-polynomials 1 (c .mask) (c .of-bits) in
         let bs′ : List (List ℕ) = bit-polynomials 1 (c′ .mask) (c′ .of-bits) in

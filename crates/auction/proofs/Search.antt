@@ -17,8 +17,7 @@ use Rattle.search.specs.Clearing.{covered, clearing}
 use Rattle.search.specs.Search.{promise, follow, trail, Searched}
 use Rattle.search.proofs.Narrowing.{Encloses, encloses-start, encloses-step, enough, open-at-start}
 use Rattle.search.proofs.Price.{promised, enclosed}
-use Rattle.comparison.specs.Probe as probe
-use Rattle.comparison.specs.Probe.{Probe, secret, last-polynomial}
+use Rattle.comparison.specs.Probe.{SheetCoins, Probe, secret, last-polynomial}
 use Rattle.search.proofs.Trails.{trail-over, trail-going}
 use Rattle.auction.specs.Auction.{Auction, IsAuction, demand, supply}
 use Rattle.auction.specs.Coins.{Coins, InRange}
@@ -52,19 +51,19 @@ drop-next (suc m) [] s ss e = absurd (nil≢cons e)
 drop-next (suc m) (x ∷ xs) s ss e = drop-next m xs s ss e
 
 module _ (a : Auction) (fs : List (List ℕ)) where
-  made-over : (b : Bracket) (ss : List probe.Coins) → over b ≡ true → made a fs b ss ≡ []
+  made-over : (b : Bracket) (ss : List SheetCoins) → over b ≡ true → made a fs b ss ≡ []
   unfolding made
   made-over b [] e = refl
   made-over b (s ∷ ss) e = rw (e, made)
 
-  made-going : (b : Bracket) (s : probe.Coins) (ss : List probe.Coins) → over b ≡ false
+  made-going : (b : Bracket) (s : SheetCoins) (ss : List SheetCoins) → over b ≡ false
       → made a fs b (s ∷ ss)
       ≡ record { bracket = b; probe = probe-at a fs (middle b) s } ∷ made a fs (step b (secret (last-polynomial (probe-at a fs (middle b) s)))) ss
   unfolding made
   made-going b s ss e = rw (e, made)
 
 -- what the probes ds with these sheets are, from the bracket b on
-pub record Leads (a : Auction) (c : Coins) (b : Bracket) (m : ℕ) (ss : List probe.Coins) (ds : List Made) : Type 0 where
+pub record Leads (a : Auction) (c : Coins) (b : Bracket) (m : ℕ) (ss : List SheetCoins) (ds : List Made) : Type 0 where
   pub chain : Chain a c (fresh-stage b m) (turns-of m ds) (map decision ds) (fresh-stage (after-probes b ds) (m + length ds))
   pub encloses : Encloses (covered (demand a) (supply a)) (a .k) (m + length ds) (after-probes b ds)
   pub ended : over (after-probes b ds) ≡ true
@@ -78,12 +77,12 @@ module _ (a : Auction) (c : Coins) (A : IsAuction a) (C : InRange a c) where
   given = promise (demand a) (supply a)
 
   -- no probe
-  none-left : (b : Bracket) (m : ℕ) (ss : List probe.Coins) → Encloses passes (a .k) m b → over b ≡ true → Leads a c b m ss []
+  none-left : (b : Bracket) (m : ℕ) (ss : List SheetCoins) → Encloses passes (a .k) m b → over b ≡ true → Leads a c b m ss []
   unfolding turns-of follow
   none-left b m ss E o =
       record { chain = rw add-zero done; encloses = rw add-zero E; ended = o; trail-is = sym (trail-over given (length ss) b o) }
 
-  module _ (b : Bracket) (m : ℕ) (s : probe.Coins) (ss : List probe.Coins) (R : Ready a c b m s ss) where
+  module _ (b : Bracket) (m : ℕ) (s : SheetCoins) (ss : List SheetCoins) (R : Ready a c b m s ss) where
     abbrev q : Probe
     q = probe-at a (polynomials a c) (middle b) s
 
@@ -111,7 +110,7 @@ module _ (a : Auction) (c : Coins) (A : IsAuction a) (C : InRange a c) where
     narrower : Encloses passes (a .k) m b → Encloses passes (a .k) (suc m) (step b v)
     narrower E = encloses-step passes (a .k) E (R .going) v (ap (λ (x : ℕ). eqb x 1) promise-kept ∙ promised (demand a) (supply a) (middle b))
 
-  leads : (ss : List probe.Coins) (b : Bracket) (m : ℕ) → Encloses passes (a .k) m b → drop m (c .sheets) ≡ ss → m + length ss ≡ limit (a .k)
+  leads : (ss : List SheetCoins) (b : Bracket) (m : ℕ) → Encloses passes (a .k) m b → drop m (c .sheets) ≡ ss → m + length ss ≡ limit (a .k)
       → Leads a c b m ss (made a (polynomials a c) b ss)
   unfolding made
   leads [] b m E e l = none-left b m [] E (enough passes (a .k) E (omega arith))

@@ -3,19 +3,18 @@
 use mathlib.Core.Path.{_≡_, refl, sym, ap, ap₂, _∙_}
 use mathlib.Core.Bool.{true}
 use mathlib.Core.List.{List, [], _∷_, _++_, map, zip, append-assoc, append-nil}
-use Prim.Native.Nat.{ℕ, _+_, _*_, _≤_, _<_}
+use Prim.Native.Nat.{ℕ, _+_, _≤_, _<_}
 use native.Mathlib.Omega.{arith}
-use lib.ListN.{length, replicate}
+use lib.ListN.{length, replicate, length-replicate}
 use Rattle.ranges.specs.Sizes.{sheet-size}
 use Rattle.sharing.specs.Polynomial.{value}
 use Rattle.sharing.specs.Scheme.{threshold, points}
 use Rattle.search.specs.Bracket.{start}
-use Rattle.comparison.specs.Probe as probe
-use Rattle.comparison.specs.Probe.{Each}
+use Rattle.comparison.specs.Probe.{SheetCoins, SheetInRange, Each}
 use Rattle.auction.specs.Auction.{Auction, IsAuction}
 use Rattle.auction.specs.Coins.{Coins, InRange, flat, coin-words, coin-bytes}
 use Rattle.auction.specs.Call.{Call, open-call, split-call, deal-call, add-call, judgement, accepted, whose, of-party, given}
-use Rattle.auction.specs.Canonical.{Seat, blank, seated, split-for, add-by, added, deal-for, sheet-for, dealt, enough-rounds, from-rounds, deals, from-bids, canonical}
+use Rattle.auction.specs.Canonical.{Seat, zeros, seated, split-for, add-by, after-adding, deal-for, sheet-for, after-dealing, enough-rounds, from-rounds, deals, from-bids, canonical}
 use Rattle.auction.specs.Run.{select, own}
 use Rattle.auction.specs.Received.{collect, bid-shares-in, hearing-in, answer-in}
 use Rattle.auction.specs.Demands.{all-accepted}
@@ -23,8 +22,9 @@ use Rattle.auction.proofs.Closed.{entries, added-polynomials, totals-af
 use Rattle.auction.proofs.Calls.{own-append, all-accepted-append, all-accepted-map, all-accepted-points, each-point, map-each, map-points, map-through, Own, own-points, own-none}
 use Rattle.auction.proofs.Totals.{each-imp, length-zip, GoodBid, Held, entries-held, added-held, no-totals-held, all-good}
 use Rattle.auction.proofs.Judging.{accepts}
-use Rattle.auction.proofs.Bidding.{holding, holding-seat, opening-accepted, seated-holding, splitting-accepted, shares-for-party, adding-accepted, added-holding}
-use Rattle.auction.proofs.Dealing.{deal-accepted, deal-writes}
+use Rattle.ranges.proofs.Ranges.{one-of-n}
+use Rattle.auction.proofs.Bidding.{holding, holding-seat, member, opened, seated-holding, splitting-accepted, shares-for-party, adding-accepted, added-holding}
+use Rattle.auction.proofs.Dealing.{deals-sheet, deal-writes}
 
 -- ---- the calls
 
@@ -32,19 +32,19 @@ module _ (a : Auction) (c : Coins) where
   -- the seats after these bids
   unfoldable pub seats-after : List (List ℕ × List (List ℕ)) → List Seat → List Seat
   seats-after [] ss = ss
-  seats-after (b ∷ bs) ss = seats-after bs (map (added a c b) ss)
+  seats-after (b ∷ bs) ss = seats-after bs (map (after-adding a c b) ss)
 
   unfoldable pub open-at : ℕ → Call
-  open-at j = open-call (a .n) j (a .k) (blank a c)
+  open-at j = open-call (a .n) j (a .k) (zeros a c)
 
   unfoldable pub split-at : List ℕ × List (List ℕ) → ℕ → Call
-  split-at b j = split-call (a .n) j (a .k) (b .0) (flat (b .1)) (blank a c)
+  split-at b j = split-call (a .n) j (a .k) (b .0) (flat (b .1)) (zeros a c)
 
   -- with m bids held and the polynomials fs behind the totals
   unfoldable pub add-at : List ℕ × List (List ℕ) → (m : ℕ) (fs : List (List ℕ)) → ℕ → Call
   add-at b m fs j = add-call (holding (a .n) (a .k) m j) (at-party j fs) (at-party j (entries (b .0) (b .1)))
 
-  unfoldable pub deal-at : ℕ → probe.Coins → Call
+  unfoldable pub deal-at : ℕ → SheetCoins → Call
   deal-at j s = deal-call (a .n) j (coin-words s) (coin-bytes s) (replicate sheet-size 0)
 
   unfoldable pub bid-calls : List (List ℕ × List (List ℕ)) → (m : ℕ) (fs : List (List ℕ)) → List Call
@@ -80,7 +80,7 @@ module _ {a : Auction} {c : Coins} (A : IsAuction a) (C : InRange a c) where
       ap (λ (z : ℕ). map (holding-seat a z fs) (points (a .n))) e
   seats-holding (b ∷ bs) m fs B F l =
       ap (seats-after a c bs)
-      (map-through (added a c b) (holding-seat a m fs) (holding-seat a (m + 1) (added-polynomials fs (entries (b .0) (b .1)))) (a .n)
+      (map-through (after-adding a c b) (holding-seat a m fs) (holding-seat a (m + 1) (added-polynomials fs (entries (b .0) (b .1)))) (a .n)
       (λ j h1 hn. added-holding c A j h1 hn b (B .0) m fs F (omega (arith, A .few))))
       ∙ seats-holding bs (m + 1) (added-polynomials fs (entries (b .0) (b .1))) (B .1)
       (added-held (a .k) t fs (entries (b .0) (b .1)) F (entries-held (a .k) t b (B .0))) (omega arith)
@@ -92,24 +92,24 @@ module _ {a : Auction} {c : Coins} (A : IsAuction a) (C : InRange a c) where
   many-bids = omega (arith, length-zip (a .bids) (c .bids) (C .bids-many))
 
   pub dealt-seat : (j : ℕ) → 1 ≤ j → j ≤ a .n
-      → dealt a c (holding-seat a (length (a .bids)) (polynomials a c) j) ≡ seat a c (fresh-stage (start (a .k)) 0) j
-  unfolding dealt sheet-for holding-seat holding seat record-at sheets-at start value
+      → after-dealing a c (holding-seat a (length (a .bids)) (polynomials a c) j) ≡ seat a c (fresh-stage (start (a .k)) 0) j
+  unfolding after-dealing sheet-for holding-seat holding seat record-at sheets-at start value
   dealt-seat j h1 hn =
       ap (λ (z : List (List ℕ)). record { party = holding (a .n) (a .k) (length (a .bids)) j; totals = at-party j (polynomials a c); sheets = flat z })
       (map-each _ _ (c .sheets)
-      (each-imp (probe.InRange t) _ (c .sheets) (λ s h. deal-writes (a .n) j (A .n-least) (A .n-most) h1 hn s h) (C .sheets)))
+      (each-imp (SheetInRange t) _ (c .sheets) (λ s h. deal-writes (a .n) j (one-of-n _ _ _ (member A j h1 hn)) s h (replicate sheet-size 0) (length-replicate {A = ℕ} sheet-size 0)) (C .sheets)))
 
-  dealt-all : map (dealt a c) (map (holding-seat a (length (a .bids)) (polynomials a c)) (points (a .n)))
+  dealt-all : map (after-dealing a c) (map (holding-seat a (length (a .bids)) (polynomials a c)) (points (a .n)))
       ≡ map (seat a c (fresh-stage (start (a .k)) 0)) (points (a .n))
   dealt-all =
-      map-through (dealt a c) (holding-seat a (length (a .bids)) (polynomials a c)) (seat a c (fresh-stage (start (a .k)) 0)) (a .n) dealt-seat
+      map-through (after-dealing a c) (holding-seat a (length (a .bids)) (polynomials a c)) (seat a c (fresh-stage (start (a .k)) 0)) (a .n) dealt-seat
 
-  pub setup-seats : map (dealt a c) (seats-after a c (zip (a .bids) (c .bids)) (map (seated a c) (points (a .n))))
+  pub setup-seats : map (after-dealing a c) (seats-after a c (zip (a .bids) (c .bids)) (map (seated a c) (points (a .n))))
       ≡ map (seat a c (fresh-stage (start (a .k)) 0)) (points (a .n))
   unfolding polynomials
   setup-seats =
-      ap (λ (z : List Seat). map (dealt a c) (seats-after a c (zip (a .bids) (c .bids)) z)) seated-all
-      ∙ ap (map (dealt a c)) (seats-holding (zip (a .bids) (c .bids)) 0 (no-totals a) (all-good A C) (no-totals-held (a .k) t) many-bids)
+      ap (λ (z : List Seat). map (after-dealing a c) (seats-after a c (zip (a .bids) (c .bids)) z)) seated-all
+      ∙ ap (map (after-dealing a c)) (seats-holding (zip (a .bids) (c .bids)) 0 (no-totals a) (all-good A C) (no-totals-held (a .k) t) many-bids)
       ∙ dealt-all
 
   -- ---- the list of calls
@@ -142,7 +142,7 @@ module _ {a : Auction} {c : Coins} (A : IsAuction a) (C : InRange a c) where
       let e′ : m ≡ length (a .bids) = omega arith in
       ap₂ _++_ (deals-holding m fs (points (a .n)))
       (ap (from-rounds a c (enough-rounds a))
-      (ap₂ (λ (z : ℕ) (zs : List (List ℕ)). map (dealt a c) (map (holding-seat a z zs) (points (a .n)))) e′ e ∙ dealt-all))
+      (ap₂ (λ (z : ℕ) (zs : List (List ℕ)). map (after-dealing a c) (map (holding-seat a z zs) (points (a .n)))) e′ e ∙ dealt-all))
   from-bids-calls (b ∷ bs) m fs B F l e =
       let rest : List Call = deal-calls a c (points (a .n)) ++ after in
       let gs : List (List ℕ) = added-polynomials fs (entries (b .0) (b .1)) in
@@ -151,7 +151,7 @@ module _ {a : Auction} {c : Coins} (A : IsAuction a) (C : InRange a c) where
       ap₂ _++_ (splits-holding b m fs)
       (ap₂ _++_ (adds-holding b (B .0) m fs F)
       (ap (from-bids a c bs)
-      (map-through (added a c b) (holding-seat a m fs) (holding-seat a (m + 1) gs) (a .n)
+      (map-through (after-adding a c b) (holding-seat a m fs) (holding-seat a (m + 1) gs) (a .n)
       (λ j h1 hn. added-holding c A j h1 hn b (B .0) m fs F (omega (arith, A .few))))
       ∙ from-bids-calls bs (m + 1) gs (B .1) (added-held (a .k) t fs (entries (b .0) (b .1)) F (entries-held (a .k) t b (B .0))) (omega arith) e))
       ∙ sym (append-assoc splits (adds ++ bid-calls a c bs (m + 1) gs) rest ∙ ap (λ (z : List Call). splits ++ z) (append-assoc adds (bid-calls a c bs (m + 1) gs) rest))
@@ -170,7 +170,7 @@ module _ {a : Auction} {c : Coins} (A : IsAuction a) (C : InRange a c) where
 
   pub open-own : (j : ℕ) → 1 ≤ j → j ≤ a .n → Own j (open-at a c j)
   unfolding open-at judgement whose of-party
-  open-own j h1 hn = record { accepted = accepts (open-at a c j) (opening-accepted c A j h1 hn); whose = λ i. refl }
+  open-own j h1 hn = record { accepted = accepts (open-at a c j) (opened c A j h1 hn); whose = λ i. refl }
 
   pub split-at-accepted : (b : List ℕ × List (List ℕ)) → GoodBid (a .k) t b → (j : ℕ) → 1 ≤ j → j ≤ a .n → accepted (split-at a c b j) ≡ true
   unfolding split-at judgement
@@ -182,9 +182,9 @@ module _ {a : Auction} {c : Coins} (A : IsAuction a) (C : InRange a c) where
   add-own b B m fs F hm j h1 hn =
       record { accepted = accepts (add-at a c b m fs j) (adding-accepted c A j h1 hn b B m fs F hm); whose = λ i. refl }
 
-  pub deal-at-accepted : (j : ℕ) → 1 ≤ j → j ≤ a .n → (s : probe.Coins) → probe.InRange t s → accepted (deal-at a c j s) ≡ true
+  pub deal-at-accepted : (j : ℕ) → 1 ≤ j → j ≤ a .n → (s : SheetCoins) → SheetInRange t s → accepted (deal-at a c j s) ≡ true
   unfolding deal-at judgement
-  deal-at-accepted j h1 hn s h = accepts (deal-at a c j s) (deal-accepted (a .n) j (A .n-least) (A .n-most) h1 hn s h)
+  deal-at-accepted j h1 hn s h = accepts (deal-at a c j s) (deals-sheet (a .n) j (one-of-n _ _ _ (member A j h1 hn)) s h (replicate sheet-size 0) (length-replicate {A = ℕ} sheet-size 0))
 
   bids-accepted : (bs : List (List ℕ × List (List ℕ))) (m : ℕ) (fs : List (List ℕ)) → Each (GoodBid (a .k) t) bs → Held (a .k) t fs
       → m + length bs ≡ length (a .bids) → all-accepted (bid-calls a c bs m fs) ≡ true
@@ -203,7 +203,7 @@ module _ {a : Auction} {c : Coins} (A : IsAuction a) (C : InRange a c) where
   deals-accepted [] h = refl
   deals-accepted (j ∷ js) h =
       all-accepted-append (map (deal-at a c j) (c .sheets)) (deal-calls a c js)
-      (all-accepted-map (deal-at a c j) (c .sheets) (each-imp (probe.InRange t) (λ s. accepted (deal-at a c j s) ≡ true) (c .sheets) (deal-at-accepted j (h .0 .0) (h .0 .1)) (C .sheets)))
+      (all-accepted-map (deal-at a c j) (c .sheets) (each-imp (SheetInRange t) (λ s. accepted (deal-at a c j s) ≡ true) (c .sheets) (deal-at-accepted j (h .0 .0) (h .0 .1)) (C .sheets)))
       (deals-accepted js (h .1))
 
   pub setup-accepted : all-accepted (setup-calls a c) ≡ true

@@ -13,8 +13,7 @@ use Rattle.ranges.specs.Below.{AllBelow}
 use Rattle.fields.proofs.Fields.{amount-field, byte-field}
 use Rattle.sharing.specs.Polynomial.{value}
 use Rattle.sharing.proofs.Laws.{value-lt}
-use Rattle.comparison.specs.Probe as probe
-use Rattle.comparison.specs.Probe.{Triple, Sheet, Each, triple-words}
+use Rattle.comparison.specs.Probe.{sheet-shares, Triple, Sheet, Each, triple-words}
 use Rattle.comparison.proofs.Values.{Shared}
 use Rattle.comparison.proofs.Dealt.{TripleShared, SheetShared}
 use Rattle.auction.specs.Coins.{flat}
@@ -89,37 +88,37 @@ module _ (t j : ℕ) (s : Sheet (List ℕ)) (h : SheetShared t s) where
   bit-words-length : length bit-words ≡ 33
   bit-words-length = length-map (s .bits) (λ b. value bytes b j) ∙ h .bits-long
 
-  pub sheet-length : length (probe.sheet-shares j s) ≡ sheet-size
-  unfolding probe.sheet-shares
+  pub sheet-length : length (sheet-shares j s) ≡ sheet-size
+  unfolding sheet-shares
   sheet-length =
       ap suc (length-append bit-words (triple-words j (s .triples)))
       ∙ omega (arith, bit-words-length, triple-words-length j (s .triples), h .triples-long)
 
-  pub mask-word : getD (probe.sheet-shares j s) 0 0 ≡ value amounts (s .mask) j
-  unfolding probe.sheet-shares
+  pub mask-word : getD (sheet-shares j s) 0 0 ≡ value amounts (s .mask) j
+  unfolding sheet-shares
   mask-word = refl
 
   -- bit i + 1 of the mask
-  pub bit-word : (i : ℕ) → i < 33 → getD (probe.sheet-shares j s) (suc i) 0 ≡ value bytes (getD (s .bits) i []) j
-  unfolding probe.sheet-shares
+  pub bit-word : (i : ℕ) → i < 33 → getD (sheet-shares j s) (suc i) 0 ≡ value bytes (getD (s .bits) i []) j
+  unfolding sheet-shares
   bit-word i l =
       List·getD-append bit-words (triple-words j (s .triples)) 0 i (omega (arith, bit-words-length)) ∙ getD-values j (s .bits) i
 
   -- a word after the bits
-  late-word : (i k : ℕ) → k ≡ 34 + i → getD (probe.sheet-shares j s) k 0 ≡ getD (triple-words j (s .triples)) i 0
-  unfolding probe.sheet-shares
+  late-word : (i k : ℕ) → k ≡ 34 + i → getD (sheet-shares j s) k 0 ≡ getD (triple-words j (s .triples)) i 0
+  unfolding sheet-shares
   late-word i k e =
       let past : k ≡ suc (length bit-words + i) = omega (arith, bit-words-length) in
       rw (past, getD-append-add)
 
   module _ (i : ℕ) (l : i < 31) where
-    pub alpha-word : getD (probe.sheet-shares j s) (34 + 3 * (i + 2 - 2) + 0) 0 ≡ value bytes (getD (s .triples) i no-triple .alpha) j
+    pub alpha-word : getD (sheet-shares j s) (34 + 3 * (i + 2 - 2) + 0) 0 ≡ value bytes (getD (s .triples) i no-triple .alpha) j
     alpha-word = late-word (3 * i) _ (omega arith) ∙ alpha-in j (s .triples) i (omega (arith, h .triples-long))
 
-    pub beta-word : getD (probe.sheet-shares j s) (34 + 3 * (i + 2 - 2) + 1) 0 ≡ value bytes (getD (s .triples) i no-triple .beta) j
+    pub beta-word : getD (sheet-shares j s) (34 + 3 * (i + 2 - 2) + 1) 0 ≡ value bytes (getD (s .triples) i no-triple .beta) j
     beta-word = late-word (3 * i + 1) _ (omega arith) ∙ beta-in j (s .triples) i (omega (arith, h .triples-long))
 
-    pub gamma-word : getD (probe.sheet-shares j s) (34 + 3 * (i + 2 - 2) + 2) 0 ≡ value bytes (getD (s .triples) i no-triple .gamma) j
+    pub gamma-word : getD (sheet-shares j s) (34 + 3 * (i + 2 - 2) + 2) 0 ≡ value bytes (getD (s .triples) i no-triple .gamma) j
     gamma-word = late-word (3 * i + 2) _ (omega arith) ∙ gamma-in j (s .triples) i (omega (arith, h .triples-long))
 
 -- ---- its words are in their fields
@@ -146,7 +145,7 @@ module _ (t j : ℕ) (l : j < 10) where
   triples-below (s ∷ ts) h =
       (byte-below j l (s .alpha) (h .0 .alpha .1), (byte-below j l (s .beta) (h .0 .beta .1), (byte-below j l (s .gamma) (h .0 .gamma .1), triples-below ts (h .1))))
 
-  pub sheet-bytes-below : (s : Sheet (List ℕ)) → SheetShared t s → AllBelow 256 (drop 1 (probe.sheet-shares j s))
-  unfolding probe.sheet-shares
+  pub sheet-bytes-below : (s : Sheet (List ℕ)) → SheetShared t s → AllBelow 256 (drop 1 (sheet-shares j s))
+  unfolding sheet-shares
   sheet-bytes-below s h =
       below-append 256 (map (λ b. value bytes b j) (s .bits)) (triple-words j (s .triples)) (bits-below (s .bits) (h .bits)) (triples-below (s .triples) (h .triples))

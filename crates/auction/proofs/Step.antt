@@ -5,9 +5,7 @@ use mathlib.Core.List.{List, [], _∷_, map}
 use Prim.Native.Nat.{ℕ, zero, suc, _+_, _-_, _*_, _^_, _≤_, _<_}
 use native.Mathlib.Omega.{arith}
 use lib.ListN.{length, drop, getD, length-map, length-drop}
-use borrow.Author.Tests.{eq-eqb}
 use Rattle.ranges.specs.Sizes.{sheet-size}
-use Rattle.refusal.specs.Judging.{judged}
 use Rattle.refusal.specs.Judging.{kept}
 use Rattle.refusal.specs.declared.Judgement.the-variants.{Accepted}
 use Rattle.fields.specs.Amount.{amounts}
@@ -20,53 +18,25 @@ use Rattle.ranges.proofs.Loops.{length-from}
 use Rattle.search.specs.declared.Bracket.{Bracket}
 use Rattle.search.specs.Bracket.{middle, over}
 use Rattle.search.specs.Limit.{limit}
-use Rattle.comparison.specs.Probe as probe
-use Rattle.comparison.specs.Probe.{Each}
+use Rattle.comparison.specs.Probe.{SheetCoins, SheetInRange, sheet-polynomials, sheet-shares, Each}
 use Rattle.comparison.proofs.Dealt.{SheetShared, dealt-shared, each-drop}
-use Rattle.session.specs.declared.record.Party.{Party}
 use Rattle.round.specs.declared.Heard.{Heard}
-use Rattle.session.specs.Record.{bracket, sound, replied}
-use Rattle.saying.specs.Say.{demand-share, supply-share, current, in-field, message, say-judgement, said}
-use Rattle.round.specs.Round as round
-use Rattle.round.specs.Round.{unopened, sum-outside, verdict-outside}
+use Rattle.record.specs.Record.{sound, replied}
+use Rattle.saying.specs.Say.{demand-share, supply-share, current, message, say-judgement, said}
+use Rattle.round.specs.Round.{heard, unopened, sum-outside, verdict-outside}
 use Rattle.hearing.specs.Hear.{hear-judgement, after}
-use Rattle.session.proofs.Soundness.{Sound, sound-of}
-use Rattle.saying.proofs.Sheets.{InField, in-field-of}
+use Rattle.record.proofs.Soundness.{Sound, sound-of}
+use Rattle.saying.proofs.Laws.{Says, say-accepted}
+use Rattle.saying.proofs.Sheets.{InField}
+use Rattle.hearing.proofs.Hears.{admitted, hear-accepted}
 use Rattle.auction.specs.Auction.{Auction, IsAuction}
 use Rattle.auction.specs.Coins.{Coins, InRange}
 use Rattle.auction.specs.Call.{accepted, is-accepted, judgement}
-use Rattle.auction.specs.Canonical as canonical
-use Rattle.auction.specs.Canonical.{word, say-by, word-by, hear-by}
+use Rattle.auction.specs.Canonical.{word, say-by, word-by, hear-by, after-hearing}
 use Rattle.auction.proofs.Closed.{at-party, polynomials, Stage, fresh-stage, record-at, sheets-at, seat}
 use Rattle.auction.proofs.Totals.{each-imp, polynomials-length}
 use Rattle.auction.proofs.Sheets.{flat-length, flat-at, sheet-length, mask-word, getD-amounts, amount-below, byte-below, sheet-bytes-below}
 use Rattle.auction.proofs.Comparing.{demand-shared, supply-shared, index-least, index-most}
-
--- ---- when a saying and a hearing are accepted
-
-module _ (q : Party) (totals sheets : List ℕ) (S : sound q ≡ true) (lt : length totals ≡ 2 * q .k) (ls : length sheets ≡ sheet-size * limit (q .k))
-    (going : over (bracket q) ≡ false) (F : in-field q totals (current q sheets) ≡ true) where
-  say-accepted : say-judgement q totals sheets ≡ Accepted
-  unfolding say-judgement judged
-  say-accepted = rw (S, eq-eqb (length totals) (2 * q .k) lt, eq-eqb (length sheets) (sheet-size * limit (q .k)) ls, going, F)
-
-  hear-accepted : (messages : List ℕ) → length messages ≡ q .n → getD messages (q .own - 1) 0 ≡ message q totals (current q sheets)
-      → unopened (round.heard (q .n) (q .round) messages) ≡ false → sum-outside (round.heard (q .n) (q .round) messages) ≡ false
-      → verdict-outside (round.heard (q .n) (q .round) messages) ≡ false → hear-judgement q totals sheets messages ≡ Accepted
-  unfolding hear-judgement judged
-  hear-accepted messages lm own straight tame whole =
-      rw (
-        S,
-        eq-eqb (length totals) (2 * q .k) lt,
-        eq-eqb (length sheets) (sheet-size * limit (q .k)) ls,
-        eq-eqb (length messages) (q .n) lm,
-        going,
-        F,
-        eq-eqb (getD messages (q .own - 1) 0) (message q totals (current q sheets)) own,
-        straight,
-        tame,
-        whole,
-      )
 
 -- ---- one round
 
@@ -79,7 +49,7 @@ pub record Step (a : Auction) (c : Coins) (σ τ : Stage) (w : ℕ → ℕ) : Ty
   pub saying : (j : ℕ) → 1 ≤ j → j ≤ a .n → accepted (say-by a c (seat a c σ j)) ≡ true
   pub word : (j : ℕ) → 1 ≤ j → j ≤ a .n → word-by a c (seat a c σ j) ≡ w j
   pub hearing : (j : ℕ) → 1 ≤ j → j ≤ a .n → accepted (hear-by a c (map w (points (a .n))) (seat a c σ j)) ≡ true
-  pub next : (j : ℕ) → 1 ≤ j → j ≤ a .n → canonical.heard a c (map w (points (a .n))) (seat a c σ j) ≡ seat a c τ j
+  pub next : (j : ℕ) → 1 ≤ j → j ≤ a .n → after-hearing a c (map w (points (a .n))) (seat a c σ j) ≡ seat a c τ j
 
 -- a stage whose records are sound
 pub record Sane (a : Auction) (σ : Stage) : Type 0 where
@@ -93,7 +63,7 @@ pub record Sane (a : Auction) (σ : Stage) : Type 0 where
   pub ended : σ .probes ≡ limit (a .k) → σ .hi ≤ σ .lo + 1
 
 -- one at which the search goes on, with the sheet s
-pub record Placed (a : Auction) (c : Coins) (σ : Stage) (s : probe.Coins) (ss : List probe.Coins) : Type 0 where
+pub record Placed (a : Auction) (c : Coins) (σ : Stage) (s : SheetCoins) (ss : List SheetCoins) : Type 0 where
   pub sane : Sane a σ
   pub going : over (bracket-of σ) ≡ false
   pub left : drop (σ .probes) (c .sheets) ≡ s ∷ ss
@@ -161,38 +131,38 @@ module _ (a : Auction) (c : Coins) (A : IsAuction a) (C : InRange a c) where
   abbrev t : ℕ
   t = threshold (a .n)
 
-  sheet-long : (j : ℕ) (s : probe.Coins) → probe.InRange t s → length (probe.sheet-shares j (probe.dealt s)) ≡ sheet-size
-  sheet-long j s h = sheet-length t j (probe.dealt s) (dealt-shared t s h)
+  sheet-long : (j : ℕ) (s : SheetCoins) → SheetInRange t s → length (sheet-shares j (sheet-polynomials s)) ≡ sheet-size
+  sheet-long j s h = sheet-length t j (sheet-polynomials s) (dealt-shared t s h)
 
-  sheets-long : (j : ℕ) → Each (λ s. length (probe.sheet-shares j (probe.dealt s)) ≡ sheet-size) (c .sheets)
-  sheets-long j = each-imp (probe.InRange t) (λ s. length (probe.sheet-shares j (probe.dealt s)) ≡ sheet-size) (c .sheets) (sheet-long j) (C .sheets)
+  sheets-long : (j : ℕ) → Each (λ s. length (sheet-shares j (sheet-polynomials s)) ≡ sheet-size) (c .sheets)
+  sheets-long j = each-imp (SheetInRange t) (λ s. length (sheet-shares j (sheet-polynomials s)) ≡ sheet-size) (c .sheets) (sheet-long j) (C .sheets)
 
   pub sheets-length : (j : ℕ) → length (sheets-at a c j) ≡ sheet-size * limit (a .k)
   unfolding sheets-at
   sheets-length j =
-      flat-length (λ s. probe.sheet-shares j (probe.dealt s)) sheet-size (c .sheets) (sheets-long j) ∙ ap (λ (m : ℕ). sheet-size * m) (C .sheets-many)
+      flat-length (λ s. sheet-shares j (sheet-polynomials s)) sheet-size (c .sheets) (sheets-long j) ∙ ap (λ (m : ℕ). sheet-size * m) (C .sheets-many)
 
   pub totals-length : (j : ℕ) → length (at-party j (polynomials a c)) ≡ 2 * a .k
   totals-length j = length-map (polynomials a c) (λ f. value amounts f j) ∙ polynomials-length A C
 
   -- a sheet is left for each probe
-  pub sheet-left : (m : ℕ) (s : probe.Coins) (ss : List probe.Coins) → drop m (c .sheets) ≡ s ∷ ss → m < limit (a .k)
+  pub sheet-left : (m : ℕ) (s : SheetCoins) (ss : List SheetCoins) → drop m (c .sheets) ≡ s ∷ ss → m < limit (a .k)
   sheet-left m s ss e = omega (arith, C .sheets-many, length-drop m (c .sheets), ap length e)
 
   -- ---- at a stage
 
-  module _ (σ : Stage) (s : probe.Coins) (ss : List probe.Coins) (P : Placed a c σ s ss) where
-    pub coins-ranged : probe.InRange t s
+  module _ (σ : Stage) (s : SheetCoins) (ss : List SheetCoins) (P : Placed a c σ s ss) where
+    pub coins-ranged : SheetInRange t s
     coins-ranged =
-        each-first (probe.InRange t) s ss (drop (σ .probes) (c .sheets)) (P .left) (each-drop (probe.InRange t) (σ .probes) (c .sheets) (C .sheets))
+        each-first (SheetInRange t) s ss (drop (σ .probes) (c .sheets)) (P .left) (each-drop (SheetInRange t) (σ .probes) (c .sheets) (C .sheets))
 
-    sheet-shared : SheetShared t (probe.dealt s)
+    sheet-shared : SheetShared t (sheet-polynomials s)
     sheet-shared = dealt-shared t s coins-ranged
 
     module _ (j : ℕ) (j1 : 1 ≤ j) (jn : j ≤ a .n) where
-      pub current-at : current (record-at a c σ j) (sheets-at a c j) ≡ probe.sheet-shares j (probe.dealt s)
+      pub current-at : current (record-at a c σ j) (sheets-at a c j) ≡ sheet-shares j (sheet-polynomials s)
       unfolding current record-at sheets-at
-      current-at = flat-at (λ s. probe.sheet-shares j (probe.dealt s)) sheet-size (c .sheets) (σ .probes) s ss (sheets-long j) (P .left)
+      current-at = flat-at (λ s. sheet-shares j (sheet-polynomials s)) sheet-size (c .sheets) (σ .probes) s ss (sheets-long j) (P .left)
 
       abbrev totals : List ℕ
       totals = at-party j (polynomials a c)
@@ -213,35 +183,41 @@ module _ (a : Auction) (c : Coins) (A : IsAuction a) (C : InRange a c) where
           let N : Sane a σ = P .sane in
           (index-least (a .k) (bracket-of σ) (N .apart) (N .inside) (P .going), index-most (a .k) (bracket-of σ) (N .apart) (N .inside) (P .going))
 
-      in-field-facts : InField (record-at a c σ j) totals (probe.sheet-shares j (probe.dealt s))
+      in-field-facts : InField (record-at a c σ j) totals (sheet-shares j (sheet-polynomials s))
       in-field-facts =
           let small : j < 10 = omega (arith, A .n-most) in
           record {
             demand = λ e. rw demand-word (amount-below j small _ (demand-shared a c A C index (on-list .0) (on-list .1) .1));
             supply = λ e. rw supply-word (amount-below j small _ (supply-shared a c A C index (on-list .0) (on-list .1) .1));
-            mask = rw (mask-word t j (probe.dealt s) sheet-shared) (amount-below j small _ (sheet-shared .mask .1));
-            bytes = sheet-bytes-below t j small (probe.dealt s) sheet-shared;
+            mask = rw (mask-word t j (sheet-polynomials s) sheet-shared) (amount-below j small _ (sheet-shared .mask .1));
+            bytes = sheet-bytes-below t j small (sheet-polynomials s) sheet-shared;
           }
 
-      in-field-at : in-field (record-at a c σ j) totals (current (record-at a c σ j) (sheets-at a c j)) ≡ true
-      in-field-at = rw current-at (in-field-of _ _ _ in-field-facts)
+      says-at : Says (record-at a c σ j) totals (sheets-at a c j)
+      unfolding record-at
+      says-at =
+          record {
+            sound = facts-at a c A σ (P .sane) j j1 jn;
+            totals-long = totals-length j;
+            sheets-long = sheets-length j;
+            going = P .going;
+            in-field = rw current-at in-field-facts;
+          }
 
       say-ok : say-judgement (record-at a c σ j) totals (sheets-at a c j) ≡ Accepted
-      unfolding record-at
-      say-ok =
-          say-accepted (record-at a c σ j) totals (sheets-at a c j) (sound-at a c A σ (P .sane) j j1 jn) (totals-length j) (sheets-length j) (P .going) in-field-at
+      say-ok = say-accepted _ _ _ says-at
 
       pub saying-at : accepted (say-by a c (seat a c σ j)) ≡ true
       unfolding say-by seat judgement is-accepted
       saying-at = rw say-ok
 
-      pub word-at : word-by a c (seat a c σ j) ≡ message (record-at a c σ j) totals (probe.sheet-shares j (probe.dealt s))
+      pub word-at : word-by a c (seat a c σ j) ≡ message (record-at a c σ j) totals (sheet-shares j (sheet-polynomials s))
       unfolding word-by seat word said
       word-at = rw (say-ok, current-at)
 
       -- hearing words among which its own stands, that open to o
-      module _ (w : ℕ → ℕ) (o : Heard) (own : w j ≡ message (record-at a c σ j) totals (probe.sheet-shares j (probe.dealt s)))
-          (opens : round.heard (a .n) (σ .round) (map w (points (a .n))) ≡ o)
+      module _ (w : ℕ → ℕ) (o : Heard) (own : w j ≡ message (record-at a c σ j) totals (sheet-shares j (sheet-polynomials s)))
+          (opens : heard (a .n) (σ .round) (map w (points (a .n))) ≡ o)
           (straight : unopened o ≡ false) (tame : sum-outside o ≡ false) (whole : verdict-outside o ≡ false) where
         own-word : getD (map w (points (a .n))) (j - 1) 0 ≡ w j
         own-word = getD-words w 1 (a .n) (j - 1) (omega arith) ∙ ap w (omega arith)
@@ -249,28 +225,32 @@ module _ (a : Auction) (c : Coins) (A : IsAuction a) (C : InRange a c) where
         hear-ok : hear-judgement (record-at a c σ j) totals (sheets-at a c j) (map w (points (a .n))) ≡ Accepted
         unfolding record-at
         hear-ok =
-            hear-accepted (record-at a c σ j) totals (sheets-at a c j) (sound-at a c A σ (P .sane) j j1 jn) (totals-length j) (sheets-length j)
-            (P .going) in-field-at (map w (points (a .n))) (words-length w (a .n)) (own-word ∙ own ∙ sym (ap (message (record-at a c σ j) totals) current-at))
-            (ap unopened opens ∙ straight) (ap sum-outside opens ∙ tame) (ap verdict-outside opens ∙ whole)
+            hear-accepted (record-at a c σ j) totals (sheets-at a c j) (map w (points (a .n)))
+            (record {
+              says = says-at;
+              many = words-length w (a .n);
+              own = own-word ∙ own ∙ sym (ap (message (record-at a c σ j) totals) current-at);
+              opening = admitted (heard (a .n) (σ .round) (map w (points (a .n)))) (ap unopened opens ∙ straight) (ap sum-outside opens ∙ tame) (ap verdict-outside opens ∙ whole);
+            })
 
         pub hearing-at : accepted (hear-by a c (map w (points (a .n))) (seat a c σ j)) ≡ true
         unfolding hear-by seat judgement is-accepted
         hearing-at = rw hear-ok
 
-        seen : round.heard (record-at a c σ j .n) (record-at a c σ j .round) (map w (points (a .n))) ≡ o
+        seen : heard (record-at a c σ j .n) (record-at a c σ j .round) (map w (points (a .n))) ≡ o
         unfolding record-at
         seen = opens
 
-        pub next-at : (τ : Stage) → after (record-at a c σ j) (probe.sheet-shares j (probe.dealt s)) o ≡ record-at a c τ j
-            → canonical.heard a c (map w (points (a .n))) (seat a c σ j) ≡ seat a c τ j
-        unfolding canonical.heard seat replied kept
+        pub next-at : (τ : Stage) → after (record-at a c σ j) (sheet-shares j (sheet-polynomials s)) o ≡ record-at a c τ j
+            → after-hearing a c (map w (points (a .n))) (seat a c σ j) ≡ seat a c τ j
+        unfolding after-hearing seat replied kept
         next-at τ e = rw (hear-ok, current-at, seen, e)
 
     -- the whole round
     pub step-of : (τ : Stage) (w : ℕ → ℕ) (o : Heard)
-        → ((j : ℕ) → 1 ≤ j → j ≤ a .n → message (record-at a c σ j) (at-party j (polynomials a c)) (probe.sheet-shares j (probe.dealt s)) ≡ w j)
-        → round.heard (a .n) (σ .round) (map w (points (a .n))) ≡ o → unopened o ≡ false → sum-outside o ≡ false → verdict-outside o ≡ false
-        → ((j : ℕ) → 1 ≤ j → j ≤ a .n → after (record-at a c σ j) (probe.sheet-shares j (probe.dealt s)) o ≡ record-at a c τ j)
+        → ((j : ℕ) → 1 ≤ j → j ≤ a .n → message (record-at a c σ j) (at-party j (polynomials a c)) (sheet-shares j (sheet-polynomials s)) ≡ w j)
+        → heard (a .n) (σ .round) (map w (points (a .n))) ≡ o → unopened o ≡ false → sum-outside o ≡ false → verdict-outside o ≡ false
+        → ((j : ℕ) → 1 ≤ j → j ≤ a .n → after (record-at a c σ j) (sheet-shares j (sheet-polynomials s)) o ≡ record-at a c τ j)
         → Step a c σ τ w
     step-of τ w o says opens straight tame whole turns =
         record {

@@ -2,7 +2,7 @@
 use mathlib.Core.Path.{_≡_, refl, ap}
 use mathlib.Core.List.{List, [], _∷_, _++_}
 use Prim.Native.Nat.{ℕ}
-use Rattle.session.specs.declared.record.Party.{Party}
+use Rattle.record.specs.declared.Party.{Party}
 use Rattle.auction.specs.Call.{Call, say-call, answer-call}
 use Rattle.auction.specs.Run.{Repeats, Shuffle}
 

@@ -7,7 +7,7 @@ use Rattle.refusal.specs.declared.Judgement.{Judgement}
 use Rattle.refusal.specs.declared.Judgement.the-variants.{Accepted, Refused}
 use Rattle.bid.specs.Split.{split-judgement}
 use Rattle.dealer.specs.Deal.{deal-judgement}
-use Rattle.session.specs.declared.record.Party.{Party}
+use Rattle.record.specs.declared.Party.{Party}
 use Rattle.session.specs.Open.{open-judgement}
 use Rattle.session.specs.Add.{add-judgement}
 use Rattle.saying.specs.Say.{say-judgement}

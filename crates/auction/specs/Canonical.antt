@@ -8,12 +8,12 @@ use Rattle.ranges.specs.Sizes.{sheet-size, probe-rounds}
 use Rattle.sharing.specs.Scheme.{points}
 use Rattle.search.specs.Bracket.{over}
 use Rattle.search.specs.Limit.{limit}
-use Rattle.comparison.specs.Probe as probe
+use Rattle.comparison.specs.Probe.{SheetCoins}
 use Rattle.bid.specs.Split.{split-left}
 use Rattle.dealer.specs.Deal.{deal-left}
-use Rattle.session.specs.declared.record.Party.{Party}
+use Rattle.record.specs.declared.Party.{Party}
 use Rattle.saying.specs.declared.Said.{Said}
-use Rattle.session.specs.Record.{bracket}
+use Rattle.record.specs.Record.{bracket}
 use Rattle.session.specs.Open.{open-reply, open-left}
 use Rattle.session.specs.Add.{add-reply, add-left}
 use Rattle.saying.specs.Say.{say-reply, said-word}
@@ -42,30 +42,30 @@ enough-rounds a = probe-rounds * limit (a .k)
 
 module _ (a : Auction) (c : Coins) where
   -- a slice of 2k words, to be written
-  abbrev pub blank : List ℕ
-  blank = replicate (2 * a .k) 0
+  abbrev pub zeros : List ℕ
+  zeros = replicate (2 * a .k) 0
 
   -- "First, n sessions are opened, each with its own book and record."
   unfoldable pub seated : ℕ → Seat
   seated j =
       record {
-        party = open-reply (a .n) j (a .k) blank .party;
-        totals = open-left (a .n) j (a .k) blank;
+        party = open-reply (a .n) j (a .k) zeros .party;
+        totals = open-left (a .n) j (a .k) zeros;
         sheets = [];
       }
 
   -- "For each bid in turn the desk writes every keeper's bundle from the same draws, and each keeper adds its own."
   unfoldable pub shares-for : List ℕ × List (List ℕ) → Seat → List ℕ
-  shares-for b s = split-left (a .n) (s .party .own) (a .k) (b .0) (flat (b .1)) blank
+  shares-for b s = split-left (a .n) (s .party .own) (a .k) (b .0) (flat (b .1)) zeros
 
   unfoldable pub split-for : List ℕ × List (List ℕ) → Seat → Call
-  split-for b s = split-call (a .n) (s .party .own) (a .k) (b .0) (flat (b .1)) blank
+  split-for b s = split-call (a .n) (s .party .own) (a .k) (b .0) (flat (b .1)) zeros
 
   unfoldable pub add-by : List ℕ × List (List ℕ) → Seat → Call
   add-by b s = add-call (s .party) (s .totals) (shares-for b s)
 
-  unfoldable pub added : List ℕ × List (List ℕ) → Seat → Seat
-  added b s =
+  unfoldable pub after-adding : List ℕ × List (List ℕ) → Seat → Seat
+  after-adding b s =
       record {
         party = add-reply (s .party) (s .totals) (shares-for b s) .party;
         totals = add-left (s .party) (s .totals) (shares-for b s);
@@ -73,14 +73,14 @@ module _ (a : Auction) (c : Coins) where
       }
 
   -- "The dealer writes every keeper's sheets, from one set of draws per probe."
-  unfoldable pub deal-for : Seat → probe.Coins → Call
+  unfoldable pub deal-for : Seat → SheetCoins → Call
   deal-for s k = deal-call (a .n) (s .party .own) (coin-words k) (coin-bytes k) (replicate sheet-size 0)
 
-  unfoldable pub sheet-for : Seat → probe.Coins → List ℕ
+  unfoldable pub sheet-for : Seat → SheetCoins → List ℕ
   sheet-for s k = deal-left (a .n) (s .party .own) (coin-words k) (coin-bytes k) (replicate sheet-size 0)
 
-  unfoldable pub dealt : Seat → Seat
-  dealt s = record { party = s .party; totals = s .totals; sheets = flat (map (sheet-for s) (c .sheets)) }
+  unfoldable pub after-dealing : Seat → Seat
+  after-dealing s = record { party = s .party; totals = s .totals; sheets = flat (map (sheet-for s) (c .sheets)) }
 
   -- "Then, round after round, each keeper says its word and all n words go to each keeper's hearing"
   unfoldable pub say-by : Seat → Call
@@ -92,8 +92,8 @@ module _ (a : Auction) (c : Coins) where
   unfoldable pub hear-by : List ℕ → Seat → Call
   hear-by words s = hear-call (s .party) (s .totals) (s .sheets) words
 
-  unfoldable pub heard : List ℕ → Seat → Seat
-  heard words s =
+  unfoldable pub after-hearing : List ℕ → Seat → Seat
+  after-hearing words s =
       record {
         party = hear-reply (s .party) (s .totals) (s .sheets) words .party;
         totals = s .totals;
@@ -110,7 +110,7 @@ module _ (a : Auction) (c : Coins) where
       let words = map word-by ss in
       elim (all-over ss) [
         | true ↦ map ask ss
-        | false ↦ map say-by ss ++ (map (hear-by words) ss ++ from-rounds fuel (map (heard words) ss))
+        | false ↦ map say-by ss ++ (map (hear-by words) ss ++ from-rounds fuel (map (after-hearing words) ss))
       ]
 
   unfoldable pub deals : List Seat → List Call
@@ -118,8 +118,8 @@ module _ (a : Auction) (c : Coins) where
   deals (s ∷ ss) = map (deal-for s) (c .sheets) ++ deals ss
 
   unfoldable pub from-bids : List (List ℕ × List (List ℕ)) → List Seat → List Call
-  from-bids [] ss = deals ss ++ from-rounds (enough-rounds a) (map dealt ss)
-  from-bids (b ∷ bs) ss = map (split-for b) ss ++ (map (add-by b) ss ++ from-bids bs (map (added b) ss))
+  from-bids [] ss = deals ss ++ from-rounds (enough-rounds a) (map after-dealing ss)
+  from-bids (b ∷ bs) ss = map (split-for b) ss ++ (map (add-by b) ss ++ from-bids bs (map (after-adding b) ss))
 
   unfoldable pub canonical : List Call
-  canonical = map (λ j. open-call (a .n) j (a .k) blank) (points (a .n)) ++ from-bids (zip (a .bids) (c .bids)) (map seated (points (a .n)))
+  canonical = map (λ j. open-call (a .n) j (a .k) zeros) (points (a .n)) ++ from-bids (zip (a .bids) (c .bids)) (map seated (points (a .n)))

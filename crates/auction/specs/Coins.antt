@@ -6,28 +6,27 @@ use lib.ListN.{length}
 use Rattle.fields.specs.Amount.{p}
 use Rattle.sharing.specs.Scheme.{threshold}
 use Rattle.search.specs.Limit.{limit}
-use Rattle.comparison.specs.Probe as probe
-use Rattle.comparison.specs.Probe.{Group, Each, TripleCoins}
+use Rattle.comparison.specs.Probe.{SheetCoins, SheetInRange, Group, Each, TripleCoins}
 use Rattle.auction.specs.Auction.{Auction}
 
 -- for each bid a group of t coins for each of its 2k amounts; for each lent sheet what the dealer draws
 pub record Coins : Type 0 where
   pub bids : List (List (List ℕ))
-  pub sheets : List probe.Coins
+  pub sheets : List SheetCoins
 
 -- "all within their ranges"
 pub record InRange (a : Auction) (c : Coins) : Type 0 where
   pub bids-many : length (c .bids) ≡ length (a .bids)
   pub bids : Each (λ groups. (length groups ≡ 2 * a .k) × Each (Group p (threshold (a .n))) groups) (c .bids)
   pub sheets-many : length (c .sheets) ≡ limit (a .k)
-  pub sheets : Each (probe.InRange (threshold (a .n))) (c .sheets)
+  pub sheets : Each (SheetInRange (threshold (a .n))) (c .sheets)
 
 unfoldable pub flat : List (List ℕ) → List ℕ
 flat [] = []
 flat (xs ∷ xss) = xs ++ flat xss
 
 -- "the mask b (below 2^58), then its t coefficients"
-abbrev pub coin-words : probe.Coins → List ℕ
+abbrev pub coin-words : SheetCoins → List ℕ
 coin-words c = c .mask ∷ c .of-mask
 
 -- "alpha, beta and t coefficients each for alpha, beta, gamma"
@@ -35,5 +34,5 @@ abbrev pub triple-bytes : TripleCoins → List ℕ
 triple-bytes c = c .alpha ∷ c .beta ∷ (c .of-alpha ++ (c .of-beta ++ c .of-gamma))
 
 -- "t coefficients for each of bits 1 to 33 of b .. then for i = 2 to 32" those of a triple
-unfoldable pub coin-bytes : probe.Coins → List ℕ
+unfoldable pub coin-bytes : SheetCoins → List ℕ
 coin-bytes c = flat (c .of-bits) ++ flat (map triple-bytes (c .triples))

@@ -12,13 +12,13 @@ use Rattle.search.specs.Bracket.{start}
 use Rattle.search.specs.Limit.{limit}
 use Rattle.search.specs.Search.{promise, trail}
 use Rattle.comparison.specs.Probe.{Each}
-use Rattle.session.specs.declared.record.Answer.the-variants.{Cleared}
+use Rattle.session.specs.declared.reply.Answer.the-variants.{Cleared}
 use Rattle.auction.specs.Auction.{Auction, IsAuction, demand, supply, clearing-answer}
 use Rattle.auction.specs.Coins.{Coins, InRange}
 use Rattle.auction.specs.Call.{Call, accepted}
 use Rattle.auction.specs.Canonical.{canonical}
 use Rattle.auction.specs.Run.{Run}
-use Rattle.auction.specs.Received.{bid-shares, sheets, messages, verdicts, indices, answers, unused}
+use Rattle.auction.specs.Received.{received-shares, sheets, messages, verdicts, indices, answers, unused}
 
 unfoldable pub all-accepted : List Call → Bool
 all-accepted [] = true
@@ -72,7 +72,7 @@ Stay a b c = Each (λ s. stays a b (s .0) (s .1 .mask) ≡ true) (zip (probed a)
 -- what the two lists have in common: "the same shares, .. the same unused sheets, .. the same words from all n keepers, round by round,
 -- the same verdicts and the same number of probes"
 pub record Same (n : ℕ) (pool : List ℕ) (l m : List Call) : Type 0 where
-  pub pool-bids : (j : ℕ) → List·Memᴰ j pool → bid-shares j m ≡ bid-shares j l
+  pub pool-bids : (j : ℕ) → List·Memᴰ j pool → received-shares j m ≡ received-shares j l
   pub pool-sheets : (j : ℕ) → List·Memᴰ j pool → sheets j m ≡ sheets j l
   pub left : (j : ℕ) → 1 ≤ j → j ≤ n → unused j m ≡ unused j l
   pub words : (j : ℕ) → 1 ≤ j → j ≤ n → messages j m ≡ messages j l

@@ -5,11 +5,11 @@ use Prim.Native.Nat.{ℕ, _*_}
 use lib.ListN.{length, drop}
 use Rattle.ranges.specs.Sizes.{sheet-size}
 use Rattle.search.specs.Bracket.{middle}
-use Rattle.session.specs.declared.record.Party.{Party}
+use Rattle.record.specs.declared.Party.{Party}
 use Rattle.round.specs.declared.Heard as heard-as
 use Rattle.round.specs.declared.Heard.{Heard}
-use Rattle.session.specs.declared.record.Answer.{Answer}
-use Rattle.session.specs.Record.{bracket}
+use Rattle.session.specs.declared.reply.Answer.{Answer}
+use Rattle.record.specs.Record.{bracket}
 use Rattle.round.specs.Round.{heard}
 use Rattle.session.specs.Answer.{answer-reply}
 use Rattle.auction.specs.Call.{Call, open-call, split-call, deal-call, add-call, say-call, hear-call, answer-call}
@@ -54,8 +54,8 @@ answer-in (hear-call q totals sheets messages) = none
 answer-in (answer-call q) = some (answer-reply q)
 
 -- the bid shares that party j received, in order
-abbrev pub bid-shares : ℕ → List Call → List (List ℕ)
-bid-shares j l = collect bid-shares-in (own j l)
+abbrev pub received-shares : ℕ → List Call → List (List ℕ)
+received-shares j l = collect bid-shares-in (own j l)
 
 abbrev pub hearings : ℕ → List Call → List Hearing
 hearings j l = collect hearing-in (own j l)

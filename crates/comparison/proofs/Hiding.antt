@@ -16,7 +16,7 @@ use Rattle.sharing.proofs.Laws.{recolour}
 use Rattle.verdict.specs.Verdict.{verdict}
 use Rattle.comparison.specs.Local.{on-polynomials}
 use Rattle.comparison.specs.Rounds.{first-carry, last}
-use Rattle.comparison.specs.Probe.{Triple, Coins, Each, InRange, Probe, bit-polynomials, triple-polynomials, dealt, triple-words, sheet-shares, secret, rounds, final-carry, sum-polynomial, opened-sum, carry-one, product-rounds, last-polynomial, probe-messages}
+use Rattle.comparison.specs.Probe.{Triple, SheetCoins, Each, SheetInRange, Probe, bit-polynomials, triple-polynomials, sheet-polynomials, triple-words, sheet-shares, secret, rounds, final-carry, sum-polynomial, opened-sum, carry-one, product-rounds, last-polynomial, probe-messages}
 use Rattle.comparison.proofs.Matched.{moved, probe, matched, matched-bits, matched-triples}
 use Rattle.comparison.proofs.Values.{Shared, first-carry-shared}
 use Rattle.comparison.proofs.Dealt.{each-at, each-drop, dealt-shared, sum-shared, product-rounds-long}
@@ -28,7 +28,7 @@ use Rattle.comparison.proofs.Only.{coefficients-only, bits-only, triple
 -- ---- what is claimed
 
 -- A probe q of n parties, in which these totals are compared with these coins; a pool xs of t of the parties; and other totals.
-pub record Other (n t : ℕ) (xs : List ℕ) (demand supply : ℕ) (c : Coins) (q : Probe) (demand′ supply′ : ℕ) (d′ s′ : List ℕ) : Type 0 where
+pub record Other (n t : ℕ) (xs : List ℕ) (demand supply : ℕ) (c : SheetCoins) (q : Probe) (demand′ supply′ : ℕ) (d′ s′ : List ℕ) : Type 0 where
   pub at-most : n ≤ 9
   pub more : t < n
   pub pool : Parties n xs
@@ -49,23 +49,23 @@ pub record Other (n t : ℕ) (xs : List ℕ) (demand supply : ℕ) (c : Coins) (
   pub mask-lt : moved (c .mask) demand supply demand′ supply′ < 2 ^ 58
 
 -- With these coins for the other totals the pool gets the same words and all parties say the same, and with no others.
-pub record Matches (n t : ℕ) (xs : List ℕ) (q : Probe) (d′ s′ : List ℕ) (coins : Coins) : Type 0 where
-  pub ranged : InRange t coins
+pub record Matches (n t : ℕ) (xs : List ℕ) (q : Probe) (d′ s′ : List ℕ) (coins : SheetCoins) : Type 0 where
+  pub ranged : SheetInRange t coins
   -- the 127 words of each pooled party
-  pub same-words : map (λ x. sheet-shares x (dealt coins)) xs ≡ map (λ x. sheet-shares x (q .sheet)) xs
+  pub same-words : map (λ x. sheet-shares x (sheet-polynomials coins)) xs ≡ map (λ x. sheet-shares x (q .sheet)) xs
   -- what any party says, round by round
   pub same-messages : (j : ℕ) → probe-messages (probe d′ s′ coins) j ≡ probe-messages q j
   -- T and the verdict, as opened
   pub same-sum : opened-sum (probe d′ s′ coins) ≡ opened-sum q
   pub same-verdict : secret (last-polynomial (probe d′ s′ coins)) ≡ secret (last-polynomial q)
-  pub only : (e : Coins) → InRange t e
-      → map (λ x. sheet-shares x (dealt e)) xs ≡ map (λ x. sheet-shares x (q .sheet)) xs
+  pub only : (e : SheetCoins) → SheetInRange t e
+      → map (λ x. sheet-shares x (sheet-polynomials e)) xs ≡ map (λ x. sheet-shares x (q .sheet)) xs
       → ((j : ℕ) → 1 ≤ j → j ≤ n → probe-messages (probe d′ s′ e) j ≡ probe-messages q j)
       → e ≡ coins
 
 -- the other totals are compared, with any coins in range
-pub compares : {n t : ℕ} {xs : List ℕ} {demand supply : ℕ} {c : Coins} {q : Probe} {demand′ supply′ : ℕ} {d′ s′ : List ℕ}
-    → Other n t xs demand supply c q demand′ supply′ d′ s′ → (e : Coins) → InRange t e → Compares t demand′ supply′ e (probe d′ s′ e)
+pub compares : {n t : ℕ} {xs : List ℕ} {demand supply : ℕ} {c : SheetCoins} {q : Probe} {demand′ supply′ : ℕ} {d′ s′ : List ℕ}
+    → Other n t xs demand supply c q demand′ supply′ d′ s′ → (e : SheetCoins) → SheetInRange t e → Compares t demand′ supply′ e (probe d′ s′ e)
 compares A e h =
     record {
       demand-shared = A .demand-shared;
@@ -102,31 +102,31 @@ append-parts ks ks′ ls ls′ h e = (
   sym (drop-at ks ls (length ks′) h) ∙ ap (drop (length ks′)) e ∙ drop-at ks′ ls′ (length ks′) refl,
 )
 
-module _ (t : ℕ) (f : Coins) (h : InRange t f) where
+module _ (t : ℕ) (f : SheetCoins) (h : SheetInRange t f) where
   abbrev bits-of : List (List ℕ)
   bits-of = bit-polynomials 1 (f .mask) (f .of-bits)
 
   bits-many : length bits-of ≡ 33
-  unfolding dealt
+  unfolding sheet-polynomials
   bits-many = dealt-shared t f h .bits-long
 
   enough-bits : length (f .triples) ≤ length (drop 1 bits-of)
   enough-bits = omega (arith, length-drop 1 bits-of, bits-many, h .triples-long)
 
   bits-shared : Each (Shared 256 t) bits-of
-  unfolding dealt
+  unfolding sheet-polynomials
   bits-shared = dealt-shared t f h .bits
 
   first-shared : (T : ℕ) → Shared 256 t (first-carry (on-polynomials bytes) T (getD bits-of 0 []))
   first-shared T = first-carry-shared T 1 t (getD bits-of 0 []) (each-at (Shared 256 t) bits-of 0 [] bits-shared (omega (arith, bits-many)))
 
 -- the words of all rounds but the first and the last
-rounds-many : (t demand supply : ℕ) (c : Coins) (q : Probe) → Compares t demand supply c q → (j : ℕ) → length (round-words j (product-rounds q)) ≡ 31
+rounds-many : (t demand supply : ℕ) (c : SheetCoins) (q : Probe) → Compares t demand supply c q → (j : ℕ) → length (round-words j (product-rounds q)) ≡ 31
 rounds-many t demand supply c q h j =
     length-map (product-rounds q) (round-word j)
     ∙ product-rounds-long t q (probe-shared t demand supply c q h)
 
-module _ (n t : ℕ) (xs : List ℕ) (demand supply : ℕ) (c : Coins) (d s : List ℕ) (demand′ supply′ : ℕ) (d′ s′ : List ℕ)
+module _ (n t : ℕ) (xs : List ℕ) (demand supply : ℕ) (c : SheetCoins) (d s : List ℕ) (demand′ supply′ : ℕ) (d′ s′ : List ℕ)
     (A : Other n t xs demand supply c (probe d s c) demand′ supply′ d′ s′) where
   abbrev T : ℕ
   T = opened-sum (probe d s c)
@@ -134,7 +134,7 @@ module _ (n t : ℕ) (xs : List ℕ) (demand supply : ℕ) (c : Coins) (d s : Li
   abbrev mask′ : ℕ
   mask′ = moved (c .mask) demand supply demand′ supply′
 
-  abbrev c′ : Coins
+  abbrev c′ : SheetCoins
   c′ = matched xs T mask′ c
 
   abbrev bits : List (List ℕ)
@@ -163,7 +163,7 @@ module _ (n t : ℕ) (xs : List ℕ) (demand supply : ℕ) (c : Coins) (d s : Li
       kept t xs D (A .pooled) T 2 (carry bits) (carry bits′) (drop 1 bits) (drop 1 bits′) (c .triples) (enough-bits t c (A .first .ranged))
       (first-carry-alike (D .2) T (bit-pair 0 (omega arith))) (pairs-rest (Bytes t xs) bits bits′ pairs) (A .first .ranged .triples)
 
-  matched-ranged : InRange t c′
+  matched-ranged : SheetInRange t c′
   unfolding matched
   matched-ranged =
       record {
@@ -183,8 +183,8 @@ module _ (n t : ℕ) (xs : List ℕ) (demand supply : ℕ) (c : Coins) (d s : Li
       alike-recolour amount-field t xs D (A .pooled) (c .mask) mask′ (c .of-mask)
       (omega (arith, A .first .ranged .mask)) (omega (arith, A .mask-lt)) (A .first .ranged .of-mask)
 
-  words-kept : (x : ℕ) → In x xs → sheet-shares x (dealt c′) ≡ sheet-shares x (dealt c)
-  unfolding sheet-shares dealt matched
+  words-kept : (x : ℕ) → In x xs → sheet-shares x (sheet-polynomials c′) ≡ sheet-shares x (sheet-polynomials c)
+  unfolding sheet-shares sheet-polynomials matched
   words-kept x m =
       ap₂ (λ (z : ℕ) (zs : List ℕ). z ∷ zs) (sym (mask-alike .same x m))
       (ap₂ (λ (y z : List ℕ). y ++ z) (bits-words t xs D (A .pooled) x m bits bits′ pairs) (rounds-kept .words x m))
@@ -195,7 +195,7 @@ module _ (n t : ℕ) (xs : List ℕ) (demand supply : ℕ) (c : Coins) (d s : Li
   totals-alike e e′ h h′ w = record { first = h; second = h′; same = same-map (value amounts e) (value amounts e′) xs (sym w) }
 
   sum-alike : Amounts t xs (sum-polynomial (probe d s c)) (sum-polynomial (probe d′ s′ c′))
-  unfolding sum-polynomial dealt
+  unfolding sum-polynomial sheet-polynomials
   sum-alike =
       masked-alike (D .2) mask-alike
       (totals-alike d d′ (A .first .demand-shared) (A .demand-shared) (A .demand-seen))
@@ -222,11 +222,11 @@ module _ (n t : ℕ) (xs : List ℕ) (demand supply : ℕ) (c : Coins) (d s : Li
   ending-alike = last-alike (D .2) T (bit-pair 32 (omega arith)) (rounds-kept .carried)
 
   ending-first : last-polynomial (probe d s c) ≡ ending T bits (map triple-polynomials (c .triples))
-  unfolding ending last-polynomial carry-one dealt
+  unfolding ending last-polynomial carry-one sheet-polynomials
   ending-first = refl
 
   ending-second : last-polynomial (probe d′ s′ c′) ≡ ending T bits′ (map triple-polynomials (c′ .triples))
-  unfolding ending last-polynomial carry-one dealt matched
+  unfolding ending last-polynomial carry-one sheet-polynomials matched
   ending-second = ap (λ (z : ℕ). ending z bits′ (map triple-polynomials (c′ .triples))) sum-stays
 
   verdict-kept : secret (last-polynomial (probe d′ s′ c′)) ≡ secret (last-polynomial (probe d s c))
@@ -243,7 +243,7 @@ module _ (n t : ℕ) (xs : List ℕ) (demand supply : ℕ) (c : Coins) (d s : Li
   -- ---- all probe-messages
 
   rounds-said : (j : ℕ) → round-words j (product-rounds (probe d′ s′ c′)) ≡ round-words j (product-rounds (probe d s c))
-  unfolding carry-one dealt matched
+  unfolding carry-one sheet-polynomials matched
   rounds-said j =
       ap
       (λ (z : ℕ). round-words j (rounds z 2 (first-carry (on-polynomials bytes) z (getD bits′ 0 [])) (drop 1 bits′) (map triple-polynomials (c′ .triples))))
@@ -258,8 +258,8 @@ module _ (n t : ℕ) (xs : List ℕ) (demand supply : ℕ) (c : Coins) (d s : Li
 
   -- ---- other coins that do the same are these
 
-  module _ (e : Coins) (h : InRange t e)
-      (words : map (λ x. sheet-shares x (dealt e)) xs ≡ map (λ x. sheet-shares x (dealt c)) xs)
+  module _ (e : SheetCoins) (h : SheetInRange t e)
+      (words : map (λ x. sheet-shares x (sheet-polynomials e)) xs ≡ map (λ x. sheet-shares x (sheet-polynomials c)) xs)
       (said : (j : ℕ) → 1 ≤ j → j ≤ n → probe-messages (probe d′ s′ e) j ≡ probe-messages (probe d s c) j) where
     abbrev bits″ : List (List ℕ)
     bits″ = bit-polynomials 1 (e .mask) (e .of-bits)
@@ -283,13 +283,13 @@ module _ (n t : ℕ) (xs : List ℕ) (demand supply : ℕ) (c : Coins) (d s : Li
         (sum-law t demand supply c (probe d s c) (A .first)) (sum-law t demand′ supply′ e (probe d′ s′ e) second)
 
     -- the words, place by place
-    word : (x : ℕ) → In x xs → sheet-shares x (dealt e) ≡ sheet-shares x (dealt c)
-    word = same-map (λ x. sheet-shares x (dealt e)) (λ x. sheet-shares x (dealt c)) xs words
+    word : (x : ℕ) → In x xs → sheet-shares x (sheet-polynomials e) ≡ sheet-shares x (sheet-polynomials c)
+    word = same-map (λ x. sheet-shares x (sheet-polynomials e)) (λ x. sheet-shares x (sheet-polynomials c)) xs words
 
     later-words : (x : ℕ) → In x xs
         → (map (λ b. value bytes b x) bits″ ≡ map (λ b. value bytes b x) bits)
         × (triple-words x (map triple-polynomials (e .triples)) ≡ triple-words x (map triple-polynomials (c .triples)))
-    unfolding sheet-shares dealt
+    unfolding sheet-shares sheet-polynomials
     later-words x m =
         append-parts (map (λ b. value bytes b x) bits″) (map (λ b. value bytes b x) bits) _ _
         (length-map bits″ (λ b. value bytes b x)
@@ -297,7 +297,7 @@ module _ (n t : ℕ) (xs : List ℕ) (demand supply : ℕ) (c : Coins) (d s : Li
         (tail-eq-of-cons-eq (word x m))
 
     of-mask-same : e .of-mask ≡ recolour amount-field xs (c .mask) mask′ (c .of-mask)
-    unfolding sheet-shares dealt
+    unfolding sheet-shares sheet-polynomials
     of-mask-same =
         coefficients-only amount-field t xs D (A .pooled) (c .mask) (e .mask) (c .of-mask) (e .of-mask)
         (omega (arith, A .first .ranged .mask)) (omega (arith, h .mask)) (A .first .ranged .of-mask) (h .of-mask)
@@ -314,7 +314,7 @@ module _ (n t : ℕ) (xs : List ℕ) (demand supply : ℕ) (c : Coins) (d s : Li
     rounds-heard : (j : ℕ) → 1 ≤ j → j ≤ n
         → round-words j (rounds T 2 (carry bits″) (drop 1 bits″) (map triple-polynomials (e .triples)))
         ≡ round-words j (rounds T 2 (carry bits) (drop 1 bits) (map triple-polynomials (c .triples)))
-    unfolding probe-messages carry-one dealt
+    unfolding probe-messages carry-one sheet-polynomials
     rounds-heard j h1 hn =
         ap
         (λ (z : ℕ). round-words j (rounds z 2 (first-carry (on-polynomials bytes) z (getD bits″ 0 [])) (drop 1 bits″) (map triple-polynomials (e .triples))))
@@ -342,7 +342,7 @@ module _ (n t : ℕ) (xs : List ℕ) (demand supply : ℕ) (c : Coins) (d s : Li
   matches =
       record {
         ranged = matched-ranged;
-        same-words = map-same (λ x. sheet-shares x (dealt c′)) (λ x. sheet-shares x (dealt c)) xs words-kept;
+        same-words = map-same (λ x. sheet-shares x (sheet-polynomials c′)) (λ x. sheet-shares x (sheet-polynomials c)) xs words-kept;
         same-messages = messages-kept;
         same-sum = sum-stays;
         same-verdict = verdict-kept;
@@ -352,7 +352,7 @@ module _ (n t : ℕ) (xs : List ℕ) (demand supply : ℕ) (c : Coins) (d s : Li
 -- ---- the law
 
 -- Other totals with the same verdict fit what the pool sees with the matched coins, and with no others.
-pub hides : (n t : ℕ) (xs : List ℕ) (demand supply : ℕ) (c : Coins) (q : Probe) (demand′ supply′ : ℕ) (d′ s′ : List ℕ)
+pub hides : (n t : ℕ) (xs : List ℕ) (demand supply : ℕ) (c : SheetCoins) (q : Probe) (demand′ supply′ : ℕ) (d′ s′ : List ℕ)
     → Other n t xs demand supply c q demand′ supply′ d′ s′
     → Matches n t xs q d′ s′ (matched xs (opened-sum q) (moved (c .mask) demand supply demand′ supply′) c)
 hides n t xs demand supply c q demand′ supply′ d′ s′ A =
@@ -362,7 +362,7 @@ hides n t xs demand supply c q demand′ supply′ d′ s′ A =
     (subst (λ (z : Probe). Other n t xs demand supply c z demand′ supply′ d′ s′) e A))
 
 -- Of its own totals a probe's own coins are the matched ones: what is supposed of other totals holds of these.
-pub itself : (n t : ℕ) (xs : List ℕ) (demand supply : ℕ) (c : Coins) (q : Probe) → n ≤ 9 → t < n → Parties n xs → length xs ≡ t
+pub itself : (n t : ℕ) (xs : List ℕ) (demand supply : ℕ) (c : SheetCoins) (q : Probe) → n ≤ 9 → t < n → Parties n xs → length xs ≡ t
     → Compares t demand supply c q → c ≡ matched xs (opened-sum q) (moved (c .mask) demand supply demand supply) c
 itself n t xs demand supply c q h9 hn ps l h =
     let A : Other n t xs demand supply c q demand supply (q .demand) (q .supply) =

@@ -1,8 +1,11 @@
 // Dealing the preprocessing of one probe (the paper's dealer): one party's shares of the mask, of
 // the mask's bits, and of the triples that products are made with.
 ghost use mathlib.Core.Path.{_≡_};
+ghost use mathlib.Core.List.{_∷_};
 ghost use Prim.Native.Nat.{_+_, _*_, _≤_, _<_};
-ghost use lib.ListN.{length};
+ghost use lib.ListN.{length, take, drop};
+ghost use Rattle.fields.specs.Byte.{bytes};
+ghost use Rattle.sharing.specs.Polynomial.{value};
 ghost use Rattle.dealer.specs.Deal.{deal-judgement, byte-shares, mask-bits, triple, triples, preprocessing, deal-left};
 use fields::BitShare;
 use fields::P;
@@ -73,11 +76,10 @@ fn write_bits(t: usize, point: u8, mask: u64, drawn: &[u8], shares: &mut [u64])
     let mut at = 0;
     let mut i = 0;
     while i < 33 {
-        let next = at + t;
         let bit = (rest & 1) as u8;
-        shares[i] = share_byte(bit, &drawn[at..next], point).0 as u64;
+        shares[i] = share_from(bit, drawn, at, t, point);
         rest = rest >> 1;
-        at = next;
+        at = at + t;
         i += 1;
     }
 }
@@ -109,8 +111,16 @@ fn write_triple(t: usize, point: u8, drawn: &[u8], shares: &mut [u64])
     let gamma = BitShare(alpha).mul(BitShare(beta)).0;
     let first = 2 + t;
     let second = first + t;
-    let third = second + t;
-    shares[0] = share_byte(alpha, &drawn[2..first], point).0 as u64;
-    shares[1] = share_byte(beta, &drawn[first..second], point).0 as u64;
-    shares[2] = share_byte(gamma, &drawn[second..third], point).0 as u64;
+    shares[0] = share_from(alpha, drawn, 2, t, point);
+    shares[1] = share_from(beta, drawn, first, t, point);
+    shares[2] = share_from(gamma, drawn, second, t, point);
+}
+
+// The share of a byte, made with the t drawn bytes from a place on.
+fn share_from(secret: u8, drawn: &[u8], from: usize, t: usize, point: u8) -> u64
+    requires { ⌜ from + t ≤ length (now drawn) ⌝ }
+    ensures { λ r. ⌜ r ≡ value bytes (secret ∷ take t (drop from (now (drawn .entry)))) point ⌝ }
+{
+    let to = from + t;
+    share_byte(secret, &drawn[from..to], point).0 as u64
 }

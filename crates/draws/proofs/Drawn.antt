@@ -17,11 +17,10 @@ use Rattle.ranges.specs.Below.{AllBelow}
 use Rattle.fields.proofs.Test.{below, at}
 use Rattle.sharing.specs.Scheme.{threshold}
 use Rattle.search.specs.Limit.{limit}
-use Rattle.comparison.specs.Probe as probe
-use Rattle.comparison.specs.Probe.{Group, Each, TripleInRange}
+use Rattle.comparison.specs.Probe.{SheetInRange, Group, Each, TripleInRange}
 use Rattle.auction.specs.Auction.{Auction}
 use Rattle.auction.specs.Coins.{InRange, flat, coin-words, triple-bytes, coin-bytes}
-use Rattle.draws.specs.Draws.{xor-up, xor-down, next, first-state, next-coin, later, drawn, groups, bid-coins, after-bids, triple-coins, triples, sheet-coins, after-sheet, all-sheets, auction-coins}
+use Rattle.draws.specs.Draws.{xor-up, xor-down, next, first-state, next-coin, later, drawn, groups, bid-coins, after-bids, triple-coins, all-triples, sheet-coins, after-sheet, all-sheets, auction-coins}
 
 -- ---- lists of draws
 
@@ -234,17 +233,17 @@ triple-in-range t x h =
       of-gamma = bytes-in-range t _ (bytes-word (t + t) _ y);
     }
 
-triples-in-range : (t m x : ℕ) → Word x → Each (TripleInRange t) (triples t m x)
-unfolding triples
+triples-in-range : (t m x : ℕ) → Word x → Each (TripleInRange t) (all-triples t m x)
+unfolding all-triples
 triples-in-range t zero x h = tt
 triples-in-range t (suc m) x h = (triple-in-range t x h, triples-in-range t m (later next (2 + 3 * t) x) (bytes-word (2 + 3 * t) x h))
 
-triples-length : (t m x : ℕ) → length (triples t m x) ≡ m
-unfolding triples
+triples-length : (t m x : ℕ) → length (all-triples t m x) ≡ m
+unfolding all-triples
 triples-length t zero x = refl
 triples-length t (suc m) x = ap suc (triples-length t m (later next (2 + 3 * t) x))
 
-pub sheet-in-range : (t x : ℕ) → Word x → probe.InRange t (sheet-coins t x)
+pub sheet-in-range : (t x : ℕ) → Word x → SheetInRange t (sheet-coins t x)
 unfolding sheet-coins
 sheet-in-range t x h =
     let y : Word (later next-coin t (next x)) = coins-word t (next x) (next-below x h) in
@@ -266,7 +265,7 @@ unfolding all-sheets
 all-sheets-length t zero x = refl
 all-sheets-length t (suc m) x = ap suc (all-sheets-length t m (after-sheet t x))
 
-pub all-sheets-in-range : (t m x : ℕ) → Word x → Each (probe.InRange t) (all-sheets t m x)
+pub all-sheets-in-range : (t m x : ℕ) → Word x → Each (SheetInRange t) (all-sheets t m x)
 unfolding all-sheets
 all-sheets-in-range t zero x h = tt
 all-sheets-in-range t (suc m) x h = (sheet-in-range t x h, all-sheets-in-range t m (after-sheet t x) (after-sheet-word t x h))
@@ -286,8 +285,8 @@ triple-flat t x =
     ∙ sym (drawn-more next 256 t t (later next t y)))
     ∙ sym (drawn-more next 256 t (t + t) y)))
 
-triples-flat : (t m x : ℕ) → flat (map triple-bytes (triples t m x)) ≡ drawn next 256 (m * (2 + 3 * t)) x
-unfolding triples flat drawn
+triples-flat : (t m x : ℕ) → flat (map triple-bytes (all-triples t m x)) ≡ drawn next 256 (m * (2 + 3 * t)) x
+unfolding all-triples flat drawn
 triples-flat t zero x = rw zero-mul
 triples-flat t (suc m) x =
     let e : suc m * (2 + 3 * t) ≡ (2 + 3 * t) + m * (2 + 3 * t) = omega arith in

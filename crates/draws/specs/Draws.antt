@@ -9,8 +9,7 @@ use lib.Dec.{eqb}
 use Rattle.fields.specs.Amount.{p}
 use Rattle.sharing.specs.Scheme.{threshold}
 use Rattle.search.specs.Limit.{limit}
-use Rattle.comparison.specs.Probe as probe
-use Rattle.comparison.specs.Probe.{TripleCoins}
+use Rattle.comparison.specs.Probe.{SheetCoins, TripleCoins}
 use Rattle.auction.specs.Coins.{Coins}
 
 abbrev pub xor-up : (bits x : ℕ) → ℕ
@@ -77,25 +76,25 @@ triple-coins t x =
       of-gamma = drawn-bytes t (later next (t + t) y);
     }
 
-unfoldable pub triples : (t m : ℕ) → ℕ → List TripleCoins
-triples t zero x = []
-triples t (suc m) x = triple-coins t x ∷ triples t m (later next (2 + 3 * t) x)
+unfoldable pub all-triples : (t m : ℕ) → ℕ → List TripleCoins
+all-triples t zero x = []
+all-triples t (suc m) x = triple-coins t x ∷ all-triples t m (later next (2 + 3 * t) x)
 
-unfoldable pub sheet-coins : (t : ℕ) → ℕ → probe.Coins
+unfoldable pub sheet-coins : (t : ℕ) → ℕ → SheetCoins
 sheet-coins t x =
     let y = later next-coin t (next x) in
     record {
       mask = next x % 2 ^ 58;
       of-mask = drawn-coins t (next x);
       of-bits = groups next 256 t 33 y;
-      triples = triples t 31 (later next (33 * t) y);
+      triples = all-triples t 31 (later next (33 * t) y);
     }
 
 -- the state after a sheet, and the coins of m sheets
 unfoldable pub after-sheet : (t : ℕ) → ℕ → ℕ
 after-sheet t x = later next (126 * t + 62) (later next-coin t (next x))
 
-unfoldable pub all-sheets : (t m : ℕ) → ℕ → List probe.Coins
+unfoldable pub all-sheets : (t m : ℕ) → ℕ → List SheetCoins
 all-sheets t zero x = []
 all-sheets t (suc m) x = sheet-coins t x ∷ all-sheets t m (after-sheet t x)
 

@@ -1,3 +1,2 @@
--- Laws of the exported calls, and lemmas that the functions' proofs share.
-pub mod Judging
-pub mod ReadBack
+-- Lemmas that the functions' proofs share.
+pub mod Opening

@@ -11,7 +11,7 @@ use Rattle.session.specs.Add.{add-reply, add-left}
 use Rattle.session.specs.Answer.{answer-reply, answer-number, cleared-index, cleared-probes}
 use Rattle.saying.specs.Say.{say-reply, said-number, said-word}
 use Rattle.hearing.specs.Hear.{hear-reply}
-use Rattle.exchange.specs.Record.{party-of, record-judgement, on-record, number-on, stored}
+use Rattle.record_words.specs.Words.{party-of, record-judgement, on-record, number-on, stored}
 
 -- ---- opening: the ranges come first, then the lengths
 

@@ -1,3 +1,2 @@
 -- The exported calls: what the contracts cite.
-pub mod Record
 pub mod Calls

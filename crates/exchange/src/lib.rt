@@ -4,14 +4,11 @@ ghost use mathlib.Core.Path.{_≡_};
 ghost use Rattle.bid.specs.Split.{split-left};
 ghost use Rattle.dealer.specs.Deal.{deal-left};
 ghost use Rattle.exchange.specs.Calls.{open-code, open-totals, open-record, split-code, deal-code, add-code, add-totals, add-record, say-code, say-message, hear-code, hear-record, answer-code, answer-index, answer-probes};
-
-mod record;
-
 use hearing::hear;
 use ranges::on_list;
-use record::WORDS;
-use record::read;
-use record::store;
+use record_words::is_record;
+use record_words::read;
+use record_words::store;
 use refusal::Refusal;
 use refusal::code;
 use refusal::number;
@@ -39,7 +36,7 @@ pub extern "C" fn clockivy_open(
     if !on_list(n, own, k) {
         return number(Refusal::OutOfRange);
     }
-    if words.len() != WORDS {
+    if !is_record(&words[..]) {
         return number(Refusal::WrongLength);
     }
     store(open(n, own, k, totals), words)
@@ -83,7 +80,7 @@ pub extern "C" fn clockivy_add(words: &mut [u64], totals: &mut [u64], shares: &[
         × (now (words .exit) ≡ add-record (now (words .entry)) (now (totals .entry)) (now (shares .entry)))
         × (now (totals .exit) ≡ add-totals (now (words .entry)) (now (totals .entry)) (now (shares .entry))) ⌝ }
 {
-    if words.len() != WORDS {
+    if !is_record(&words[..]) {
         return number(Refusal::WrongLength);
     }
     store(add(read(&words[..]), totals, shares), words)
@@ -100,7 +97,7 @@ pub extern "C" fn clockivy_say(
     ensures { λ r. ⌜ (r ≡ say-code (now (words .entry)) (now (totals .entry)) (now (sheets .entry)))
         × (now (message .exit) ≡ say-message (now (words .entry)) (now (totals .entry)) (now (sheets .entry)) (now (message .entry))) ⌝ }
 {
-    if words.len() != WORDS {
+    if !is_record(words) {
         return number(Refusal::WrongLength);
     }
     match say(read(words), totals, sheets) {
@@ -123,7 +120,7 @@ pub extern "C" fn clockivy_hear(
     ensures { λ r. ⌜ (r ≡ hear-code (now (words .entry)) (now (totals .entry)) (now (sheets .entry)) (now (messages .entry)))
         × (now (words .exit) ≡ hear-record (now (words .entry)) (now (totals .entry)) (now (sheets .entry)) (now (messages .entry))) ⌝ }
 {
-    if words.len() != WORDS {
+    if !is_record(&words[..]) {
         return number(Refusal::WrongLength);
     }
     store(hear(read(&words[..]), totals, sheets, messages), words)
@@ -136,7 +133,7 @@ pub extern "C" fn clockivy_answer(words: &[u64], index: &mut u64, probes: &mut u
         × (now (index .exit) ≡ answer-index (now (words .entry)) (now (index .entry)))
         × (now (probes .exit) ≡ answer-probes (now (words .entry)) (now (probes .entry))) ⌝ }
 {
-    if words.len() != WORDS {
+    if !is_record(words) {
         return number(Refusal::WrongLength);
     }
     match answer(read(words)) {

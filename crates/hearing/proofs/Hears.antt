@@ -1,8 +1,8 @@
 -- Hearing a round, in facts: when it is accepted, and what each kind of round makes of the record. Assumes nothing.
 use mathlib.Core.Path.{_≡_, refl, sym, ap, _∙_}
-use mathlib.Core.Bool.{Bool, true, false, not, _&&_}
+use mathlib.Core.Bool.{true, false, not}
 use mathlib.Core.List.{List, [], _∷_}
-use Prim.Native.Nat.{ℕ, _+_, _-_, _*_, _^_, _≤_}
+use Prim.Native.Nat.{ℕ, _+_, _-_, _^_, _≤_}
 use native.Mathlib.Omega.{arith}
 use lib.Dec.{leb, eqb}
 use lib.ListN.{length, getD}
@@ -13,40 +13,26 @@ use Rattle.refusal.specs.declared.Refusal.the-variants as refusal
 use Rattle.refusal.specs.declared.Judgement.{Judgement}
 use Rattle.refusal.specs.declared.Judgement.the-variants.{Accepted, Refused}
 use Rattle.ranges.specs.Sizes.{long}
-use Rattle.search.specs.Bracket.{over}
-use Rattle.session.specs.declared.record.Party.{Party}
+use Rattle.record.specs.declared.Party.{Party}
 use Rattle.round.specs.declared.Heard.{Heard}
 use Rattle.round.specs.declared.Heard.the-variants.{Sum, Factors, Verdict, Unopened}
-use Rattle.session.specs.Record.{bracket, sound}
-use Rattle.saying.specs.Say.{sheets-long, current, in-field, message, say-judgement}
+use Rattle.saying.specs.Say.{current, message, turn-judgement}
 use Rattle.round.specs.Round.{heard, unopened, sum-outside, verdict-outside}
 use Rattle.hearing.specs.Hear.{hear-judgement, after, hear-reply}
-use Rattle.session.proofs.Judging.{and-true, passes, all-passed, passed, next-party}
-use Rattle.session.proofs.Soundness.{sound-of}
-use Rattle.saying.proofs.Laws.{Says, says, say-accepted}
+use Rattle.ranges.proofs.Loops.{and-true}
+use Rattle.refusal.proofs.Judging.{passes, all-passed, passed}
+use Rattle.record.proofs.Replies.{next-party}
+use Rattle.saying.proofs.Laws.{Says, turns, turn-accepted}
 
 -- ---- hearing is judged as saying is, and then by the messages
 
--- by the tests alone: sound, the three lengths, over, in the field
-both-judged : (s t u m o f : Bool) (tests : List Test) → s && not m ≡ false
-    → judged ((not s ⇒ refusal.OutOfRange) ∷ (not (t && u && m) ⇒ refusal.WrongLength) ∷ (o ⇒ refusal.OutOfTurn) ∷ (not f ⇒ refusal.ShareOutOfRange) ∷ tests)
-    ≡ then (judged ((not s ⇒ refusal.OutOfRange) ∷ (not (t && u) ⇒ refusal.WrongLength) ∷ (o ⇒ refusal.OutOfTurn) ∷ (not f ⇒ refusal.ShareOutOfRange) ∷ [])) (judged tests)
+both-judged : (a b c d : Test) (tests : List Test) → judged (a ∷ b ∷ c ∷ d ∷ tests) ≡ then (judged (a ∷ b ∷ c ∷ d ∷ [])) (judged tests)
 unfolding judged
-both-judged false t u m o f tests e = refl
-both-judged true t u false o f tests e = cc
-both-judged true false u true o f tests e = refl
-both-judged true true false true o f tests e = refl
-both-judged true true true true true f tests e = refl
-both-judged true true true true false false tests e = refl
-both-judged true true true true false true tests e = refl
-
-short-judged : (s l m : Bool) (tests : List Test) → s && not m ≡ true
-    → judged ((not s ⇒ refusal.OutOfRange) ∷ (not (l && m) ⇒ refusal.WrongLength) ∷ tests) ≡ Refused refusal.WrongLength
-unfolding judged
-short-judged false l m tests e = cc
-short-judged true l true tests e = cc
-short-judged true true false tests e = refl
-short-judged true false false tests e = refl
+both-judged (true ⇒ x) b c d tests = refl
+both-judged (false ⇒ x) (true ⇒ y) c d tests = refl
+both-judged (false ⇒ x) (false ⇒ y) (true ⇒ z) d tests = refl
+both-judged (false ⇒ x) (false ⇒ y) (false ⇒ z) (true ⇒ w) tests = refl
+both-judged (false ⇒ x) (false ⇒ y) (false ⇒ z) (false ⇒ w) tests = refl
 
 module _ (q : Party) (totals sheets messages : List ℕ) where
   -- the tests that only hearing has
@@ -58,23 +44,15 @@ module _ (q : Party) (totals sheets messages : List ℕ) where
       ∷ (verdict-outside (heard (q .n) (q .round) messages) ⇒ refusal.VerdictNotBit)
       ∷ []
 
-  pub short-of-messages : sound q && not (long (q .n) messages) ≡ true → hear-judgement q totals sheets messages ≡ Refused refusal.WrongLength
-  unfolding hear-judgement
-  short-of-messages e = short-judged (sound q) (long (2 * q .k) totals && long (sheets-long (q .k)) sheets) (long (q .n) messages) _ e
+  as-turn : hear-judgement q totals sheets messages ≡ then (turn-judgement q totals sheets (long (q .n) messages)) (judged of-messages)
+  unfolding hear-judgement turn-judgement
+  as-turn = both-judged _ _ _ _ of-messages
 
-  as-saying : sound q && not (long (q .n) messages) ≡ false
-      → hear-judgement q totals sheets messages ≡ then (say-judgement q totals sheets) (judged of-messages)
-  unfolding hear-judgement say-judgement
-  as-saying e =
-      both-judged (sound q) (long (2 * q .k) totals) (long (sheets-long (q .k)) sheets) (long (q .n) messages) (over (bracket q))
-      (in-field q totals (current q sheets)) of-messages e
+  pub not-said : (why : Refusal) → turn-judgement q totals sheets (long (q .n) messages) ≡ Refused why → hear-judgement q totals sheets messages ≡ Refused why
+  not-said why e = as-turn ∙ ap (λ (j : Judgement). then j (judged of-messages)) e
 
-  module _ (enough : sound q && not (long (q .n) messages) ≡ false) where
-    pub not-said : (why : Refusal) → say-judgement q totals sheets ≡ Refused why → hear-judgement q totals sheets messages ≡ Refused why
-    not-said why e = as-saying enough ∙ ap (λ (j : Judgement). then j (judged of-messages)) e
-
-    pub by-messages : say-judgement q totals sheets ≡ Accepted → hear-judgement q totals sheets messages ≡ judged of-messages
-    by-messages e = as-saying enough ∙ ap (λ (j : Judgement). then j (judged of-messages)) e
+  pub by-messages : turn-judgement q totals sheets (long (q .n) messages) ≡ Accepted → hear-judgement q totals sheets messages ≡ judged of-messages
+  by-messages e = as-turn ∙ ap (λ (j : Judgement). then j (judged of-messages)) e
 
 -- ---- an accepted hearing, in facts
 
@@ -85,7 +63,7 @@ Admitted (Factors d e) = Unit {0}
 Admitted (Verdict v) = v ≤ 1
 Admitted Unopened = ⊥
 
-admitted : (h : Heard) → unopened h ≡ false → sum-outside h ≡ false → verdict-outside h ≡ false → Admitted h
+pub admitted : (h : Heard) → unopened h ≡ false → sum-outside h ≡ false → verdict-outside h ≡ false → Admitted h
 admitted (Sum v) c w s =
     let range = and-true (leb (2 ^ 58 + 2) v) _ (not-false _ w) in
     (leb-true _ v (range .0), leb-true v _ (range .1))
@@ -110,11 +88,6 @@ then-accepted : (j next : Judgement) → then j next ≡ Accepted → (j ≡ Acc
 then-accepted Accepted next e = (refl, e)
 then-accepted (Refused why) next e = (cc, cc)
 
--- of a sound record
-pub enough-messages : (s m : Bool) → s ≡ true → s && not m ≡ false → m ≡ true
-enough-messages true m s e = not-false m e
-enough-messages false m s e = cc
-
 module _ (q : Party) (totals sheets messages : List ℕ) where
   -- of the messages
   fitting : judged (of-messages q totals sheets messages) ≡ Accepted
@@ -127,27 +100,15 @@ module _ (q : Party) (totals sheets messages : List ℕ) where
       (eqb-true _ _ (not-false _ (same .0)), admitted (heard (q .n) (q .round) messages) (straight .0) (tame .0) (whole .0))
 
   pub hears : hear-judgement q totals sheets messages ≡ Accepted → Hears q totals sheets messages
-  hears e = split (sound q && not (long (q .n) messages)) refl
-    where
-      split : (short : Bool) → sound q && not (long (q .n) messages) ≡ short → Hears q totals sheets messages
-      split true f =
-          let no = short-of-messages q totals sheets messages f in
-          let z : _≡_ {A = ℕ} 0 1 = cc in
-          absurd (omega arith)
-      split false f =
-          let both = then-accepted (say-judgement q totals sheets) (judged (of-messages q totals sheets messages)) (sym (as-saying q totals sheets messages f) ∙ e) in
-          let facts = says q totals sheets (both .0) in
-          record {
-            says = facts;
-            many = eqb-true (length messages) (q .n) (enough-messages (sound q) (long (q .n) messages) (sound-of q (facts .sound)) f);
-            own = fitting (both .1) .0;
-            opening = fitting (both .1) .1;
-          }
+  hears e =
+      let both = then-accepted _ (judged (of-messages q totals sheets messages)) (sym (as-turn q totals sheets messages) ∙ e) in
+      let turn = turns q totals sheets _ (both .0) in
+      record { says = turn .0; many = eqb-true (length messages) (q .n) (turn .1); own = fitting (both .1) .0; opening = fitting (both .1) .1 }
 
   pub hear-accepted : Hears q totals sheets messages → hear-judgement q totals sheets messages ≡ Accepted
   hear-accepted h =
       let tests = admitted-tests (heard (q .n) (q .round) messages) (h .opening) in
-      by-messages q totals sheets messages (rw (sound-of q (h .says .sound), eq-eqb (length messages) (q .n) (h .many))) (say-accepted q totals sheets (h .says))
+      by-messages q totals sheets messages (turn-accepted q totals sheets _ (h .says) (eq-eqb (length messages) (q .n) (h .many)))
       ∙ passes _ _ _ (rw (eq-eqb _ _ (h .own))) ∙ passes _ _ _ (tests .0) ∙ passes _ _ _ (tests .1) ∙ passes _ _ _ (tests .2) ∙ all-passed
 
   -- and the record is the one after the round

@@ -16,17 +16,17 @@ use Rattle.comparison.specs.Rounds.{differing, first-carry, next-carry}
 use Rattle.search.specs.declared.Bracket.{Bracket}
 use Rattle.search.specs.Bracket.{over, middle, raise, lower, step}
 use Rattle.search.proofs.Narrowing.{over-false, middle-above, middle-below}
-use Rattle.session.specs.declared.record.Party.{Party}
+use Rattle.record.specs.declared.Party.{Party}
 use Rattle.round.specs.declared.Heard.{Heard}
 use Rattle.round.specs.declared.Heard.the-variants.{Sum, Factors, Verdict, Unopened}
-use Rattle.session.specs.Record.{bracket}
+use Rattle.record.specs.Record.{bracket}
 use Rattle.saying.specs.Say.{current, bit-share, triple-share}
 use Rattle.round.specs.Round.{heard, Possible}
 use Rattle.hearing.specs.Hear.{after}
-use Rattle.session.specs.Updates.{in-round, decided}
-use Rattle.session.proofs.Soundness.{Sound, probing}
-use Rattle.session.proofs.Updates.{Same, in-round-same, in-round-probes, in-round-sound, decided-same, decided-probes, decided-sound, Narrow, narrow-in-round, narrow-decided}
-use Rattle.session.proofs.Words.{all-below-of}
+use Rattle.record.specs.Updates.{in-round, decided}
+use Rattle.record.proofs.Soundness.{Sound, probing}
+use Rattle.record.proofs.Updates.{Same, in-round-same, in-round-probes, in-round-sound, decided-same, decided-probes, decided-sound, Narrow, narrow-in-round, narrow-decided}
+use Rattle.ranges.proofs.Ranges.{is-below}
 use Rattle.saying.proofs.Sheets.{byte-at, current-long}
 use Rattle.round.proofs.Opened.{heard-possible}
 use Rattle.hearing.proofs.Hears.{Admitted, Hears}
@@ -158,7 +158,7 @@ hears-sound q totals sheets messages h n =
     let opening = heard (q .n) (q .round) messages in
     let long : length sheet ≡ 127 = current-long q sheets (probing q (f .sound) (f .going)) (f .sheets-long) in
     let next = narrow-after q sheet (f .sound) (f .going) opening n in (
-      sound-after q sheet (f .sound) (f .going) (λ i l m. byte-at sheet i (all-below-of 256 _ (f .in-field .bytes)) l (omega arith)) opening
+      sound-after q sheet (f .sound) (f .going) (λ i l m. byte-at sheet i (is-below 256 _ (f .in-field .bytes)) l (omega arith)) opening
           (heard-possible (q .n) (q .round) messages (f .sound .round-least)) (h .opening) next,
       next,
     )

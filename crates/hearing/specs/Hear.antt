@@ -12,13 +12,13 @@ use Rattle.ranges.specs.Sizes.{long}
 use Rattle.comparison.specs.Local.{on-shares}
 use Rattle.comparison.specs.Rounds.{first-carry, next-carry}
 use Rattle.search.specs.Bracket.{over, step}
-use Rattle.session.specs.declared.record.Party.{Party}
-use Rattle.session.specs.declared.record.Reply.{Reply}
+use Rattle.record.specs.declared.Party.{Party}
+use Rattle.record.specs.declared.Reply.{Reply}
 use Rattle.round.specs.declared.Heard.{Heard}
 use Rattle.round.specs.declared.Heard.the-variants.{Sum, Factors, Verdict, Unopened}
 use Rattle.round.specs.Round.{heard, unopened, sum-outside, verdict-outside}
-use Rattle.session.specs.Record.{bracket, sound, replied}
-use Rattle.session.specs.Updates.{in-round, decided}
+use Rattle.record.specs.Record.{bracket, sound, replied}
+use Rattle.record.specs.Updates.{in-round, decided}
 use Rattle.saying.specs.Say.{sheets-long, current, in-field, message, bit-share, triple-share}
 
 unfoldable pub hear-judgement : (q : Party) (totals sheets messages : List ℕ) → Judgement

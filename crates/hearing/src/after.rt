@@ -5,20 +5,20 @@ ghost use Prim.Native.Nat.{_+_, _^_, _<_};
 ghost use lib.Dec.{ltb};
 ghost use lib.ListN.{length, drop};
 ghost use Rattle.ranges.specs.Lists.{every};
-ghost use Rattle.session.specs.Record.{sound};
-ghost use Rattle.session.specs.Updates.{in-round, decided};
+ghost use Rattle.record.specs.Record.{sound};
+ghost use Rattle.record.specs.Updates.{in-round, decided};
 ghost use Rattle.round.specs.Round.{Possible};
 ghost use Rattle.hearing.specs.Hear.{after};
 use comparison::first_carry;
 use comparison::next_carry;
 use fields::BitShare;
+use record::Party;
+use record::bracket;
 use round::Heard;
 use saying::byte_share;
 use saying::triple_share;
 use search::Bracket;
 use search::step;
-use session::Party;
-use session::bracket;
 
 // Round 1 gives the first carry, rounds 2 to 32 the next one, round 33 the verdict.
 pub(crate) fn after(q: Party, sheet: &[u64], heard: Heard) -> Party

@@ -2,8 +2,8 @@
 ghost use mathlib.Core.Path.{_≡_};
 ghost use Rattle.hearing.specs.Hear.{hear-reply};
 use crate::hear;
+use record::Party;
 use refusal::Judgement;
-use session::Party;
 
 // All the work is done by value: the record is copied out, and stored once, as `hear` leaves it.
 pub fn step(q: &mut Party, totals: &[u64], sheets: &[u64], messages: &[u64]) -> Judgement

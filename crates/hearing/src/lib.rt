@@ -7,6 +7,10 @@ mod board;
 
 use after::after;
 pub use board::step;
+use record::Party;
+use record::Reply;
+use record::accepted;
+use record::refused;
 use refusal::Refusal;
 use round::open_round;
 use round::sum_outside;
@@ -14,22 +18,14 @@ use round::unopened;
 use round::verdict_outside;
 use saying::Said;
 use saying::current;
-use saying::say;
-use session::Party;
-use session::Reply;
-use session::accepted;
-use session::refused;
-use session::sound;
+use saying::turn;
 
 // What `say` refuses is refused here too, for the same reason: the party compares its own message with
-// what it says. A wrong number of messages is found first, and only an unsound record before that.
+// what it says.
 pub fn hear(q: Party, totals: &[u64], sheets: &[u64], messages: &[u64]) -> Reply
     ensures { λ r. ⌜ r ≡ hear-reply q (now (totals .entry)) (now (sheets .entry)) (now (messages .entry)) ⌝ }
 {
-    if sound(q) & (messages.len() as u64 != q.n) {
-        return refused(Refusal::WrongLength, q);
-    }
-    let said = match say(q, totals, sheets) {
+    let said = match turn(q, totals, sheets, messages.len() as u64 == q.n) {
         Said::Message(word) => word,
         Said::Refused(why) => return refused(why, q),
     };

@@ -9,10 +9,10 @@ use native.Mathlib.Omega.{arith}
 use lib.Dec.{eqb, eqb·suc-suc, eqb·zero-suc}
 use lib.ListN.{length, take, drop, set, getD}
 use lib.Seq.{drop-drop, take-suc-set}
-use Rattle.lines.specs.Lines.{first-line, line-length, rest, value, shaped, numbers, bytes-of, formed, after}
+use Rattle.lines.specs.Lines.{first-line, line-length, rest, line-value, shaped, numbers, bytes-of, formed, past}
 
 -- lines after lines
-pub bytes-add : (a b : ℕ) (bytes : List ℕ) → bytes-of (a + b) bytes ≡ bytes-of a bytes + bytes-of b (after a bytes)
+pub bytes-add : (a b : ℕ) (bytes : List ℕ) → bytes-of (a + b) bytes ≡ bytes-of a bytes + bytes-of b (past a bytes)
 unfolding bytes-of
 bytes-add zero b bytes = rw (zero-add b) (sym (zero-add _))
 bytes-add (suc a) b bytes =
@@ -21,12 +21,12 @@ bytes-add (suc a) b bytes =
     ∙ ap (λ (l : List ℕ). line-length bytes + (bytes-of a (rest bytes) + bytes-of b l)) (drop-drop (bytes-of a (rest bytes)) (line-length bytes) bytes)
     ∙ omega arith
 
-pub after-add : (a b : ℕ) (bytes : List ℕ) → after b (after a bytes) ≡ after (a + b) bytes
+pub after-add : (a b : ℕ) (bytes : List ℕ) → past b (past a bytes) ≡ past (a + b) bytes
 after-add a b bytes =
-    drop-drop (bytes-of b (after a bytes)) (bytes-of a bytes) bytes ∙ ap (λ (m : ℕ). drop m bytes) (sym (bytes-add a b bytes))
+    drop-drop (bytes-of b (past a bytes)) (bytes-of a bytes) bytes ∙ ap (λ (m : ℕ). drop m bytes) (sym (bytes-add a b bytes))
 
 -- the lines after the first
-pub after-rest : (m : ℕ) (bytes : List ℕ) → after m (rest bytes) ≡ after (suc m) bytes
+pub after-rest : (m : ℕ) (bytes : List ℕ) → past m (rest bytes) ≡ past (suc m) bytes
 unfolding bytes-of
 after-rest m bytes = drop-drop (bytes-of m (rest bytes)) (line-length bytes) bytes
 
@@ -39,28 +39,28 @@ unfolding bytes-of
 bytes-first m bytes = sym (ap (λ (j : ℕ). bytes-of j bytes) (add-one m))
 
 -- one line more
-pub bytes-more : (i : ℕ) (bytes : List ℕ) → bytes-of (i + 1) bytes ≡ bytes-of i bytes + line-length (after i bytes)
-bytes-more i bytes = bytes-add i 1 bytes ∙ ap (λ (m : ℕ). bytes-of i bytes + m) (bytes-one (after i bytes))
+pub bytes-more : (i : ℕ) (bytes : List ℕ) → bytes-of (i + 1) bytes ≡ bytes-of i bytes + line-length (past i bytes)
+bytes-more i bytes = bytes-add i 1 bytes ∙ ap (λ (m : ℕ). bytes-of i bytes + m) (bytes-one (past i bytes))
 
 pub line-more : (bytes : List ℕ) (at m : ℕ) → at ≡ bytes-of m bytes → at + line-length (drop at bytes) ≡ bytes-of (m + 1) bytes
 line-more bytes at m e = ap (λ (j : ℕ). j + line-length (drop j bytes)) e ∙ sym (bytes-more m bytes)
 
-pub numbers-more : (i : ℕ) (bytes : List ℕ) → numbers (suc i) bytes ≡ numbers i bytes ++ (value (first-line (after i bytes)) ∷ [])
+pub numbers-more : (i : ℕ) (bytes : List ℕ) → numbers (suc i) bytes ≡ numbers i bytes ++ (line-value (first-line (past i bytes)) ∷ [])
 unfolding numbers bytes-of
 numbers-more zero bytes = refl
 numbers-more (suc i) bytes =
-    ap (λ (l : List ℕ). value (first-line bytes) ∷ l)
-    (numbers-more i (rest bytes) ∙ ap (λ (l : List ℕ). numbers i (rest bytes) ++ (value (first-line l) ∷ [])) (after-rest i bytes))
+    ap (λ (l : List ℕ). line-value (first-line bytes) ∷ l)
+    (numbers-more i (rest bytes) ∙ ap (λ (l : List ℕ). numbers i (rest bytes) ++ (line-value (first-line l) ∷ [])) (after-rest i bytes))
 
 pub formed-more : (i : ℕ) (bytes : List ℕ)
-    → formed (suc i) bytes ≡ cond (eqb (formed i bytes) i && shaped (first-line (after i bytes))) (suc i) (formed i bytes)
+    → formed (suc i) bytes ≡ cond (eqb (formed i bytes) i && shaped (first-line (past i bytes))) (suc i) (formed i bytes)
 unfolding formed bytes-of
 formed-more zero bytes = refl
 formed-more (suc i) bytes =
     ap (λ (s : ℕ). cond (shaped (first-line bytes)) (suc s) 0)
     (formed-more i (rest bytes)
     ∙ ap (λ (l : List ℕ). cond (eqb (formed i (rest bytes)) i && shaped (first-line l)) (suc i) (formed i (rest bytes))) (after-rest i bytes))
-    ∙ cases (shaped (first-line bytes)) (shaped (first-line (after (suc i) bytes))) (formed i (rest bytes))
+    ∙ cases (shaped (first-line bytes)) (shaped (first-line (past (suc i) bytes))) (formed i (rest bytes))
   where
     cases : (a b : Bool) (s : ℕ)
         → cond a (suc (cond (eqb s i && b) (suc i) s)) 0 ≡ cond (eqb (cond a (suc s) 0) (suc i) && b) (suc (suc i)) (cond a (suc s) 0)
@@ -86,27 +86,27 @@ length-numbers zero bytes = refl
 length-numbers (suc m) bytes = ap suc (length-numbers m (rest bytes))
 
 -- the number of a line, out of those of several
-pub number-at : (m i : ℕ) (bytes : List ℕ) → i < m → getD (numbers m bytes) i 0 ≡ value (first-line (after i bytes))
+pub number-at : (m i : ℕ) (bytes : List ℕ) → i < m → getD (numbers m bytes) i 0 ≡ line-value (first-line (past i bytes))
 unfolding numbers bytes-of
 number-at zero i bytes h = absurd (omega arith)
 number-at (suc m) zero bytes h = refl
-number-at (suc m) (suc i) bytes h = number-at m i (rest bytes) (omega arith) ∙ ap (λ (l : List ℕ). value (first-line l)) (after-rest i bytes)
+number-at (suc m) (suc i) bytes h = number-at m i (rest bytes) (omega arith) ∙ ap (λ (l : List ℕ). line-value (first-line l)) (after-rest i bytes)
 
 -- a place of the input that lines have led to
 module _ (input : List ℕ) (at i next : ℕ) (led : next ≡ at + bytes-of i (drop at input)) where
-  pub here : drop next input ≡ after i (drop at input)
+  pub here : drop next input ≡ past i (drop at input)
   here = ap (λ (m : ℕ). drop m input) led ∙ sym (drop-drop (bytes-of i (drop at input)) at input)
 
   pub led-more : (r : ℕ) → r ≡ next + line-length (drop next input) → r ≡ at + bytes-of (i + 1) (drop at input)
   led-more r e =
-      let l : line-length (drop next input) ≡ line-length (after i (drop at input)) = ap line-length here in
+      let l : line-length (drop next input) ≡ line-length (past i (drop at input)) = ap line-length here in
       omega (arith, bytes-more i (drop at input))
 
-  pub first-here : first-line (drop next input) ≡ first-line (after i (drop at input))
+  pub first-here : first-line (drop next input) ≡ first-line (past i (drop at input))
   first-here = ap first-line here
 
 -- one line more of a slice that is to be filled
-pub fill-more : (into bytes : List ℕ) (i v : ℕ) → i < length into → take i into ≡ numbers i bytes → v ≡ value (first-line (after i bytes))
+pub fill-more : (into bytes : List ℕ) (i v : ℕ) → i < length into → take i into ≡ numbers i bytes → v ≡ line-value (first-line (past i bytes))
     → take (i + 1) (set into i v) ≡ numbers (i + 1) bytes
 fill-more into bytes i v h e f =
     ap (λ (k : ℕ). take k (set into i v)) (add-one i)
@@ -115,7 +115,7 @@ fill-more into bytes i v h e f =
     ∙ sym (numbers-more i bytes)
     ∙ ap (λ (k : ℕ). numbers k bytes) (sym (add-one i))
 
-module _ (bytes : List ℕ) (i s : ℕ) (shape : Bool) (so-far : s ≡ formed i bytes) (same : shape ≡ shaped (first-line (after i bytes))) where
+module _ (bytes : List ℕ) (i s : ℕ) (shape : Bool) (so-far : s ≡ formed i bytes) (same : shape ≡ shaped (first-line (past i bytes))) where
   now : formed (i + 1) bytes ≡ cond (eqb s i && shape) (i + 1) s
   now = rw (add-one i, formed-more i bytes, so-far, same)
 

@@ -60,9 +60,9 @@ abbrev pub rest : List ℕ → List ℕ
 rest bytes = drop (line-length bytes) bytes
 
 -- the number of a line, 0 for a misshapen one, and whether it has one
-abbrev pub value : Line → ℕ
-value (Number v) = v
-value Misshapen = 0
+abbrev pub line-value : Line → ℕ
+line-value (Number v) = v
+line-value Misshapen = 0
 
 abbrev pub shaped : Line → Bool
 shaped (Number v) = true
@@ -71,7 +71,7 @@ shaped Misshapen = false
 -- the numbers of the first m lines, how many bytes these take, and how many of them are numbers before the first that is not
 unfoldable pub numbers : ℕ → List ℕ → List ℕ
 numbers zero bytes = []
-numbers (suc m) bytes = value (first-line bytes) ∷ numbers m (rest bytes)
+numbers (suc m) bytes = line-value (first-line bytes) ∷ numbers m (rest bytes)
 
 unfoldable pub bytes-of : ℕ → List ℕ → ℕ
 bytes-of zero bytes = 0
@@ -82,9 +82,9 @@ formed zero bytes = 0
 formed (suc m) bytes = cond (shaped (first-line bytes)) (suc (formed m (rest bytes))) 0
 
 -- what follows the first m lines
-abbrev pub after : ℕ → List ℕ → List ℕ
-after m bytes = drop (bytes-of m bytes) bytes
+abbrev pub past : ℕ → List ℕ → List ℕ
+past m bytes = drop (bytes-of m bytes) bytes
 
 -- the price of an index, counted from 1, in the bytes where the prices begin
 abbrev pub price-of : (index : ℕ) → List ℕ → ℕ
-price-of index bytes = value (first-line (after (index - 1) bytes))
+price-of index bytes = line-value (first-line (past (index - 1) bytes))

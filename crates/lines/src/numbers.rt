@@ -2,7 +2,7 @@
 ghost use mathlib.Core.Path.{_≡_};
 ghost use Prim.Native.Nat.{_+_};
 ghost use lib.ListN.{length, drop};
-ghost use Rattle.lines.specs.Lines.{value, shaped, after, first-line, numbers, bytes-of, formed};
+ghost use Rattle.lines.specs.Lines.{line-value, shaped, past, first-line, numbers, bytes-of, formed};
 use crate::line::Line;
 use crate::line::read_line;
 
@@ -24,7 +24,7 @@ pub fn read_numbers(input: &[u8], at: usize, into: &mut [u64]) -> Numbers
     while i < into.len() {
         let read = read_line(input, next);
         let line = read.line;
-        into[i] = value(line);
+        into[i] = line_value(line);
         if (formed == i) & shaped(line) {
             formed = i + 1;
         }
@@ -45,7 +45,7 @@ pub fn read_table(input: &[u8], at: usize, table: &mut [u64]) -> usize
 
 // The number on the line that stands i lines after the one at `at`.
 pub fn price_at(input: &[u8], at: usize, i: u64) -> u64
-    ensures { λ r. ⌜ r ≡ value (first-line (after i (drop at (now (input .entry))))) ⌝ }
+    ensures { λ r. ⌜ r ≡ line-value (first-line (past i (drop at (now (input .entry))))) ⌝ }
 {
     let mut next = at;
     let mut passed = 0;
@@ -56,11 +56,11 @@ pub fn price_at(input: &[u8], at: usize, i: u64) -> u64
     }
     let last = read_line(input, next);
     let line = last.line;
-    value(line)
+    line_value(line)
 }
 
-fn value(line: Line) -> u64
-    ensures { λ r. ⌜ r ≡ value line ⌝ }
+fn line_value(line: Line) -> u64
+    ensures { λ r. ⌜ r ≡ line-value line ⌝ }
 {
     match line {
         Line::Number(v) => v,

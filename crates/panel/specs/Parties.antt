@@ -4,8 +4,8 @@ use Prim.Native.Nat.{ℕ, _+_, _*_, _<_}
 use lib.ListN.{take, drop, getD, replicate}
 use Rattle.bid.specs.Split.{split-left}
 use Rattle.dealer.specs.Deal.{deal-left}
-use Rattle.session.specs.declared.record.Party.{Party}
-use Rattle.session.specs.Open.{blank}
+use Rattle.record.specs.declared.Party.{Party}
+use Rattle.record.specs.Record.{blank}
 use Rattle.session.specs.Add.{add-reply, add-left}
 
 -- of the first n

@@ -3,11 +3,11 @@ ghost use mathlib.Core.Path.{_≡_};
 ghost use Prim.Native.Nat.{_*_, _≤_};
 ghost use lib.ListN.{length, getD, replicate};
 ghost use Rattle.session.specs.Add.{add-reply, add-left};
-ghost use Rattle.session.specs.Open.{blank};
+ghost use Rattle.record.specs.Record.{blank};
 ghost use Rattle.panel.specs.Parties.{All, part, shares-of, party-added, totals-added};
 use crate::parties::returned;
 use bid::split;
-use session::Party;
+use record::Party;
 use session::add;
 
 // Room for a party's shares.

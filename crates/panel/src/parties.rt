@@ -3,11 +3,12 @@
 ghost use mathlib.Core.Path.{_≡_};
 ghost use Prim.Native.Nat.{_+_, _*_, _≤_};
 ghost use lib.ListN.{length, getD};
-ghost use Rattle.session.specs.Open.{blank, open-reply, open-left};
+ghost use Rattle.record.specs.Record.{blank};
+ghost use Rattle.session.specs.Open.{open-reply, open-left};
 ghost use Rattle.panel.specs.Parties.{All, part};
-use session::Party;
-use session::Reply;
-use session::blank;
+use record::Party;
+use record::Reply;
+use record::blank;
 use session::open;
 
 // The record that a call gives back.

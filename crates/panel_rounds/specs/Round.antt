@@ -4,11 +4,11 @@ use Prim.Native.Nat.{ℕ, _*_}
 use lib.ListN.{getD}
 use Rattle.ranges.specs.Lists.{from}
 use Rattle.search.specs.Limit.{limit}
-use Rattle.session.specs.declared.record.Party.{Party}
+use Rattle.record.specs.declared.Party.{Party}
 use Rattle.saying.specs.Say.{say-reply}
 use Rattle.hearing.specs.Hear.{hear-reply}
 use Rattle.auction.specs.Canonical.{word}
-use Rattle.session.specs.Open.{blank}
+use Rattle.record.specs.Record.{blank}
 use Rattle.panel.specs.Parties.{part}
 
 -- what the party after i others says

@@ -3,12 +3,12 @@ ghost use mathlib.Core.Path.{_≡_};
 ghost use Prim.Native.Nat.{_*_, _≤_};
 ghost use lib.ListN.{length, getD};
 ghost use Rattle.search.specs.Limit.{limit};
-ghost use Rattle.session.specs.Open.{blank};
+ghost use Rattle.record.specs.Record.{blank};
 ghost use Rattle.panel.specs.Parties.{All};
 ghost use Rattle.panel_rounds.specs.Round.{all-said, heard-by};
 use crate::turns::hear_one;
 use crate::turns::say_one;
-use session::Party;
+use record::Party;
 
 pub fn say_all(
     n: u64,

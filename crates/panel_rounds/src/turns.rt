@@ -9,10 +9,10 @@ ghost use Rattle.auction.specs.Canonical.{word};
 ghost use Rattle.panel.specs.Parties.{part};
 use hearing::hear;
 use panel::returned;
+use record::Party;
 use saying::Said;
 use saying::say;
 use search::limit;
-use session::Party;
 
 // A refused party would say 0. None is.
 pub(crate) fn word(said: Said) -> u64

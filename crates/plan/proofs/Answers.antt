@@ -10,7 +10,7 @@ use Rattle.lines.specs.declared.line.Line.{Line}
 use Rattle.lines.specs.declared.line.Line.the-variants.{Number, Misshapen}
 use Rattle.sections.specs.declared.table.Fault.{Fault}
 use Rattle.sections.specs.declared.table.Fault.the-variants.{None, At}
-use Rattle.lines.specs.Lines.{lines, first-line, rest, numbers, formed, after}
+use Rattle.lines.specs.Lines.{lines, first-line, rest, numbers, formed, past}
 use Rattle.plan.specs.Plan.{Reading, faulty, accepted, check, many, prices, bids, or-fault, ending, read, read-prices, read-bids}
 use Rattle.sections.specs.Sections.{tables, good-prices, bids-fault}
 use Rattle.lines.proofs.Again.{bytes-one, after-add}
@@ -25,8 +25,8 @@ fails t number line go e = ap (λ (s : Bool). check s number line go) e
 
 -- ---- where the next line begins
 
-pub rest-after : (m : ℕ) (bytes : List ℕ) → rest (after m bytes) ≡ after (m + 1) bytes
-rest-after m bytes = ap (λ (j : ℕ). drop j (after m bytes)) (sym (bytes-one (after m bytes))) ∙ after-add m 1 bytes
+pub rest-after : (m : ℕ) (bytes : List ℕ) → rest (past m bytes) ≡ past (m + 1) bytes
+rest-after m bytes = ap (λ (j : ℕ). drop j (past m bytes)) (sym (bytes-one (past m bytes))) ∙ after-add m 1 bytes
 
 -- ---- n and the seeds
 
@@ -48,7 +48,7 @@ module _ (bytes : List ℕ) where
       seeds-torn h = n-number ∙ passes (leb 3 n && leb n 9) 1 1 _ t ∙ many-torn n 2 (rest bytes) (λ seeds ls. read-prices n seeds ls) h
 
       pub seeds-all : formed n (rest bytes) ≡ n
-          → read (lines bytes) ≡ read-prices n (numbers n (rest bytes)) (lines (after n (rest bytes)))
+          → read (lines bytes) ≡ read-prices n (numbers n (rest bytes)) (lines (past n (rest bytes)))
       seeds-all h = n-number ∙ passes (leb 3 n && leb n 9) 1 1 _ t ∙ many-all n 2 (rest bytes) (λ seeds ls. read-prices n seeds ls) h
 
 -- ---- k and the prices
@@ -74,7 +74,7 @@ module _ (n : ℕ) (seeds bytes : List ℕ) where
       price-bad h = k-number ∙ passes (leb 1 k && leb k 256) 1 (n + 2) _ t ∙ prices-bad k 0 (n + 3) (rest bytes) (λ ps ls. read-bids n seeds k ps ls) h
 
       pub prices-good : good-prices k 0 (rest bytes) ≡ k
-          → read-prices n seeds (lines bytes) ≡ read-bids n seeds k (numbers k (rest bytes)) (lines (after k (rest bytes)))
+          → read-prices n seeds (lines bytes) ≡ read-bids n seeds k (numbers k (rest bytes)) (lines (past k (rest bytes)))
       prices-good h = k-number ∙ passes (leb 1 k && leb k 256) 1 (n + 2) _ t ∙ prices-all k 0 (n + 3) (rest bytes) (λ ps ls. read-bids n seeds k ps ls) h
 
 -- ---- the bids and the end
@@ -100,26 +100,26 @@ module _ (n : ℕ) (seeds : List ℕ) (k : ℕ) (listed bytes : List ℕ) where
 
     module _ (few : m ≤ 1000) where
       m-go : read-bids n seeds k listed (lines bytes)
-          ≡ or-fault (bids-fault k m (n + k + 4) (rest bytes)) (End m (tables k m (rest bytes)) (lines (after (m * (2 * k)) (rest bytes))))
+          ≡ or-fault (bids-fault k m (n + k + 4) (rest bytes)) (End m (tables k m (rest bytes)) (lines (past (m * (2 * k)) (rest bytes))))
       m-go = m-number ∙ passes (leb m 1000) 4 (n + k + 3) _ (le-leb m 1000 few) ∙ all-bids k m (n + k + 4) (rest bytes) (λ ts ls. End m ts ls)
 
       pub bids-bad : (number line : ℕ) → bids-fault k m (n + k + 4) (rest bytes) ≡ At number line
           → read-bids n seeds k listed (lines bytes) ≡ faulty number line
       unfolding or-fault
-      bids-bad number line f = m-go ∙ ap (λ (g : Fault). or-fault g (End m (tables k m (rest bytes)) (lines (after (m * (2 * k)) (rest bytes))))) f
+      bids-bad number line f = m-go ∙ ap (λ (g : Fault). or-fault g (End m (tables k m (rest bytes)) (lines (past (m * (2 * k)) (rest bytes))))) f
 
       module _ (f : bids-fault k m (n + k + 4) (rest bytes) ≡ None) where
-        m-end : read-bids n seeds k listed (lines bytes) ≡ End m (tables k m (rest bytes)) (lines (after (m * (2 * k)) (rest bytes)))
+        m-end : read-bids n seeds k listed (lines bytes) ≡ End m (tables k m (rest bytes)) (lines (past (m * (2 * k)) (rest bytes)))
         unfolding or-fault
-        m-end = m-go ∙ ap (λ (g : Fault). or-fault g (End m (tables k m (rest bytes)) (lines (after (m * (2 * k)) (rest bytes))))) f
+        m-end = m-go ∙ ap (λ (g : Fault). or-fault g (End m (tables k m (rest bytes)) (lines (past (m * (2 * k)) (rest bytes))))) f
 
-        pub one-too-many : 0 < length (after (m * (2 * k)) (rest bytes))
+        pub one-too-many : 0 < length (past (m * (2 * k)) (rest bytes))
             → read-bids n seeds k listed (lines bytes) ≡ faulty 13 (n + k + 4 + m * (2 * k))
         unfolding End
-        one-too-many h = m-end ∙ ending-extra (n + k + 4 + m * (2 * k)) _ (after (m * (2 * k)) (rest bytes)) h
+        one-too-many h = m-end ∙ ending-extra (n + k + 4 + m * (2 * k)) _ (past (m * (2 * k)) (rest bytes)) h
 
-        pub all-read : length (after (m * (2 * k)) (rest bytes)) ≡ 0
+        pub all-read : length (past (m * (2 * k)) (rest bytes)) ≡ 0
             → read-bids n seeds k listed (lines bytes)
             ≡ accepted (record { n = n; seeds = seeds; k = k; prices = listed; bids = tables k m (rest bytes) })
         unfolding End
-        all-read h = m-end ∙ ending-none (n + k + 4 + m * (2 * k)) _ (after (m * (2 * k)) (rest bytes)) h
+        all-read h = m-end ∙ ending-none (n + k + 4 + m * (2 * k)) _ (past (m * (2 * k)) (rest bytes)) h

@@ -11,7 +11,7 @@ use Rattle.lines.specs.declared.line.Line.{Line}
 use Rattle.lines.specs.declared.line.Line.the-variants.{Number, Misshapen}
 use Rattle.lines.specs.declared.line.Part.{Part}
 use Rattle.lines.specs.declared.line.Part.the-variants.{Empty, Digits, Bad}
-use Rattle.lines.specs.Lines.{digit, with-digit, grown, ended, lines-after, lines, line-after, first-line, line-length, rest, value, shaped, numbers, bytes-of, formed, after}
+use Rattle.lines.specs.Lines.{digit, with-digit, grown, ended, lines-after, lines, line-after, first-line, line-length, rest, line-value, shaped, numbers, bytes-of, formed, past}
 use Rattle.sections.specs.Sections.{next-price, rising, good-prices}
 use Rattle.plan.specs.Plan.{Reading, faulty, needed, many, prices, ending}
 use Rattle.lines.proofs.Again.{after-rest}
@@ -100,10 +100,10 @@ module _ (m : ℕ) (bytes : List ℕ) where
 
   numbers-number : (v : ℕ) → first-line bytes ≡ Number v → numbers (suc m) bytes ≡ v ∷ numbers m (rest bytes)
   unfolding numbers
-  numbers-number v e = ap (λ (l : Line). value l ∷ numbers m (rest bytes)) e
+  numbers-number v e = ap (λ (l : Line). line-value l ∷ numbers m (rest bytes)) e
 
 pub many-all : (m at : ℕ) (bytes : List ℕ) (go : List ℕ → List Line → Reading) → formed m bytes ≡ m
-    → many m at (lines bytes) go ≡ go (numbers m bytes) (lines (after m bytes))
+    → many m at (lines bytes) go ≡ go (numbers m bytes) (lines (past m bytes))
 unfolding many numbers bytes-of
 many-all zero at bytes go h = refl
 many-all (suc m) at bytes go h =
@@ -140,7 +140,7 @@ module _ (k last : ℕ) (bytes : List ℕ) where
   good-misshapen e = ap (λ (s : ℕ). rising last (take s (numbers (suc k) bytes))) (formed-misshapen k bytes e)
 
 pub prices-all : (k last at : ℕ) (bytes : List ℕ) (go : List ℕ → List Line → Reading) → good-prices k last bytes ≡ k
-    → prices k last at (lines bytes) go ≡ go (numbers k bytes) (lines (after k bytes))
+    → prices k last at (lines bytes) go ≡ go (numbers k bytes) (lines (past k bytes))
 unfolding prices numbers bytes-of
 prices-all zero last at bytes go h = refl
 prices-all (suc k) last at bytes go h =

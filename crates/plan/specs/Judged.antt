@@ -5,7 +5,7 @@ use lib.ListN.{length}
 use Rattle.plan.specs.declared.judging.Shape.{Shape}
 use Rattle.plan.specs.declared.judging.Judged.{Judged}
 use Rattle.plan.specs.declared.judging.Judged.the-variants.{Faulty, Good}
-use Rattle.lines.specs.Lines.{lines, numbers, bytes-of, after}
+use Rattle.lines.specs.Lines.{lines, numbers, bytes-of, past}
 use Rattle.sections.specs.Sections.{xor-of}
 use Rattle.plan.specs.Plan.{Plan, Reading, faulty, accepted, read}
 
@@ -30,7 +30,7 @@ judged-as bytes = as-judged bytes (read (lines bytes))
 -- ---- the sections of an input, read again
 
 abbrev pub seeds-of : ℕ → List ℕ → List ℕ
-seeds-of n bytes = numbers n (after 1 bytes)
+seeds-of n bytes = numbers n (past 1 bytes)
 
 abbrev pub prices-of : (n k : ℕ) → List ℕ → List ℕ
-prices-of n k bytes = numbers k (after (n + 2) bytes)
+prices-of n k bytes = numbers k (past (n + 2) bytes)

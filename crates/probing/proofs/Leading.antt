@@ -20,9 +20,9 @@ use Rattle.search.specs.Search.{promise, trail}
 use Rattle.search.proofs.Narrowing.{Encloses, encloses-start, encloses-step, enough, over-true, over-false, middle-above}
 use Rattle.search.proofs.Price.{promised, enclosed}
 use Rattle.search.proofs.Trails.{trail-over, trail-going}
-use Rattle.comparison.specs.Probe as probe
-use Rattle.session.specs.declared.record.Party.{Party}
-use Rattle.session.specs.Record.{bracket}
+use Rattle.comparison.specs.Probe.{SheetCoins}
+use Rattle.record.specs.declared.Party.{Party}
+use Rattle.record.specs.Record.{bracket, blank}
 use Rattle.session.specs.Answer.{answer-judgement, answered, answer-reply}
 use Rattle.refusal.specs.Judging.{judged}
 use Rattle.refusal.specs.declared.Judgement.{Judgement}
@@ -36,10 +36,8 @@ use Rattle.auction.proofs.Step.{Sane, fresh-sane, sound-at}
 use Rattle.auction.proofs.Round.{Ready, verdict-is}
 use Rattle.listing.specs.declared.course.Course.{Course}
 use Rattle.listing.specs.Lines.{course-trail}
-use Rattle.probing.specs.Follows.{priced, Follows}
+use Rattle.probing.specs.Follows.{priced, Follows, mark}
 use Rattle.panel.proofs.Parts.{limit-nine}
-use Rattle.session.specs.Open.{blank}
-use Rattle.probing.specs.Follows.{mark}
 use Rattle.standing.proofs.Standing.{Stands, verdict-at, Probes}
 
 -- a later note leaves the earlier ones
@@ -68,7 +66,7 @@ mark-of b d s h = split (leb s d)
     split true = rw (eq-eqb (middle b) (middle b) refl)
     split false = rw (ne-eqb (b .lo) (middle b) (λ e. omega arith))
 
-no-coins : probe.Coins
+no-coins : SheetCoins
 no-coins = record { mask = 0; of-mask = []; of-bits = []; triples = [] }
 
 -- where the search stands after some probes, and what is noted of them
@@ -106,7 +104,7 @@ module _ (n k : ℕ) (bids : List (List ℕ)) (c : Coins) where
       few =
           ⊎-elim (λ e. absurd (true≢false (sym (enough (covered (demand a) (supply a)) k (L .encloses) e) ∙ open-here))) (λ l. l) (eq-or-lt-of-le (L .encloses .few))
 
-      abbrev s : probe.Coins
+      abbrev s : SheetCoins
       s = getD (c .sheets) done no-coins
 
       ready : Ready a c b done s (drop (suc done) (c .sheets))

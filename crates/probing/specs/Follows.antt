@@ -6,8 +6,8 @@ use lib.Dec.{eqb}
 use Rattle.search.specs.Bracket.{start}
 use Rattle.search.specs.Limit.{limit}
 use Rattle.search.specs.Search.{promise, trail}
-use Rattle.session.specs.declared.record.Answer.{Answer}
-use Rattle.session.specs.declared.record.Answer.the-variants.{Cleared, Refused}
+use Rattle.session.specs.declared.reply.Answer.{Answer}
+use Rattle.session.specs.declared.reply.Answer.the-variants.{Cleared, Refused}
 use Rattle.auction.specs.Auction.{Auction, demand, supply, clearing-answer}
 use Rattle.listing.specs.declared.course.Course.{Course}
 use Rattle.listing.specs.Lines.{course-trail}

@@ -5,7 +5,7 @@ ghost use lib.ListN.{length};
 ghost use Rattle.search.specs.Limit.{limit};
 ghost use Rattle.standing.proofs.Standing.{Probes};
 use panel_rounds::round;
-use session::Party;
+use record::Party;
 
 // Rounds 1 to 32, then round 33, in which the verdict is heard.
 pub(crate) fn probe(

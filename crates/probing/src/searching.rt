@@ -5,17 +5,17 @@ ghost use Prim.Native.Nat.{_*_, _≤_};
 ghost use lib.ListN.{length};
 ghost use Rattle.search.specs.Bracket.{middle, over};
 ghost use Rattle.search.specs.Limit.{limit};
-ghost use Rattle.session.specs.Record.{bracket};
+ghost use Rattle.record.specs.Record.{bracket};
 ghost use Rattle.session.specs.Answer.{answer-reply};
 ghost use Rattle.standing.proofs.Standing.{FromStart};
 ghost use Rattle.probing.specs.Follows.{mark, priced, Follows};
 use crate::probes::probe;
 use listing::Course;
+use record::Party;
 use search::Bracket;
 use search::middle;
 use search::over;
 use session::Answer;
-use session::Party;
 use session::answer;
 
 // Whether the search goes on.

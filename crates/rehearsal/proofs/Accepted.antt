@@ -17,10 +17,9 @@ use Rattle.sections.specs.declared.table.Fault.{Fault}
 use Rattle.sections.specs.declared.table.Fault.the-variants.{None, At}
 use Rattle.plan.specs.declared.judging.Shape.{Shape}
 use Rattle.plan.specs.declared.judging.Judged.the-variants.{Faulty, Good}
-use Rattle.lines.specs.Lines.{lines, rest, numbers, formed, after}
+use Rattle.lines.specs.Lines.{lines, rest, numbers, formed, past, price-of}
 use Rattle.plan.specs.Plan.{Plan, Reading, faulty, accepted, read, read-prices, read-bids}
 use Rattle.plan.specs.Judged.{shape-of, as-judged, judged-as, seeds-of, prices-of}
-use Rattle.lines.specs.Lines.{price-of}
 use Rattle.sections.specs.Sections.{good-prices, tables, bid-fault, bids-fault, or-else}
 use Rattle.rehearsal.specs.Listing.{auction, plan-trail, printed, listing}
 use Rattle.listing.specs.Lines.{refused-line, probe-lines, clears-line, rounds-line, search-lines, course-trail}
@@ -49,7 +48,7 @@ record N (bytes : List ℕ) (p : Plan) : Type 0 where
   n : ℕ
   least : 3 ≤ n
   most : n ≤ 9
-  next : read-prices n (numbers n (rest bytes)) (lines (after n (rest bytes))) ≡ accepted p
+  next : read-prices n (numbers n (rest bytes)) (lines (past n (rest bytes))) ≡ accepted p
 
 n-read : (bytes : List ℕ) (p : Plan) → read (lines bytes) ≡ accepted p → N bytes p
 n-read bytes p e =
@@ -73,7 +72,7 @@ record K (n : ℕ) (seeds bytes : List ℕ) (p : Plan) : Type 0 where
   k : ℕ
   least : 1 ≤ k
   most : k ≤ 256
-  next : read-bids n seeds k (numbers k (rest bytes)) (lines (after k (rest bytes))) ≡ accepted p
+  next : read-bids n seeds k (numbers k (rest bytes)) (lines (past k (rest bytes))) ≡ accepted p
 
 k-read : (n : ℕ) (seeds bytes : List ℕ) (p : Plan) → read-prices n seeds (lines bytes) ≡ accepted p → K n seeds bytes p
 k-read n seeds bytes p e =
@@ -122,7 +121,7 @@ m-read n seeds k listed bytes p e =
       plan = same-plan (sym (all-read n seeds k listed bytes m (w .1) few f (sym z)) ∙ e);
     })
     (λ z. absurd (refuses (one-too-many n seeds k listed bytes m (w .1) few f z) e))
-    (same-or-less 0 (length (after (m * (2 * k)) (rest bytes))) (omega arith)))
+    (same-or-less 0 (length (past (m * (2 * k)) (rest bytes))) (omega arith)))
     (λ f. absurd (refuses (bids-bad n seeds k listed bytes m (w .1) few (f .0) (f .1) (f .2)) e))
     (fault-of (bids-fault k m (n + k + 4) (rest bytes))))
     (λ t. absurd (refuses (m-range n seeds k listed bytes m (w .1) (leb-false m 1000 t)) e))
@@ -154,14 +153,14 @@ unfolding bids-fault tables
 good-auction n k zero line bytes a b c d f e =
     record { n-least = a; n-most = b; k-least = c; k-most = omega arith; few = omega arith; tables = tt }
 good-auction n k (suc m) line bytes a b c d f e =
-    let g = both-none (bid-fault k line bytes) (bids-fault k m (line + 2 * k) (after (2 * k) bytes)) e in
-    let h = good-auction n k m (line + 2 * k) (after (2 * k) bytes) a b c d (omega arith) (g .1) in
+    let g = both-none (bid-fault k line bytes) (bids-fault k m (line + 2 * k) (past (2 * k) bytes)) e in
+    let h = good-auction n k m (line + 2 * k) (past (2 * k) bytes) a b c d (omega arith) (g .1) in
     record {
       n-least = a;
       n-most = b;
       k-least = c;
       k-most = omega arith;
-      few = omega (arith, length-tables k m (after (2 * k) bytes));
+      few = omega (arith, length-tables k m (past (2 * k) bytes));
       tables = (good-table k line bytes (g .0), h .tables);
     }
 
@@ -174,25 +173,25 @@ pub record Accepted (bytes : List ℕ) (p : Plan) : Type 0 where
   -- the sections, read again
   pub seeds : p .seeds ≡ seeds-of (p .n) bytes
   pub prices : p .prices ≡ prices-of (p .n) (p .k) bytes
-  pub bids : p .bids ≡ tables (p .k) (length (p .bids)) (after (p .n + p .k + 3) bytes)
+  pub bids : p .bids ≡ tables (p .k) (length (p .bids)) (past (p .n + p .k + 3) bytes)
 
-one : (bytes : List ℕ) → rest bytes ≡ after 1 bytes
+one : (bytes : List ℕ) → rest bytes ≡ past 1 bytes
 one bytes = ap (λ (j : ℕ). drop j bytes) (sym (bytes-one bytes))
 
 pub accepted-plan : (bytes : List ℕ) (p : Plan) → read (lines bytes) ≡ accepted p → Accepted bytes p
 accepted-plan bytes p e =
     let a = n-read bytes p e in
     let n = a .n in
-    let b2 = after n (rest bytes) in
+    let b2 = past n (rest bytes) in
     let b = k-read n (numbers n (rest bytes)) b2 p (a .next) in
     let k = b .k in
-    let b3 = after k (rest b2) in
+    let b3 = past k (rest b2) in
     let c = m-read n (numbers n (rest bytes)) k (numbers k (rest b2)) b3 p (b .next) in
     let m = c .m in
-    let e2 : b2 ≡ after (1 + n) bytes = ap (after n) (one bytes) ∙ after-add 1 n bytes in
-    let e3 : rest b2 ≡ after (1 + n + 1) bytes = ap rest e2 ∙ rest-after (1 + n) bytes in
-    let e4 : b3 ≡ after (1 + n + 1 + k) bytes = ap (after k) e3 ∙ after-add (1 + n + 1) k bytes in
-    let e5 : rest b3 ≡ after (1 + n + 1 + k + 1) bytes = ap rest e4 ∙ rest-after (1 + n + 1 + k) bytes in
+    let e2 : b2 ≡ past (1 + n) bytes = ap (past n) (one bytes) ∙ after-add 1 n bytes in
+    let e3 : rest b2 ≡ past (1 + n + 1) bytes = ap rest e2 ∙ rest-after (1 + n) bytes in
+    let e4 : b3 ≡ past (1 + n + 1 + k) bytes = ap (past k) e3 ∙ after-add (1 + n + 1) k bytes in
+    let e5 : rest b3 ≡ past (1 + n + 1 + k + 1) bytes = ap rest e4 ∙ rest-after (1 + n + 1 + k) bytes in
     let i2 : 1 + n + 1 ≡ n + 2 = omega arith in
     let i3 : 1 + n + 1 + k + 1 ≡ n + k + 3 = omega arith in
     let l : length (tables k m (rest b3)) ≡ m = length-tables k m (rest b3) in
@@ -200,8 +199,8 @@ accepted-plan bytes p e =
       an-auction = good-auction n k m (n + k + 4) (rest b3) (a .least) (a .most) (b .least) (b .most) (c .few) (c .sound-bids);
       few-prices = b .most;
       seeds = ap (numbers n) (one bytes);
-      prices = ap (numbers k) (e3 ∙ ap (λ (j : ℕ). after j bytes) i2);
-      bids = ap₂ (tables k) (sym l) (e5 ∙ ap (λ (j : ℕ). after j bytes) i3);
+      prices = ap (numbers k) (e3 ∙ ap (λ (j : ℕ). past j bytes) i2);
+      bids = ap₂ (tables k) (sym l) (e5 ∙ ap (λ (j : ℕ). past j bytes) i3);
     })
 
 -- ---- what `judge` found
@@ -230,7 +229,7 @@ good-runs bytes shape e =
     let j = judged-good bytes (read (lines bytes)) shape e in
     let p = j .0 in
     let A = accepted-plan bytes p (j .1) in
-    let same : auction p ≡ auction-of (p .n) (p .k) (length (p .bids)) (after (p .n + p .k + 3) bytes) =
+    let same : auction p ≡ auction-of (p .n) (p .k) (length (p .bids)) (past (p .n + p .k + 3) bytes) =
     ap (λ (ts : List (List ℕ)). record { n = p .n; k = p .k; bids = ts }) (A .bids) in
     let h : p .n * (2 * p .k) ≤ 9 * (2 * p .k) = mul-le-mul-right (2 * p .k) (A .an-auction .n-most) in
     let l : p .n * (127 * limit (p .k)) ≤ 9 * (127 * limit (p .k)) = mul-le-mul-right (127 * limit (p .k)) (A .an-auction .n-most) in
@@ -269,7 +268,7 @@ search-listing : (bytes : List ℕ) (p : Plan) → read (lines bytes) ≡ accept
 unfolding printed
 search-listing bytes p e probes answer f g =
     let i = clearing-answer (auction p) in
-    let bs = after (p .n + 2) bytes in
+    let bs = past (p .n + 2) bytes in
     let w = clearing-within (demand (auction p)) (supply (auction p)) (p .k) in
     let price : 0 < i → price-of i bs ≡ getD (p .prices) (i - 1) 0 =
     λ h. sym (ap (λ (v : List ℕ). getD v (i - 1) 0) (accepted-plan bytes p e .prices) ∙ number-at (p .k) (i - 1) bs (omega (arith, w))) in

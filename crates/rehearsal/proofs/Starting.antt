@@ -7,7 +7,7 @@ use Rattle.sharing.specs.Polynomial.{value}
 use Rattle.sharing.specs.Scheme.{threshold}
 use Rattle.search.specs.Bracket.{start}
 use Rattle.search.specs.Limit.{limit}
-use Rattle.session.specs.declared.record.Party.{Party}
+use Rattle.record.specs.declared.Party.{Party}
 use Rattle.auction.specs.Auction.{Auction, IsAuction}
 use Rattle.auction.specs.Coins.{Coins, InRange}
 use Rattle.auction.proofs.Closed.{at-party, polynomials, fresh-stage, record-at, sheets-at, seat}
@@ -16,7 +16,7 @@ use Rattle.draws.specs.Draws.{first-state, after-bids, all-sheets, auction-coin
 use Rattle.sections.specs.Sections.{tables}
 use Rattle.panel.specs.Parties.{All, part}
 use Rattle.standing.proofs.Standing.{Stands, FromStart, Holds, auction-of}
-use Rattle.setup.specs.Dealt.{sheets-of}
+use Rattle.drawn_sheets.specs.Dealt.{sheets-of}
 use Rattle.listing.specs.declared.course.Course.{Course}
 use Rattle.probing.specs.Follows.{Follows}
 use Rattle.sections.proofs.Bids.{length-tables}

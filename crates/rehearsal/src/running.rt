@@ -9,12 +9,12 @@ ghost use Rattle.plan.specs.Judged.{judged-as};
 ghost use Rattle.standing.proofs.Standing.{auction-of};
 ghost use Rattle.probing.specs.Follows.{Follows};
 ghost use Rattle.rehearsal.specs.Right.{Right};
+use collecting::collect;
+use drawn_sheets::deal_all;
 use listing::Course;
 use plan::Shape;
 use probing::search;
 use search::limit;
-use setup::collect;
-use setup::deal_all;
 
 // The auction, in slices lent for the parties' totals and sheets.
 fn hold(

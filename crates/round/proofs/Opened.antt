@@ -1,6 +1,6 @@
 -- What the messages of a round open to. Assumes nothing.
 use mathlib.Core.Path.{_≡_, refl, sym, ap, ap₂, _∙_}
-use mathlib.Core.Bool.{Bool, true, false, _&&_}
+use mathlib.Core.Bool.{Bool, true, false}
 use mathlib.Core.List.{List, map}
 use Prim.Native.Nat.{ℕ, _+_, _/_, _%_, _≤_, _<_}
 use native.Mathlib.Numerals.{lt-of-le-of-ne}
@@ -15,13 +15,9 @@ use Rattle.openings.specs.Opening.{readable, opened}
 use Rattle.openings.specs.declared.opening.Opening.{Opening}
 use Rattle.openings.specs.declared.opening.Opening.the-variants.{Secret, Inconsistent}
 use Rattle.openings.proofs.Laws.{byte-fits, exactly}
-use Rattle.ranges.proofs.Loops.{fill}
+use Rattle.ranges.proofs.Loops.{and-true, fill}
 use Rattle.round.specs.declared.Heard.the-variants.{Sum, Factors, Verdict}
 use Rattle.round.specs.Round.{sum-of, factors-of, verdict-of, heard, Possible}
-
-and-true : (a b : Bool) → a && b ≡ true → (a ≡ true) × (b ≡ true)
-and-true true b e = (refl, e)
-and-true false b e = (e, cc)
 
 -- there are at most 9 parties
 few-words : (size n : ℕ) (words : List ℕ) → readable size n words ≡ true → length words ≤ 9

@@ -1,6 +1,6 @@
 -- Saying, by its judgement, and the judgement in facts: a party says its word exactly where they hold. Assumes nothing.
 use mathlib.Core.Path.{_≡_, refl}
-use mathlib.Core.Bool.{false}
+use mathlib.Core.Bool.{Bool, true, false}
 use mathlib.Core.List.{List}
 use Prim.Native.Nat.{ℕ, _*_}
 use lib.ListN.{length}
@@ -11,12 +11,13 @@ use Rattle.refusal.specs.declared.Refusal.{Refusal}
 use Rattle.refusal.specs.declared.Judgement.{Judgement}
 use Rattle.refusal.specs.declared.Judgement.the-variants.{Accepted, Refused}
 use Rattle.search.specs.Bracket.{over}
-use Rattle.session.specs.declared.record.Party.{Party}
-use Rattle.session.specs.Record.{bracket}
-use Rattle.session.proofs.Judging.{and-true, passed}
-use Rattle.session.proofs.Soundness.{Sound, sound-facts, sound-of}
+use Rattle.record.specs.declared.Party.{Party}
+use Rattle.record.specs.Record.{bracket}
+use Rattle.ranges.proofs.Loops.{and-true}
+use Rattle.refusal.proofs.Judging.{passed}
+use Rattle.record.proofs.Soundness.{Sound, sound-facts, sound-of}
 use Rattle.saying.specs.declared.Said.the-variants as answer
-use Rattle.saying.specs.Say.{sheets-long, current, say-judgement, said, said-number}
+use Rattle.saying.specs.Say.{sheets-long, current, turn-judgement, say-judgement, said, said-number}
 use Rattle.saying.proofs.Sheets.{InField, in-field-facts, in-field-of}
 
 module _ (judgement : Judgement) (word : ℕ) where
@@ -57,30 +58,41 @@ pub record Says (q : Party) (totals sheets : List ℕ) : Type 0 where
   pub going : over (bracket q) ≡ false
   pub in-field : InField q totals (current q sheets)
 
-module _ (q : Party) (totals sheets : List ℕ) where
-  pub says : say-judgement q totals sheets ≡ Accepted → Says q totals sheets
-  unfolding say-judgement
-  says e =
+module _ (q : Party) (totals sheets : List ℕ) (else-long : Bool) where
+  pub turns : turn-judgement q totals sheets else-long ≡ Accepted → Says q totals sheets × (else-long ≡ true)
+  unfolding turn-judgement
+  turns e =
       let whole = passed _ _ _ e in
       let size = passed _ _ _ (whole .1) in
       let turn = passed _ _ _ (size .1) in
       let field = passed _ _ _ (turn .1) in
       let l = and-true _ _ (not-false _ (size .0)) in
-      record {
-        sound = sound-facts q (not-false _ (whole .0));
-        totals-long = eqb-true _ _ (l .0);
-        sheets-long = eqb-true _ _ (l .1);
-        going = turn .0;
-        in-field = in-field-facts q totals (current q sheets) (not-false _ (field .0));
-      }
+      let l′ = and-true _ _ (l .0) in (
+        record {
+          sound = sound-facts q (not-false _ (whole .0));
+          totals-long = eqb-true _ _ (l′ .0);
+          sheets-long = eqb-true _ _ (l′ .1);
+          going = turn .0;
+          in-field = in-field-facts q totals (current q sheets) (not-false _ (field .0));
+        },
+        l .1,
+      )
 
-  pub say-accepted : Says q totals sheets → say-judgement q totals sheets ≡ Accepted
-  unfolding say-judgement judged
-  say-accepted h =
+  pub turn-accepted : Says q totals sheets → else-long ≡ true → turn-judgement q totals sheets else-long ≡ Accepted
+  unfolding turn-judgement judged
+  turn-accepted h e =
       rw (
         sound-of q (h .sound),
         eq-eqb (length totals) (2 * q .k) (h .totals-long),
         eq-eqb (length sheets) (sheets-long (q .k)) (h .sheets-long),
+        e,
         h .going,
         in-field-of q totals (current q sheets) (h .in-field),
       )
+
+module _ (q : Party) (totals sheets : List ℕ) where
+  pub says : say-judgement q totals sheets ≡ Accepted → Says q totals sheets
+  says e = turns q totals sheets true e .0
+
+  pub say-accepted : Says q totals sheets → say-judgement q totals sheets ≡ Accepted
+  say-accepted h = turn-accepted q totals sheets true h refl

@@ -8,7 +8,7 @@ use Rattle.fields.specs.Amount.{amounts}
 use Rattle.fields.specs.Byte.{bytes}
 use Rattle.comparison.specs.Local.{on-shares}
 use Rattle.comparison.specs.Rounds.{masked, left, right, both, last}
-use Rattle.session.specs.declared.record.Party.{Party}
+use Rattle.record.specs.declared.Party.{Party}
 use Rattle.saying.specs.Say.{demand-share, supply-share, mask-share, bit-share, triple-share, message}
 
 module _ (q : Party) (totals sheet : List ℕ) where

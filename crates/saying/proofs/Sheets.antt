@@ -11,12 +11,11 @@ use borrow.Author.Tests.{ltb-true, eqb-true, lt-ltb, eq-eqb}
 use Rattle.fields.specs.Amount.{p}
 use Rattle.ranges.specs.Below.{AllBelow}
 use Rattle.ranges.specs.Lists.{every}
-use Rattle.ranges.proofs.Loops.{every-at}
-use Rattle.session.proofs.Words.{all-below, all-below-of}
-use Rattle.session.specs.declared.record.Party.{Party}
+use Rattle.ranges.proofs.Loops.{every-at, and-true}
+use Rattle.ranges.proofs.Ranges.{all-below, is-below}
+use Rattle.record.specs.declared.Party.{Party}
 use Rattle.saying.specs.Say.{sheets-long, demand-share, supply-share, current, mask-share, in-field}
-use Rattle.session.proofs.Judging.{and-true}
-use Rattle.session.proofs.Soundness.{Probing}
+use Rattle.record.proofs.Soundness.{Probing}
 
 -- the current sheet is there, and it is whole
 module _ (q : Party) (sheets : List ℕ) (h : Probing q) (long : length sheets ≡ sheets-long (q .k)) where
@@ -61,11 +60,11 @@ module _ (q : Party) (totals sheet : List ℕ) where
       used-first round a b e first = and-true a b (rw (eq-eqb round 1 first) at e)
 
   pub in-field-bytes : in-field q totals sheet ≡ true → every (λ w. ltb w 256) (drop 1 sheet) ≡ true
-  in-field-bytes e = all-below-of 256 (drop 1 sheet) (in-field-facts e .bytes)
+  in-field-bytes e = is-below 256 (drop 1 sheet) (in-field-facts e .bytes)
 
   pub in-field-of : InField q totals sheet → in-field q totals sheet ≡ true
   unfolding in-field
-  in-field-of h = rw (used-of (q .round) _ both, lt-ltb (mask-share sheet) p (h .mask), all-below-of 256 (drop 1 sheet) (h .bytes))
+  in-field-of h = rw (used-of (q .round) _ both, lt-ltb (mask-share sheet) p (h .mask), is-below 256 (drop 1 sheet) (h .bytes))
     where
       used-of : (round : ℕ) (used : Bool) → (round ≡ 1 → used ≡ true) → not (eqb round 1) || used ≡ true
       used-of round used first = split (eqb round 1) refl

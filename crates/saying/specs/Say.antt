@@ -1,5 +1,5 @@
 -- What a party says: "Saying changes nothing." Assumes nothing.
-use mathlib.Core.Bool.{Bool, cond, not, _&&_, _||_}
+use mathlib.Core.Bool.{Bool, true, cond, not, _&&_, _||_}
 use mathlib.Core.List.{List, [], _∷_}
 use Prim.Native.Nat.{ℕ, _+_, _-_, _*_}
 use lib.Dec.{leb, ltb, eqb}
@@ -17,10 +17,10 @@ use Rattle.comparison.specs.Local.{on-shares}
 use Rattle.comparison.specs.Rounds.{masked, left, right, both, last}
 use Rattle.search.specs.Bracket.{middle, over}
 use Rattle.search.specs.Limit.{limit}
-use Rattle.session.specs.declared.record.Party.{Party}
+use Rattle.record.specs.declared.Party.{Party}
 use Rattle.saying.specs.declared.Said.{Said}
 use Rattle.saying.specs.declared.Said.the-variants.{Message, Refused}
-use Rattle.session.specs.Record.{bracket, sound}
+use Rattle.record.specs.Record.{bracket, sound}
 
 -- total demand and total supply at the probed index: indices count from 1, demand first
 abbrev pub demand-share : Party → List ℕ → ℕ
@@ -55,14 +55,19 @@ in-field q totals sheet =
     && ltb (mask-share sheet) p
     && every (λ w. ltb w 256) (drop 1 sheet)
 
-unfoldable pub say-judgement : (q : Party) (totals sheets : List ℕ) → Judgement
-say-judgement q totals sheets =
+-- The tests of a saying, and the first ones of a hearing, which is lent its messages too: whether all else that is lent has its length.
+unfoldable pub turn-judgement : (q : Party) (totals sheets : List ℕ) (else-long : Bool) → Judgement
+turn-judgement q totals sheets else-long =
     judged
     ((not (sound q) ⇒ OutOfRange)
-    ∷ (not (long (2 * q .k) totals && long (sheets-long (q .k)) sheets) ⇒ WrongLength)
+    ∷ (not (long (2 * q .k) totals && long (sheets-long (q .k)) sheets && else-long) ⇒ WrongLength)
     ∷ (over (bracket q) ⇒ OutOfTurn)
     ∷ (not (in-field q totals (current q sheets)) ⇒ ShareOutOfRange)
     ∷ [])
+
+-- nothing else is lent for a saying
+abbrev pub say-judgement : (q : Party) (totals sheets : List ℕ) → Judgement
+say-judgement q totals sheets = turn-judgement q totals sheets true
 
 -- "Words by round": round 1, rounds 2 to 32, round 33
 unfoldable pub message : (q : Party) (totals sheet : List ℕ) → ℕ
@@ -77,8 +82,11 @@ unfoldable pub said : Judgement → ℕ → Said
 said judgement.Accepted word = Message word
 said (judgement.Refused why) word = Refused why
 
+abbrev pub turn-reply : (q : Party) (totals sheets : List ℕ) (else-long : Bool) → Said
+turn-reply q totals sheets else-long = said (turn-judgement q totals sheets else-long) (message q totals (current q sheets))
+
 abbrev pub say-reply : (q : Party) (totals sheets : List ℕ) → Said
-say-reply q totals sheets = said (say-judgement q totals sheets) (message q totals (current q sheets))
+say-reply q totals sheets = turn-reply q totals sheets true
 
 -- ---- "this paper's number and values for each of its cases": a refused call leaves the place for the word as it was
 

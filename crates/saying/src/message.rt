@@ -4,7 +4,7 @@ ghost use mathlib.Core.Bool.{true, false};
 ghost use Prim.Native.Nat.{_*_};
 ghost use lib.ListN.{length};
 ghost use Rattle.search.specs.Bracket.{over};
-ghost use Rattle.session.specs.Record.{bracket, sound};
+ghost use Rattle.record.specs.Record.{bracket, sound};
 ghost use Rattle.saying.specs.Say.{demand-share, supply-share, in-field, message};
 use crate::sheet::byte_share;
 use crate::sheet::triple_share;
@@ -15,9 +15,9 @@ use fields::AmountShare;
 use fields::BitShare;
 use fields::P;
 use ranges::all_below;
+use record::Party;
+use record::bracket;
 use search::middle;
-use session::Party;
-use session::bracket;
 
 // Total demand at the probed index. Indices count from 1.
 pub(crate) fn demand_share(q: Party, totals: &[u64]) -> u64

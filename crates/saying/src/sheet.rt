@@ -7,7 +7,7 @@ ghost use lib.ListN.{length, drop, getD};
 ghost use Rattle.ranges.specs.Lists.{every};
 ghost use Rattle.saying.specs.Say.{current, triple-share};
 use fields::BitShare;
-use session::Party;
+use record::Party;
 
 pub fn current(q: Party, sheets: &[u64]) -> &[u64]
     requires { ⌜ 127 * q .probes + 127 ≤ length (now sheets) ⌝ }

@@ -8,7 +8,7 @@ use lib.ListN.{take, drop}
 use Rattle.ranges.specs.Lists.{every}
 use Rattle.ranges.specs.Steps.{bend, never-rising, never-falling}
 use Rattle.bid.specs.Table.{most}
-use Rattle.lines.specs.Lines.{numbers, formed, after}
+use Rattle.lines.specs.Lines.{numbers, formed, past}
 use Rattle.sections.specs.declared.table.Fault.{Fault}
 use Rattle.sections.specs.declared.table.Fault.the-variants.{None, At}
 
@@ -51,7 +51,7 @@ good-prices k last bytes = rising last (take (formed k bytes) (numbers k bytes))
 -- m tables, one after another
 unfoldable pub tables : (k m : ℕ) → List ℕ → List (List ℕ)
 tables k zero bytes = []
-tables k (suc m) bytes = numbers (2 * k) bytes ∷ tables k m (after (2 * k) bytes)
+tables k (suc m) bytes = numbers (2 * k) bytes ∷ tables k m (past (2 * k) bytes)
 
 -- the first fault of a bid, and of m bids
 unfoldable pub bid-fault : (k line : ℕ) → List ℕ → Fault
@@ -64,4 +64,4 @@ or-else (At number line) next = At number line
 
 unfoldable pub bids-fault : (k m line : ℕ) → List ℕ → Fault
 bids-fault k zero line bytes = None
-bids-fault k (suc m) line bytes = or-else (bid-fault k line bytes) (bids-fault k m (line + 2 * k) (after (2 * k) bytes))
+bids-fault k (suc m) line bytes = or-else (bid-fault k line bytes) (bids-fault k m (line + 2 * k) (past (2 * k) bytes))

@@ -10,13 +10,14 @@ use Rattle.fields.specs.Amount.{p}
 use Rattle.ranges.specs.Below.{AllBelow}
 use Rattle.refusal.specs.Judging.{judged}
 use Rattle.refusal.specs.declared.Judgement.the-variants.{Accepted}
-use Rattle.session.specs.declared.record.Party.{Party}
-use Rattle.session.specs.Record.{sound}
+use Rattle.record.specs.declared.Party.{Party}
+use Rattle.record.specs.Record.{sound}
 use Rattle.session.specs.Open.{open-judgement}
 use Rattle.session.specs.Add.{add-judgement}
-use Rattle.session.proofs.Judging.{and-true, passed}
-use Rattle.session.proofs.Soundness.{OnList, on-list, on-list-of, Sound, sound-facts, sound-of}
-use Rattle.session.proofs.Words.{all-below, all-below-of}
+use Rattle.ranges.proofs.Loops.{and-true}
+use Rattle.refusal.proofs.Judging.{passed}
+use Rattle.ranges.proofs.Ranges.{OnList, on-list, on-list-of, all-below, is-below}
+use Rattle.record.proofs.Soundness.{Sound, sound-facts, sound-of}
 
 -- ---- opening
 
@@ -87,6 +88,6 @@ module _ (q : Party) (totals shares : List ℕ) where
         le-ltb 0 (q .probes) (omega (arith, h .no-probes)),
         le-ltb 1 (q .round) (omega (arith, h .first-round)),
         lt-leb 1000 (q .bids) (h .room),
-        all-below-of p totals (h .totals-below),
-        all-below-of p shares (h .shares-below),
+        is-below p totals (h .totals-below),
+        is-below p shares (h .shares-below),
       )

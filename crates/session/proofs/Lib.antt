@@ -1,6 +1,4 @@
 -- What the tests of the calls say, for theorems about runs, and lemmas that the functions' proofs share.
-pub mod Judging
-pub mod Soundness
-pub mod Updates
+pub mod Answered
 pub mod Words
 pub mod Laws

@@ -7,7 +7,6 @@ use native.Mathlib.Omega.{arith}
 use lib.ListN.{length, getD}
 use Rattle.fields.specs.Amount.{amounts}
 use Rattle.sharing.specs.Linear.{sums}
-pub use Rattle.ranges.proofs.Ranges.{all-below, is-below as all-below-of}
 
 -- the totals after a bid, word by word
 pub sum-at : (xs ys : List ℕ) (i : ℕ) → length xs ≡ length ys → i < length xs

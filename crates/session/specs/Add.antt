@@ -10,10 +10,10 @@ use Rattle.refusal.specs.declared.Refusal.the-variants.{OutOfRange, WrongLength
 use Rattle.ranges.specs.Lists.{every}
 use Rattle.sharing.specs.Linear.{sums}
 use Rattle.ranges.specs.Sizes.{long}
-use Rattle.session.specs.declared.record.Party.{Party}
-use Rattle.session.specs.declared.record.Reply.{Reply}
-use Rattle.session.specs.Record.{sound, replied}
-use Rattle.session.specs.Updates.{counted}
+use Rattle.record.specs.declared.Party.{Party}
+use Rattle.record.specs.declared.Reply.{Reply}
+use Rattle.record.specs.Record.{sound, replied}
+use Rattle.record.specs.Updates.{counted}
 
 -- "after the first heard round (probes done above 0 or round above 1)"
 abbrev pub begun : Party → Bool

@@ -8,10 +8,10 @@ use Rattle.refusal.specs.declared.Judgement.{Judgement}
 use Rattle.refusal.specs.declared.Judgement.the-variants as judgement
 use Rattle.refusal.specs.declared.Refusal.the-variants.{OutOfRange, OutOfTurn}
 use Rattle.search.specs.Bracket.{over}
-use Rattle.session.specs.declared.record.Party.{Party}
-use Rattle.session.specs.declared.record.Answer.{Answer}
-use Rattle.session.specs.declared.record.Answer.the-variants.{Cleared, Refused}
-use Rattle.session.specs.Record.{bracket, sound}
+use Rattle.record.specs.declared.Party.{Party}
+use Rattle.session.specs.declared.reply.Answer.{Answer}
+use Rattle.session.specs.declared.reply.Answer.the-variants.{Cleared, Refused}
+use Rattle.record.specs.Record.{bracket, sound}
 
 unfoldable pub answer-judgement : Party → Judgement
 answer-judgement q = judged ((not (sound q) ⇒ OutOfRange) ∷ (not (over (bracket q)) ⇒ OutOfTurn) ∷ [])

@@ -1,6 +1,4 @@
--- A session's record and the calls on it: what the contracts cite.
-pub mod Record
-pub mod Updates
+-- Opening a session, adding a bid, asking for the answer: what the contracts cite.
 pub mod Open
 pub mod Add
 pub mod Answer

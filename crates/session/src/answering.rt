@@ -1,10 +1,10 @@
 // Asking for the answer of a session that is over.
 ghost use mathlib.Core.Path.{_≡_};
 ghost use Rattle.session.specs.Answer.{answer-reply};
-use crate::checking::bracket;
-use crate::checking::sound;
-use crate::record::Answer;
-use crate::record::Party;
+use crate::reply::Answer;
+use record::Party;
+use record::bracket;
+use record::sound;
 use refusal::Refusal;
 use search::over;
 

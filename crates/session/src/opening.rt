@@ -1,12 +1,13 @@
 // Opening a session.
 ghost use mathlib.Core.Path.{_≡_};
 ghost use lib.ListN.{length, replicate};
-ghost use Rattle.session.specs.Open.{blank, open-reply, open-left};
-use crate::record::Party;
-use crate::record::Reply;
-use crate::record::accepted;
-use crate::record::refused;
+ghost use Rattle.session.specs.Open.{open-reply, open-left};
 use ranges::on_list;
+use record::Party;
+use record::Reply;
+use record::accepted;
+use record::blank;
+use record::refused;
 use refusal::Refusal;
 
 // Zeroes the totals and gives the record that the session starts with.
@@ -34,24 +35,6 @@ pub fn open(n: u64, own: u64, k: u64, totals: &mut [u64]) -> Reply
         sum: 0,
         carry: 0,
     })
-}
-
-// Where no session is opened: a record of zeros, which is not sound.
-pub fn blank() -> Party
-    ensures { λ r. ⌜ r ≡ blank ⌝ }
-{
-    Party {
-        n: 0,
-        own: 0,
-        k: 0,
-        bids: 0,
-        lo: 0,
-        hi: 0,
-        probes: 0,
-        round: 0,
-        sum: 0,
-        carry: 0,
-    }
 }
 
 fn clear(words: &mut [u64])

@@ -9,21 +9,23 @@ use lib.Seq.{drop-drop}
 use Rattle.fields.specs.Amount.{p}
 use Rattle.sharing.specs.Scheme.{threshold}
 use Rattle.comparison.specs.Probe.{Each}
-use Rattle.session.specs.declared.record.Party.{Party}
+use Rattle.record.specs.declared.Party.{Party}
 use Rattle.session.specs.Add.{add-reply, add-left}
 use Rattle.auction.specs.Auction.{Auction, GoodTable, IsAuction}
 use Rattle.auction.specs.Coins.{Coins, flat}
-use Rattle.auction.specs.Canonical.{Seat, shares-for, added}
+use Rattle.auction.specs.Canonical.{Seat, shares-for, after-adding}
 use Rattle.auction.proofs.Closed.{entries, added-polynomials, totals-after, at-party, no-totals, polynomials}
 use Rattle.auction.proofs.Judging.{kept-new, replied-next}
 use Rattle.auction.proofs.Totals.{GoodBid, Held, entries-held, added-held, no-totals-held}
-use Rattle.auction.proofs.Bidding.{open-accepted, holding, holding-seat, at-party-zeros, added-holding}
+use Rattle.auction.proofs.Bidding.{opening-accepted, holding, holding-seat, at-party-zeros, added-holding}
 use Rattle.draws.specs.Draws.{first-state, next-coin, later, drawn-coins, groups, bid-coins, after-bids, auction-coins}
-use Rattle.lines.specs.Lines.{numbers, bytes-of, after}
+use Rattle.lines.specs.Lines.{numbers, bytes-of, past}
 use Rattle.sections.specs.Sections.{tables}
 use Rattle.standing.proofs.Standing.{auction-of, Holds, Adds}
 use Rattle.draws.proofs.Drawn.{Word, groups-length, groups-flat, groups-below, next-coin-below, coin-below}
-use Rattle.session.specs.Open.{blank, fresh, open-reply, open-left}
+use Rattle.record.specs.Record.{blank}
+use Rattle.record.specs.Updates.{fresh}
+use Rattle.session.specs.Open.{open-reply, open-left}
 use Rattle.panel.specs.Parties.{All, part, shares-of, party-added, totals-added}
 use Rattle.panel.proofs.Parts.{part-length}
 
@@ -36,9 +38,7 @@ module _ {a : Auction} (A : IsAuction a) where
       → Holds a 0 (no-totals a) parties totals
   unfolding fresh holding
   opened-holds old totals parties l e i h =
-      let ok =
-      open-accepted (a .n) (i + 1) (a .k) (A .n-least) (A .n-most) (omega arith) (omega arith) (A .k-least) (A .k-most) (part (2 * a .k) i old)
-      (part-length (2 * a .k) (a .n) i old l h) in (
+      let ok = opening-accepted A (i + 1) (omega arith) (omega arith) (part (2 * a .k) i old) (part-length (2 * a .k) (a .n) i old l h) in (
         e i h .0 ∙ replied-next _ ok (fresh (a .n) (i + 1) (a .k)) blank,
         e i h .1 ∙ kept-new _ ok (replicate (2 * a .k) 0) (part (2 * a .k) i old) ∙ sym (at-party-zeros (threshold (a .n)) (i + 1) (2 * a .k)),
       )
@@ -50,7 +50,7 @@ module _ {a : Auction} (A : IsAuction a) where
       (λ i. (getD after i blank ≡ party-added (a .n) (a .k) (b .0) (flat (b .1)) parties totals i)
       × (part (2 * a .k) i new ≡ totals-added (a .n) (a .k) (b .0) (flat (b .1)) parties totals i))
       → Holds a (m + 1) (added-polynomials fs (entries (b .0) (b .1))) after new
-  unfolding party-added totals-added shares-of added shares-for holding-seat holding
+  unfolding party-added totals-added shares-of after-adding shares-for holding-seat holding
   added-holds c b B m fs F hm parties after totals new H e i h =
       let w : List ℕ = shares-of (a .n) (a .k) (i + 1) (b .0) (flat (b .1)) in
       let s = added-holding c A (i + 1) (omega arith) (omega arith) b B m fs F hm in (
@@ -108,8 +108,8 @@ module _ {a : Auction} (A : IsAuction a) (c : Coins) (bids : ℕ) (input : List 
       let table : List ℕ = numbers (2 * k) (drop at input) in
       let gs : List (List ℕ) = groups next-coin (2 ^ 61) t (2 * k) last in
       let n : bids - i ≡ suc (bids - (i + 1)) = omega arith in
-      let d : after (2 * k) (drop at input) ≡ drop new-at input = drop-drop (bytes-of (2 * k) (drop at input)) at input ∙ ap (λ (z : ℕ). drop z input) (sym ea) in
-      let G : Each (GoodTable k) (table ∷ tables k (bids - (i + 1)) (after (2 * k) (drop at input))) = rw n at (B .good) in
+      let d : past (2 * k) (drop at input) ≡ drop new-at input = drop-drop (bytes-of (2 * k) (drop at input)) at input ∙ ap (λ (z : ℕ). drop z input) (sym ea) in
+      let G : Each (GoodTable k) (table ∷ tables k (bids - (i + 1)) (past (2 * k) (drop at input))) = rw n at (B .good) in
       let b : GoodBid k t (table, gs) = drawn-bid k t table last (G .0) w in
       record {
         behind = added-polynomials (B .behind) (entries table gs);
@@ -120,7 +120,7 @@ module _ {a : Auction} (A : IsAuction a) (c : Coins) (bids : ℕ) (input : List 
         good = rw d at (G .1);
         rest =
             rw (sym d, el)
-            (sym (one-bid k t (bids - (i + 1)) last table (tables k (bids - (i + 1)) (after (2 * k) (drop at input))) (B .behind))
+            (sym (one-bid k t (bids - (i + 1)) last table (tables k (bids - (i + 1)) (past (2 * k) (drop at input))) (B .behind))
             ∙ ap (λ (z : ℕ). totals-after (zip (tables k z (drop at input)) (bid-coins t k z last)) (B .behind)) (sym n)
             ∙ B .rest);
       }

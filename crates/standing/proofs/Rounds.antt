@@ -10,17 +10,15 @@ use Rattle.sharing.specs.Scheme.{points}
 use Rattle.search.specs.Limit.{limit}
 use Rattle.search.specs.declared.Bracket.{Bracket}
 use Rattle.search.specs.Bracket.{middle, step}
-use Rattle.comparison.specs.Probe as probe
-use Rattle.comparison.specs.Probe.{Probe}
-use Rattle.session.specs.declared.record.Party.{Party}
+use Rattle.comparison.specs.Probe.{SheetCoins, Probe}
+use Rattle.record.specs.declared.Party.{Party}
 use Rattle.auction.specs.Auction.{Auction, IsAuction}
 use Rattle.auction.specs.Coins.{Coins, InRange}
-use Rattle.auction.specs.Canonical as canonical
-use Rattle.auction.specs.Canonical.{word-by}
+use Rattle.auction.specs.Canonical.{word-by, after-hearing}
 use Rattle.auction.proofs.Closed.{polynomials, probe-at, Stage, fresh-stage}
 use Rattle.auction.proofs.Step.{Step}
 use Rattle.auction.proofs.Round.{Ready, stage-of, words-at, first-step, product-step, last-step}
-use Rattle.session.specs.Open.{blank}
+use Rattle.record.specs.Record.{blank}
 use Rattle.panel.specs.Parties.{All, part}
 use Rattle.panel_rounds.specs.Round.{said-by, all-said, heard-by}
 use Rattle.standing.proofs.Standing.{Stands, verdict-at}
@@ -47,17 +45,17 @@ module _ (a : Auction) (c : Coins) (σ τ : Stage) (w : ℕ → ℕ) (S : Step a
   pub round-stands : (after : List Party)
       → All (a .n) (λ i. getD after i blank ≡ heard-by (a .k) parties totals sheets (all-said (a .n) (a .k) parties totals sheets) i)
       → Stands a c τ after totals sheets
-  unfolding heard-by canonical.heard
+  unfolding heard-by after-hearing
   round-stands after e i h =
       ap (λ (q : Party). record { party = q; totals = part (2 * a .k) i totals; sheets = part (127 * limit (a .k)) i sheets })
       (e i h ∙ ap (λ (x : List ℕ). heard-by (a .k) parties totals sheets x i) words-said)
-      ∙ ap (canonical.heard a c (map w (points (a .n)))) (H i h)
+      ∙ ap (after-hearing a c (map w (points (a .n)))) (H i h)
       ∙ S .next (i + 1) (omega arith) (omega arith)
 
 -- ---- the rounds of a probe
 
-module _ (a : Auction) (c : Coins) (A : IsAuction a) (C : InRange a c) (b : Bracket) (m : ℕ) (s : probe.Coins)
-    (ss : List probe.Coins) (R : Ready a c b m s ss) where
+module _ (a : Auction) (c : Coins) (A : IsAuction a) (C : InRange a c) (b : Bracket) (m : ℕ) (s : SheetCoins)
+    (ss : List SheetCoins) (R : Ready a c b m s ss) where
   abbrev q : Probe
   q = probe-at a (polynomials a c) (middle b) s
 

@@ -7,9 +7,8 @@ use Rattle.sharing.specs.Scheme.{threshold}
 use Rattle.search.specs.Limit.{limit}
 use Rattle.search.specs.declared.Bracket.{Bracket}
 use Rattle.search.specs.Bracket.{start, middle, step}
-use Rattle.comparison.specs.Probe as probe
-use Rattle.comparison.specs.Probe.{secret, last-polynomial}
-use Rattle.session.specs.declared.record.Party.{Party}
+use Rattle.comparison.specs.Probe.{SheetCoins, secret, last-polynomial}
+use Rattle.record.specs.declared.Party.{Party}
 use Rattle.auction.specs.Auction.{Auction, IsAuction}
 use Rattle.auction.specs.Coins.{Coins, InRange}
 use Rattle.auction.specs.Canonical.{Seat}
@@ -18,7 +17,7 @@ use Rattle.auction.proofs.Bidding.{holding}
 use Rattle.auction.proofs.Round.{Ready}
 use Rattle.draws.specs.Draws.{bid-coins}
 use Rattle.sections.specs.Sections.{tables}
-use Rattle.session.specs.Open.{blank}
+use Rattle.record.specs.Record.{blank}
 use Rattle.panel.specs.Parties.{All, part}
 
 -- what the party after i others has
@@ -31,14 +30,14 @@ abbrev pub Stands : (a : Auction) → Coins → Stage → List Party → (totals
 Stands a c σ parties totals sheets = All (a .n) (λ i. seat-of (a .k) parties totals sheets i ≡ seat a c σ (i + 1))
 
 -- the verdict of a probe
-abbrev pub verdict-at : (a : Auction) → Coins → Bracket → probe.Coins → ℕ
+abbrev pub verdict-at : (a : Auction) → Coins → Bracket → SheetCoins → ℕ
 verdict-at a c b s = secret (last-polynomial (probe-at a (polynomials a c) (middle b) s))
 
 -- 33 rounds are a probe of every auction in which the parties may stand
 abbrev pub Probes : (n k : ℕ) → List Party → (totals sheets : List ℕ) → List Party → Type 0
 Probes n k parties totals sheets after =
     (bids : List (List ℕ)) (c : Coins) → IsAuction (record { n = n; k = k; bids = bids }) → InRange (record { n = n; k = k; bids = bids }) c
-    → (b : Bracket) (m : ℕ) (s : probe.Coins) (ss : List probe.Coins) → Ready (record { n = n; k = k; bids = bids }) c b m s ss
+    → (b : Bracket) (m : ℕ) (s : SheetCoins) (ss : List SheetCoins) → Ready (record { n = n; k = k; bids = bids }) c b m s ss
     → Stands (record { n = n; k = k; bids = bids }) c (fresh-stage b m) parties totals sheets
     → Stands (record { n = n; k = k; bids = bids }) c
     (fresh-stage (step b (verdict-at (record { n = n; k = k; bids = bids }) c b s)) (suc m)) after totals sheets

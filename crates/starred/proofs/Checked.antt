@@ -1,13 +1,12 @@
 -- THE STARRED LINES of document 01, gathered as one list. Assumes nothing.
 use mathlib.Core.Path.{_≡_, refl, ap, _∙_}
-use mathlib.Core.Bool.{true, false, not, _&&_}
+use mathlib.Core.Bool.{true, false, not}
 use mathlib.Core.List.{List, [], _∷_}
-use Prim.Native.Nat.{ℕ, _+_, _-_, _*_, _^_, _<_}
+use Prim.Native.Nat.{ℕ, _+_, _-_, _^_, _<_}
 use native.Mathlib.Omega.{arith}
 use lib.Dec.{eqb}
 use lib.ListN.{getD, replicate}
 use borrow.Author.Tests.{eq-eqb}
-use Rattle.fields.specs.Amount.{p}
 use Rattle.fields.specs.Byte.{xor, xtimes, terms, product}
 use Rattle.refusal.specs.Refusal.{codeOf}
 use Rattle.refusal.specs.Judging.{judged}
@@ -26,18 +25,17 @@ use Rattle.comparison.specs.Probe.{Probe}
 use Rattle.comparison.proofs.Dealt.{shared-cons}
 use Rattle.comparison.proofs.Promise as promise
 use Rattle.comparison.proofs.Promise.{sum-law, promised}
-use Rattle.session.specs.declared.record.Party.{Party}
+use Rattle.refusal.specs.declared.Judgement.the-variants.{Accepted}
+use Rattle.record.specs.declared.Party.{Party}
 use Rattle.saying.specs.declared.Said.the-variants.{Message}
-use Rattle.session.specs.Record.{sound}
-use Rattle.session.specs.Open.{fresh}
+use Rattle.record.specs.Record.{sound}
+use Rattle.record.specs.Updates.{fresh}
 use Rattle.saying.specs.Say as saying
-use Rattle.saying.specs.Say.{current, in-field, message, say-judgement, say-reply}
+use Rattle.saying.specs.Say.{current, in-field, message, turn-judgement, say-judgement, say-reply}
 use Rattle.round.specs.Round.{heard, unopened}
 use Rattle.hearing.specs.Hear.{hear-judgement}
-use Rattle.session.proofs.Judging.{refuses, passes}
-use Rattle.session.proofs.Soundness.{sound-of}
-use Rattle.saying.proofs.Laws.{says}
-use Rattle.saying.proofs.Laws.{was-said}
+use Rattle.refusal.proofs.Judging.{refuses, passes}
+use Rattle.saying.proofs.Laws.{says, turn-accepted, was-said}
 use Rattle.hearing.proofs.Hears.{by-messages}
 use Rattle.starred.specs.Starred.{with-73, compared, Compares, Starred}
 
@@ -52,14 +50,14 @@ refused : (q : Party) (totals sheets : List ℕ) → q .n ≡ 5 → q .round ≡
 unfolding heard
 refused q totals sheets n-is round-is e =
     let s = was-said (say-judgement q totals sheets) _ _ e in
-    let whole : sound q ≡ true = sound-of q (says q totals sheets (s .0) .sound) in
-    let enough : sound q && not (long (q .n) with-73) ≡ false = rw (whole, n-is) in
+    let enough : long (q .n) with-73 ≡ true = rw n-is in
+    let turn : turn-judgement q totals sheets (long (q .n) with-73) ≡ Accepted = turn-accepted q totals sheets _ (says q totals sheets (s .0)) enough in
     let own : not (eqb (getD with-73 (q .own - 1) 0) (message q totals (current q sheets))) ≡ false = ap not (eq-eqb _ _ (s .1)) in
     let crooks : unopened (heard (q .n) (q .round) with-73) ≡ true = rw (n-is, round-is, inconsistent) in
-    ap codeOf (by-messages q totals sheets with-73 enough (s .0) ∙ passes _ _ _ own ∙ refuses _ _ _ crooks)
+    ap codeOf (by-messages q totals sheets with-73 turn ∙ passes _ _ _ own ∙ refuses _ _ _ crooks)
 
 said : say-reply (fresh 5 1 1) (0 ∷ 0 ∷ []) ((offset - 12) ∷ replicate 126 0) ≡ Message 12
-unfolding say-judgement judged saying.said fresh sound party listed limit digits over middle current in-field every message masked
+unfolding turn-judgement judged saying.said fresh sound party listed limit digits over middle current in-field every message masked
 said = refl
 
 -- ---- comparisons

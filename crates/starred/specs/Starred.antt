@@ -12,10 +12,10 @@ use Rattle.weights.specs.Rows.{amount-scheme}
 use Rattle.openings.specs.Opening.{opened}
 use Rattle.openings.specs.declared.opening.Opening.the-variants.{Secret}
 use Rattle.comparison.specs.Rounds.{offset}
-use Rattle.comparison.specs.Probe.{Group, Coins, InRange, Probe, dealt, secret, opened-sum, last-polynomial}
-use Rattle.session.specs.declared.record.Party.{Party}
+use Rattle.comparison.specs.Probe.{Group, SheetCoins, SheetInRange, Probe, sheet-polynomials, secret, opened-sum, last-polynomial}
+use Rattle.record.specs.declared.Party.{Party}
 use Rattle.saying.specs.declared.Said.the-variants.{Message}
-use Rattle.session.specs.Open.{fresh}
+use Rattle.record.specs.Updates.{fresh}
 use Rattle.saying.specs.Say.{say-reply}
 use Rattle.hearing.specs.Hear.{hear-judgement}
 
@@ -24,13 +24,13 @@ abbrev pub with-73 : List ℕ
 with-73 = 12 ∷ 21 ∷ 34 ∷ 51 ∷ 73 ∷ []
 
 -- these totals, each with its coefficients, compared with what the dealer draws
-abbrev pub compared : (demand supply : ℕ) (of-demand of-supply : List ℕ) → Coins → Probe
-compared demand supply of-demand of-supply c = record { demand = demand ∷ of-demand; supply = supply ∷ of-supply; sheet = dealt c }
+abbrev pub compared : (demand supply : ℕ) (of-demand of-supply : List ℕ) → SheetCoins → Probe
+compared demand supply of-demand of-supply c = record { demand = demand ∷ of-demand; supply = supply ∷ of-supply; sheet = sheet-polynomials c }
 
 -- wherever these totals are compared under this mask, whatever else is drawn, T and the verdict are these
 abbrev pub Compares : (demand supply mask T v : ℕ) → Type 0
 Compares demand supply mask T v =
-    (t : ℕ) (of-demand of-supply : List ℕ) (c : Coins) → Group p t of-demand → Group p t of-supply → InRange t c → c .mask ≡ mask
+    (t : ℕ) (of-demand of-supply : List ℕ) (c : SheetCoins) → Group p t of-demand → Group p t of-supply → SheetInRange t c → c .mask ≡ mask
     → (opened-sum (compared demand supply of-demand of-supply c) ≡ T) × (secret (last-polynomial (compared demand supply of-demand of-supply c)) ≡ v)
 
 pub record Starred : Type 0 where

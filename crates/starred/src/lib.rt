@@ -1,2 +1,2 @@
-// Document 01's starred lines, as theorems about the definitions that the contracts cite: see
-// proofs/Lines.antt. There is no code here.
+// Document 01's starred lines, as one checked list about the definitions that the contracts cite: see
+// specs/Starred.antt. There is no code here.

@@ -4,7 +4,7 @@
 ghost use Prim.Native.Nat.{_<_};
 use crate::line;
 use fields::P;
-use session::Party;
+use record::Party;
 use worked_party::code;
 use worked_party::record;
 use worked_shares::fill;

@@ -3,11 +3,11 @@
 ghost use Prim.Native.Nat.{_≤_, _<_};
 use crate::line;
 use fields::P;
+use record::Party;
+use record::Reply;
 use refusal::Judgement;
 use saying::Said;
 use session::Answer;
-use session::Party;
-use session::Reply;
 
 // The sums that a record may hold are below it.
 const SUMS: u64 = (1 << 59) + (1 << 33);

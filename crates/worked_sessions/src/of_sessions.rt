@@ -15,9 +15,9 @@ use panel::deal_each;
 use panel::open_all;
 use panel_rounds::hear_all;
 use panel_rounds::say_all;
+use record::Party;
 use search::Bracket;
 use session::Answer;
-use session::Party;
 use sharing::threshold;
 
 // A table has 8 amounts, and so has a party's book of totals. Four prices take at most 3 probes, so a

@@ -15,14 +15,14 @@ use Rattle.refusal.specs.declared.Refusal.the-variants.{NotMonotone}
 use Rattle.ranges.specs.Lists.{every}
 use Rattle.sharing.specs.Scheme.{threshold}
 use Rattle.ranges.specs.Sizes.{party, listed, long}
-use Rattle.ranges.proofs.Loops.{and-left, and-right}
+use Rattle.ranges.proofs.Loops.{and-left}
 use Rattle.ranges.specs.Steps.{in-order, steps, bend}
 use Rattle.ranges.proofs.Bends.{steps-by-bend}
 use Rattle.bid.specs.Table.{most, monotone}
 use Rattle.bid.specs.Split.{split-judgement}
 use Rattle.refusal.proofs.Judging.{refuses, passes, all-passed}
-use Rattle.ranges.proofs.Ranges.{a-party}
-use Rattle.bid.proofs.Laws.{a-list, at-most}
+use Rattle.ranges.proofs.Ranges.{on-list}
+use Rattle.bid.proofs.Laws.{at-most}
 use borrow.Author.Needs.{needs}
 use Rattle.bid.proofs.judge.Statement.{statement}
 use Rattle.bid.proofs.judge.Tie as tie
@@ -69,10 +69,10 @@ stepped c =
 
 -- the numbers are small
 few : (c : tie.Else1) → given1 c .args .k ≤ 1024
-few c = a-list _ (and-right (party _ _) (listed _) (not-false (party _ _ && listed _) (range c))) .1
+few c = on-list _ _ _ (not-false _ (range c)) .prices-most
 
 few-parties : (c : tie.Else1) → given1 c .args .n ≤ 9
-few-parties c = a-party _ _ (and-left (party _ _) (listed _) (not-false (party _ _ && listed _) (range c))) .parties-most
+few-parties c = on-list _ _ _ (not-false _ (range c)) .parties-most
 
 -- the table has two halves
 two-halves : (c : tie.Else2) → length (given2 c .args .table .now) ≡ 2 * given2 c .args .k

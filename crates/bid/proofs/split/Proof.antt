@@ -40,7 +40,7 @@ write-requires : tie.Need-write-requires
 write-requires c κs =
     let h = splits _ _ _ _ _ _ (yes (c .before .before)) in
     let t = c .before .threshold .ensures in
-    (h .coins-long ∙ cc, h .shares-long ∙ sym (h .table-long), omega (arith, h .party .parties-most), omega (arith, h .party .parties-most, h .party .own-most))
+    (h .coins-long ∙ cc, h .shares-long ∙ sym (h .table-long), omega (arith, h .listed .parties-most), omega (arith, h .listed .parties-most, h .listed .own-most))
 
 enum-told-2 : tie.Need-enum-told-2
 enum-told-2 c = search needs

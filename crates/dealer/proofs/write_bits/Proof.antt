@@ -45,40 +45,26 @@ shifted rest mask i e =
     ap (λ (x : ℕ). x / 2) e ∙ div-div-eq-div-mul mask (2 ^ i) 2 ∙ ap (λ (x : ℕ). mask / x) (sym (pow-suc 2 i) ∙ ap (λ (k : ℕ). 2 ^ k) (sym (add-one i)))
 
 taken : (drawn : List ℕ) (t at i point a b : ℕ) → a ≡ b → at ≡ i * t
-    → value bytes (a ∷ take (at + t - at) (drop at drawn)) point ≡ value bytes (b ∷ take t (drop (i * t) drawn)) point
-taken drawn t at i point a b ea e =
-    let j : at + t - at ≡ t = omega arith in
-    ap₂ (λ (k m : ℕ). value bytes (a ∷ take k (drop m drawn)) point) j e ∙ ap (λ (x : ℕ). value bytes (x ∷ take t (drop (i * t) drawn)) point) ea
+    → value bytes (a ∷ take t (drop at drawn)) point ≡ value bytes (b ∷ take t (drop (i * t) drawn)) point
+taken drawn t at i point a b ea e = ap₂ (λ (x m : ℕ). value bytes (x ∷ take t (drop m drawn)) point) ea e
 
 loop-holds : tie.Need-loop-holds Inv-loop μ-loop
 loop-holds c = search needs
 
-add-next : tie.Need-add-next Inv-loop μ-loop
-add-next c = omega (arith, fits c, c .before .before .before .before .good)
-
 cast-bit : tie.Need-cast-bit Inv-loop μ-loop
 cast-bit c = omega (arith, and-mask (c .before .loop .rest) 1)
 
-sub-share-byte : tie.Need-sub-share-byte Inv-loop μ-loop
-sub-share-byte c = search needs
-
-part-share-byte-start : tie.Need-part-share-byte-start Inv-loop μ-loop
-part-share-byte-start c = search needs
-
-part-share-byte-end : tie.Need-part-share-byte-end Inv-loop μ-loop
-part-share-byte-end c = fits c
-
-share-byte-requires : tie.Need-share-byte-requires Inv-loop μ-loop
-share-byte-requires c κs = search needs
-
-cast-shares : tie.Need-cast-shares Inv-loop μ-loop
-cast-shares c = search needs
+share-from-requires : tie.Need-share-from-requires Inv-loop μ-loop
+share-from-requires c κs = fits c
 
 mul-shares : tie.Need-mul-shares Inv-loop μ-loop
 mul-shares c = search needs
 
 slice-write-shares : tie.Need-slice-write-shares Inv-loop μ-loop
 slice-write-shares c = search needs
+
+add-at : tie.Need-add-at Inv-loop μ-loop
+add-at c = omega (arith, fits (c .before), c .before .before .before .before .before .good)
 
 add-i : tie.Need-add-i Inv-loop μ-loop
 add-i c = search needs
@@ -88,17 +74,17 @@ loop-less c = search needs
 
 loop-again : tie.Need-loop-again Inv-loop μ-loop
 loop-again c =
-    let l = c .before .before .before .before .loop in
-    let s = c .before .before .before .before .before .before .before in
+    let l = c .before .before .loop in
+    let s = c .before .before .before .before .before in
     let a = s .args in
-    let h : l .i < 33 = c .before .before .before .loop-test .taken in (
+    let h : l .i < 33 = c .before .loop-test .taken in (
       omega arith,
       omega arith,
       shifted (l .rest) (a .mask) (l .i) (l .inv .2),
       simp length-set (l .inv .3),
-      fill (l .shares) (byte-shares (a .t) (a .point) (mask-bits (a .mask)) (a .drawn .now)) (l .i) (c .before .share-byte .result .0) (omega arith)
+      fill (l .shares) (byte-shares (a .t) (a .point) (mask-bits (a .mask)) (a .drawn .now)) (l .i) (c .share-from .result) (omega arith)
           (rw (length-shares, length-bits) h)
-          (c .before .share-byte .ensures
+          (c .share-from .ensures
           ∙ taken (a .drawn .now) (a .t) (l .at) (l .i) (a .point) _ _ (lowest (l .rest) (a .mask) (l .i) (l .inv .2) ∙ sym (bit-at (a .mask) (l .i) h)) (l .inv .1)
           ∙ sym (share-at (a .t) (a .point) (mask-bits (a .mask)) (a .drawn .now) (l .i) (rw length-bits h)))
           (l .inv .4),
@@ -122,15 +108,11 @@ write-bits-spec =
     Inv-loop
     μ-loop
     loop-holds
-    add-next
     cast-bit
-    sub-share-byte
-    part-share-byte-start
-    part-share-byte-end
-    share-byte-requires
-    cast-shares
+    share-from-requires
     mul-shares
     slice-write-shares
+    add-at
     add-i
     loop-less
     loop-again

@@ -1,24 +1,29 @@
 -- `clockivy_answer` meets its contract: the slice is no record, or the call is `answer` on what it holds. Assumes nothing.
 use mathlib.Core.Path.{_≡_, sym, ap, _∙_}
+use mathlib.Core.Bool.{false, not}
 use Prim.Native.Nat.{ℕ}
 use mathlib.Core.List.{List}
-use lib.ListN.{length}
-use Rattle.session.specs.declared.record.Answer.{Answer}
+use Rattle.ranges.specs.Sizes.{long}
+use Rattle.session.specs.declared.reply.Answer.{Answer}
 use Rattle.session.specs.Answer.{answer-reply, answer-number, cleared-index, cleared-probes}
-use Rattle.exchange.specs.Record.{party-of}
 use Rattle.exchange.specs.Calls.{answer-code, answer-index, answer-probes}
-use Rattle.exchange.proofs.Judging.{with-record, no-record}
+use Rattle.record_words.specs.Words.{record-size, party-of}
+use Rattle.record_words.proofs.Lent.{with-record, no-record}
 use borrow.Author.Needs.{needs}
 use Rattle.exchange.proofs.clockivy_answer.Statement.{statement}
 use Rattle.exchange.proofs.clockivy_answer.Tie as tie
+
+is-record-requires : tie.Need-is-record-requires
+is-record-requires c κs = search needs
 
 number-requires : tie.Need-number-requires
 number-requires c κs = search needs
 
 returns : tie.Need-returns
 returns c =
-    let words = c .before .before .before .args .words .now in
-    let no = c .before .if1 .taken in
+    let j = c .before .before in
+    let words = j .before .before .args .words .now in
+    let no = ap not (sym (j .is-record .ensures)) ∙ c .before .if1 .taken in
     (c .number .ensures ∙ sym (no-record words _ _ no), sym (no-record words _ _ no), sym (no-record words _ _ no))
 
 read-requires : tie.Need-read-requires
@@ -39,23 +44,23 @@ number-requires-2 c κs = search needs
 -- where `answer` has been called
 module _ (c : tie.After-answer) where
   abbrev words : List ℕ
-  words = c .before .before .before .before .args .words .now
+  words = c .before .before .before .before .before .args .words .now
 
-  ten : length words ≡ 10
-  ten = c .before .before .if1 .left
+  lent : not (long record-size words) ≡ false
+  lent = ap not (sym (c .before .before .before .is-record .ensures)) ∙ c .before .before .if1 .left
 
   -- the answer, as it was matched
   given : (a : Answer) → c .answer .result ≡ a → answer-reply (party-of words) ≡ a
   given a e = sym (c .answer .ensures ∙ ap answer-reply (c .before .read .ensures)) ∙ e
 
   number : (a : Answer) → c .answer .result ≡ a → answer-code words ≡ answer-number a
-  number a e = with-record words _ _ ten ∙ ap answer-number (given a e)
+  number a e = with-record words _ _ lent ∙ ap answer-number (given a e)
 
   index : (a : Answer) (old : ℕ) → c .answer .result ≡ a → answer-index words old ≡ cleared-index a old
-  index a old e = with-record words _ _ ten ∙ ap (λ (r : Answer). cleared-index r old) (given a e)
+  index a old e = with-record words _ _ lent ∙ ap (λ (r : Answer). cleared-index r old) (given a e)
 
   made : (a : Answer) (old : ℕ) → c .answer .result ≡ a → answer-probes words old ≡ cleared-probes a old
-  made a old e = with-record words _ _ ten ∙ ap (λ (r : Answer). cleared-probes r old) (given a e)
+  made a old e = with-record words _ _ lent ∙ ap (λ (r : Answer). cleared-probes r old) (given a e)
 
 returns-2 : tie.Need-returns-2
 returns-2 c =
@@ -73,6 +78,7 @@ pub clockivy-answer-spec : {M : Type 1} → statement M
 clockivy-answer-spec =
     tie.close
     (tie.spec
+    is-record-requires
     number-requires
     returns
     read-requires

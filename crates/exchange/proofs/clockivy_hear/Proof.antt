@@ -1,26 +1,43 @@
 -- `clockivy_hear` meets its contract: the slice is no record, or the call is `hear` on what it holds. Assumes nothing.
 use mathlib.Core.Path.{_≡_, sym, ap, _∙_}
+use mathlib.Core.Bool.{not}
 use Prim.Native.Nat.{ℕ}
 use mathlib.Core.List.{List}
-use lib.ListN.{length}
 use Rattle.refusal.specs.Refusal.{codeOf}
-use Rattle.session.specs.declared.record.Party.{Party}
-use Rattle.session.specs.declared.record.Reply.{Reply}
+use Rattle.record.specs.declared.Party.{Party}
+use Rattle.record.specs.declared.Reply.{Reply}
 use Rattle.hearing.specs.Hear.{hear-reply}
-use Rattle.exchange.specs.Record.{party-of, stored}
-use Rattle.exchange.proofs.Judging.{with-record, no-record}
+use Rattle.record_words.specs.Words.{party-of, on-record, number-on, stored}
+use Rattle.record_words.proofs.Lent.{no-record}
 use borrow.Author.Needs.{needs}
 use Rattle.exchange.proofs.clockivy_hear.Statement.{statement}
 use Rattle.exchange.proofs.clockivy_hear.Tie as tie
 
+is-record-requires : tie.Need-is-record-requires
+is-record-requires c κs = search needs
+
 number-requires : tie.Need-number-requires
 number-requires c κs = search needs
 
+same-length : tie.Need-same-length
+same-length c = search needs
+
+-- what is lent, once it is known whether there is a record
+module _ (c : tie.After-is-record) where
+  abbrev start : tie.Start
+  start = c .before .before .before .before .before .before
+
+  abbrev words : List ℕ
+  words = start .args .words .now
+
+  abbrev reply : Party → Reply
+  reply q = hear-reply q (start .args .totals .now) (start .args .sheets .now) (start .args .messages .now)
+
 returns : tie.Need-returns
 returns c =
-    let words = c .before .before .before .before .before .before .args .words .now in
-    let no = c .before .if1 .taken in
-    (c .number .ensures ∙ sym (no-record words _ _ no), sym (no-record words _ _ no))
+    let j = c .before .before in
+    let no = ap not (sym (j .is-record .ensures)) ∙ c .before .if1 .taken in
+    (c .number .ensures ∙ sym (no-record (words j) _ _ no), sym (no-record (words j) _ _ no))
 
 read-requires : tie.Need-read-requires
 read-requires c κs = search needs
@@ -31,48 +48,30 @@ hear-requires c κs = search needs
 store-requires : tie.Need-store-requires
 store-requires c κs = search needs
 
-same-length : tie.Need-same-length
-same-length c = search needs
-
--- where `hear` has been called
-module _ (c : tie.After-hear) where
-  abbrev start : tie.Start
-  start = c .before .before .before .before .before .before .before .before
-
-  abbrev words : List ℕ
-  words = start .args .words .now
-
-  abbrev totals : List ℕ
-  totals = start .args .totals .now
-
-  abbrev sheets : List ℕ
-  sheets = start .args .sheets .now
-
-  abbrev messages : List ℕ
-  messages = start .args .messages .now
-
-  ten : length words ≡ 10
-  ten = c .before .before .before .if1 .left
-
-  given : c .hear .result ≡ hear-reply (party-of words) totals sheets messages
-  given = c .hear .ensures ∙ ap (λ (q : Party). hear-reply q totals sheets messages) (c .before .read .ensures)
+same-length-2 : tie.Need-same-length-2
+same-length-2 c = search needs
 
 returns-2 : tie.Need-returns-2
 returns-2 c =
-    let d = c .before .before .before .before in
-    let s = c .before .before .store .ensures in (
-      s .0 ∙ ap (λ (r : Reply). codeOf (r .judgement)) (given d) ∙ sym (with-record (words d) _ _ (ten d)),
-      s .1 ∙ ap (λ (r : Reply). stored r (words d)) (given d) ∙ sym (with-record (words d) _ _ (ten d)),
+    let h = c .before .before .before .before in
+    let r = h .before in
+    let j = r .before .before .before in
+    let s = c .before .before .store .ensures in
+    let given : h .hear .result ≡ reply j (party-of (words j)) = h .hear .ensures ∙ ap (reply j) (r .read .ensures) in (
+      s .0 ∙ ap (λ (r : Reply). number-on (words j) (codeOf (r .judgement))) given,
+      s .1 ∙ ap (λ (r : Reply). on-record (words j) (stored r (words j)) (words j)) given,
     )
 
 pub clockivy-hear-spec : {M : Type 1} → statement M
 clockivy-hear-spec =
     tie.close
     (tie.spec
+    is-record-requires
     number-requires
+    same-length
     returns
     read-requires
     hear-requires
     store-requires
-    same-length
+    same-length-2
     returns-2)

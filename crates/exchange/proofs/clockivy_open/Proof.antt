@@ -1,12 +1,13 @@
 -- `clockivy_open` meets its contract: the ranges, then the lengths, then `open`. Assumes nothing.
-use mathlib.Core.Path.{_≡_, sym, ap, _∙_}
+use mathlib.Core.Path.{sym, ap, _∙_}
 use mathlib.Core.Bool.{not}
 use Rattle.refusal.specs.Refusal.{codeOf}
 use Rattle.refusal.proofs.Judging.{kept-old}
-use Rattle.session.specs.declared.record.Reply.{Reply}
-use Rattle.session.proofs.Judging.{reply-judgement}
-use Rattle.exchange.specs.Record.{stored}
-use Rattle.exchange.proofs.Judging.{with-record, no-record, left-alone, off-list, first-refused, opens-nothing, opens}
+use Rattle.record.specs.declared.Reply.{Reply}
+use Rattle.record.proofs.Replies.{reply-judgement}
+use Rattle.record_words.specs.Words.{on-record, stored}
+use Rattle.record_words.proofs.Lent.{with-record, no-record, left-alone}
+use Rattle.exchange.proofs.Opening.{off-list, first-refused, opens-nothing, opens}
 use borrow.Author.Needs.{needs}
 use Rattle.exchange.proofs.clockivy_open.Statement.{statement}
 use Rattle.exchange.proofs.clockivy_open.Tie as tie
@@ -28,16 +29,23 @@ returns c =
       sym (left-alone words _ _ (kept-old _ _ _ _ (reply-judgement _ _ _ ∙ j))),
     )
 
+is-record-requires : tie.Need-is-record-requires
+is-record-requires c κs = search needs
+
 number-requires-2 : tie.Need-number-requires-2
 number-requires-2 c κs = search needs
 
+same-length : tie.Need-same-length
+same-length c = search needs
+
 returns-2 : tie.Need-returns-2
 returns-2 c =
-    let e = c .before .before in
+    let i = c .before .before in
+    let e = i .before .before in
     let o = e .before in
     let a = o .before .before .before .args in
     let words = a .words .now in
-    let no = c .before .if2 .taken in
+    let no = ap not (sym (i .is-record .ensures)) ∙ c .before .if2 .taken in
     let j = opens-nothing (a .n) (a .own) (a .k) (a .totals .now) words (ap not (sym (o .on-list .ensures)) ∙ e .if1 .left) no in
     (c .number2 .ensures ∙ sym (ap codeOf j), sym (no-record words _ _ no), sym (no-record words _ _ no))
 
@@ -47,24 +55,25 @@ open-requires c κs = search needs
 store-requires : tie.Need-store-requires
 store-requires c κs = search needs
 
-same-length : tie.Need-same-length
-same-length c = search needs
-
 same-length-2 : tie.Need-same-length-2
 same-length-2 c = search needs
+
+same-length-3 : tie.Need-same-length-3
+same-length-3 c = search needs
 
 returns-3 : tie.Need-returns-3
 returns-3 c =
     let d = c .before .before .before .before .before .before in
-    let e = d .before .before in
-    let a = e .before .before .before .before .before .args in
+    let i = d .before .before .before in
+    let a = i .before .before .before .before .before .before .args in
     let words = a .words .now in
-    let ten = e .if2 .left in
+    let lent = ap not (sym (i .is-record .ensures)) ∙ d .before .before .if2 .left in
     let given = d .«open» .ensures in
     let s = c .before .before .store .ensures in (
-      s .0 ∙ ap (λ (r : Reply). codeOf (r .judgement)) (given .0) ∙ ap codeOf (reply-judgement _ _ _ ∙ sym (opens (a .n) (a .own) (a .k) (a .totals .now) words ten)),
-      given .1 ∙ sym (with-record words _ _ ten),
-      s .1 ∙ ap (λ (r : Reply). stored r words) (given .0) ∙ sym (with-record words _ _ ten),
+      s .0 ∙ with-record words _ _ lent ∙ ap (λ (r : Reply). codeOf (r .judgement)) (given .0)
+          ∙ ap codeOf (reply-judgement _ _ _ ∙ sym (opens (a .n) (a .own) (a .k) (a .totals .now) words lent)),
+      given .1 ∙ sym (with-record words _ _ lent),
+      s .1 ∙ ap (λ (r : Reply). on-record words (stored r words) words) (given .0),
     )
 
 pub clockivy-open-spec : {M : Type 1} → statement M
@@ -74,10 +83,12 @@ clockivy-open-spec =
     on-list-requires
     number-requires
     returns
+    is-record-requires
     number-requires-2
+    same-length
     returns-2
     open-requires
     store-requires
-    same-length
     same-length-2
+    same-length-3
     returns-3)

@@ -1,25 +1,30 @@
 -- `clockivy_say` meets its contract: the slice is no record, or the call is `say` on what it holds. Assumes nothing.
 use mathlib.Core.Path.{_≡_, sym, ap, _∙_}
+use mathlib.Core.Bool.{false, not}
 use Prim.Native.Nat.{ℕ}
 use mathlib.Core.List.{List}
-use lib.ListN.{length}
-use Rattle.session.specs.declared.record.Party.{Party}
+use Rattle.ranges.specs.Sizes.{long}
+use Rattle.record.specs.declared.Party.{Party}
 use Rattle.saying.specs.declared.Said.{Said}
 use Rattle.saying.specs.Say.{say-reply, said-number, said-word}
-use Rattle.exchange.specs.Record.{party-of}
 use Rattle.exchange.specs.Calls.{say-code, say-message}
-use Rattle.exchange.proofs.Judging.{with-record, no-record}
+use Rattle.record_words.specs.Words.{record-size, party-of}
+use Rattle.record_words.proofs.Lent.{with-record, no-record}
 use borrow.Author.Needs.{needs}
 use Rattle.exchange.proofs.clockivy_say.Statement.{statement}
 use Rattle.exchange.proofs.clockivy_say.Tie as tie
+
+is-record-requires : tie.Need-is-record-requires
+is-record-requires c κs = search needs
 
 number-requires : tie.Need-number-requires
 number-requires c κs = search needs
 
 returns : tie.Need-returns
 returns c =
-    let words = c .before .before .before .before .before .args .words .now in
-    let no = c .before .if1 .taken in
+    let j = c .before .before in
+    let words = j .before .before .before .before .args .words .now in
+    let no = ap not (sym (j .is-record .ensures)) ∙ c .before .if1 .taken in
     (c .number .ensures ∙ sym (no-record words _ _ no), sym (no-record words _ _ no))
 
 read-requires : tie.Need-read-requires
@@ -40,7 +45,7 @@ number-requires-2 c κs = search needs
 -- where `say` has been called
 module _ (c : tie.After-say) where
   abbrev start : tie.Start
-  start = c .before .before .before .before .before .before
+  start = c .before .before .before .before .before .before .before
 
   abbrev words : List ℕ
   words = start .args .words .now
@@ -51,18 +56,18 @@ module _ (c : tie.After-say) where
   abbrev sheets : List ℕ
   sheets = start .args .sheets .now
 
-  ten : length words ≡ 10
-  ten = c .before .before .if1 .left
+  lent : not (long record-size words) ≡ false
+  lent = ap not (sym (c .before .before .before .is-record .ensures)) ∙ c .before .before .if1 .left
 
   -- what was said, as it was matched
   given : (s : Said) → c .say .result ≡ s → say-reply (party-of words) totals sheets ≡ s
   given s e = sym (c .say .ensures ∙ ap (λ (q : Party). say-reply q totals sheets) (c .before .read .ensures)) ∙ e
 
   number : (s : Said) → c .say .result ≡ s → say-code words totals sheets ≡ said-number s
-  number s e = with-record words _ _ ten ∙ ap said-number (given s e)
+  number s e = with-record words _ _ lent ∙ ap said-number (given s e)
 
   word : (s : Said) (old : ℕ) → c .say .result ≡ s → say-message words totals sheets old ≡ said-word s old
-  word s old e = with-record words _ _ ten ∙ ap (λ (r : Said). said-word r old) (given s e)
+  word s old e = with-record words _ _ lent ∙ ap (λ (r : Said). said-word r old) (given s e)
 
 returns-2 : tie.Need-returns-2
 returns-2 c =
@@ -79,6 +84,7 @@ pub clockivy-say-spec : {M : Type 1} → statement M
 clockivy-say-spec =
     tie.close
     (tie.spec
+    is-record-requires
     number-requires
     returns
     read-requires

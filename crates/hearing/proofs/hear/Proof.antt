@@ -1,6 +1,6 @@
--- `hear` meets its contract: what `say` refuses comes first, and each later return answers one test of the messages. Assumes nothing.
+-- `hear` meets its contract: what `turn` refuses comes first, and each later return answers one test of the messages. Assumes nothing.
 use mathlib.Core.Path.{_≡_, sym, ap, ap₂, _∙_}
-use mathlib.Core.Bool.{Bool, true, false, not, _&&_}
+use mathlib.Core.Bool.{Bool, true, false, not}
 use mathlib.Core.List.{List}
 use Prim.Native.Nat.{ℕ, _-_}
 use native.Mathlib.Omega.{arith}
@@ -10,33 +10,28 @@ use borrow.Author.Tests.{eqb-true, eq-eqb, ne-eqb}
 use Rattle.refusal.specs.Judging.{judged}
 use Rattle.refusal.specs.declared.Judgement.the-variants.{Accepted}
 use Rattle.ranges.specs.Sizes.{long}
-use Rattle.session.specs.declared.record.Party.{Party}
+use Rattle.record.specs.declared.Party.{Party}
 use Rattle.round.specs.declared.Heard.{Heard}
-use Rattle.session.specs.declared.record.Reply.{Reply}
-use Rattle.session.specs.Record.{sound}
-use Rattle.saying.specs.Say.{say-judgement, message, current}
+use Rattle.record.specs.declared.Reply.{Reply}
+use Rattle.saying.specs.Say.{turn-judgement, message, current}
 use Rattle.round.specs.Round.{heard, unopened, sum-outside, verdict-outside}
 use Rattle.hearing.specs.Hear.{hear-judgement, after}
-use Rattle.session.proofs.Judging.{refuses, passes, all-passed, next-accepted, next-refused}
-use Rattle.session.proofs.Soundness.{sound-of, probing}
-use Rattle.session.proofs.Words.{all-below-of}
+use Rattle.refusal.proofs.Judging.{refuses, passes, all-passed}
+use Rattle.record.proofs.Replies.{next-accepted, next-refused}
+use Rattle.record.proofs.Soundness.{sound-of, probing}
+use Rattle.ranges.proofs.Ranges.{is-below}
 use Rattle.saying.proofs.Sheets.{current-there, current-long}
-use Rattle.saying.proofs.Laws.{Says, says}
+use Rattle.saying.proofs.Laws.{Says, turns, was-said, was-refused}
 use Rattle.round.proofs.Opened.{heard-possible}
-use Rattle.hearing.proofs.Hears.{of-messages, short-of-messages, not-said, by-messages, enough-messages}
-use Rattle.saying.proofs.Laws.{was-said, was-refused}
+use Rattle.hearing.proofs.Hears.{of-messages, not-said, by-messages}
 use borrow.Author.Needs.{needs}
 use Rattle.hearing.proofs.hear.Statement.{statement}
 use Rattle.hearing.proofs.hear.Tie as tie
 
--- the record is unsound, or there are as many messages as parties
-enough : (c : tie.Else1) → sound (c .before .before .before .before .before .before .args .q) && not (long (c .before .before .before .before .before .before .args .q .n) (c .before .before .before .before .before .before .args .messages .now)) ≡ false
-enough c = rw (sym (c .before .before .sound .ensures)) (c .if1 .left)
-
 -- where the party has said its own message
 module _ (c : tie.After-known-told) where
   abbrev start : tie.Start
-  start = c .before .before .before .before .before .before .before .before .before .before
+  start = c .before .before .before .before .before .before .before .before
 
   abbrev q : Party
   q = start .args .q
@@ -50,17 +45,17 @@ module _ (c : tie.After-known-told) where
   abbrev messages : List ℕ
   messages = start .args .messages .now
 
-  own-said : (say-judgement q totals sheets ≡ Accepted) × (c .before .word .given .0 .0 ≡ message q totals (current q sheets))
-  own-said = was-said (say-judgement q totals sheets) _ _ (sym (c .before .before .before .say .ensures) ∙ c .before .word .given .1)
+  own-said : (turn-judgement q totals sheets (long (q .n) messages) ≡ Accepted) × (c .before .word .given .0 .0 ≡ message q totals (current q sheets))
+  own-said = was-said (turn-judgement q totals sheets (long (q .n) messages)) _ _ (sym (c .before .before .before .turn .ensures) ∙ c .before .word .given .1)
 
   facts : Says q totals sheets
-  facts = says q totals sheets (own-said .0)
+  facts = turns q totals sheets _ (own-said .0) .0
 
   many : length messages ≡ q .n
-  many = eqb-true (length messages) (q .n) (enough-messages (sound q) _ (sound-of q (facts .sound)) (enough (c .before .before .before .before)))
+  many = eqb-true (length messages) (q .n) (turns q totals sheets _ (own-said .0) .1)
 
   listening : hear-judgement q totals sheets messages ≡ judged (of-messages q totals sheets messages)
-  listening = by-messages q totals sheets messages (enough (c .before .before .before .before)) (own-said .0)
+  listening = by-messages q totals sheets messages (own-said .0)
 
 -- where the messages have been opened
 module _ (c : tie.After-open-round) where
@@ -68,38 +63,26 @@ module _ (c : tie.After-open-round) where
   own-known = c .before .before .before
 
   agreed : not (eqb (getD (messages own-known) (q own-known .own - 1) 0) (message (q own-known) (totals own-known) (current (q own-known) (sheets own-known)))) ≡ false
-  agreed = ap not (eq-eqb _ _ (c .before .if2 .left ∙ own-said own-known .1))
+  agreed = ap not (eq-eqb _ _ (c .before .if1 .left ∙ own-said own-known .1))
 
   -- what a test of the opening gave
   seen : (test : Heard → Bool) (r b : Bool) → r ≡ test (c .open-round .result) → r ≡ b → test (heard (q own-known .n) (q own-known .round) (messages own-known)) ≡ b
   seen test r b e f = ap test (sym (c .open-round .ensures)) ∙ sym e ∙ f
 
-straight : (c : tie.Else3) → unopened (heard (q (own-known (c .before .before)) .n) (q (own-known (c .before .before)) .round) (messages (own-known (c .before .before)))) ≡ false
-straight c = seen (c .before .before) unopened _ false (c .before .unopened .ensures) (c .if3 .left)
+straight : (c : tie.Else2) → unopened (heard (q (own-known (c .before .before)) .n) (q (own-known (c .before .before)) .round) (messages (own-known (c .before .before)))) ≡ false
+straight c = seen (c .before .before) unopened _ false (c .before .unopened .ensures) (c .if2 .left)
 
-tame : (c : tie.Else4) → sum-outside (heard (q (own-known (c .before .before .before .before)) .n) (q (own-known (c .before .before .before .before)) .round) (messages (own-known (c .before .before .before .before)))) ≡ false
-tame c = seen (c .before .before .before .before) sum-outside _ false (c .before .sum-outside .ensures) (c .if4 .left)
+tame : (c : tie.Else3) → sum-outside (heard (q (own-known (c .before .before .before .before)) .n) (q (own-known (c .before .before .before .before)) .round) (messages (own-known (c .before .before .before .before)))) ≡ false
+tame c = seen (c .before .before .before .before) sum-outside _ false (c .before .sum-outside .ensures) (c .if3 .left)
 
-whole : (c : tie.Else5) → verdict-outside (heard (q (own-known (c .before .before .before .before .before .before)) .n) (q (own-known (c .before .before .before .before .before .before)) .round) (messages (own-known (c .before .before .before .before .before .before)))) ≡ false
-whole c = seen (c .before .before .before .before .before .before) verdict-outside _ false (c .before .verdict-outside .ensures) (c .if5 .left)
+whole : (c : tie.Else4) → verdict-outside (heard (q (own-known (c .before .before .before .before .before .before)) .n) (q (own-known (c .before .before .before .before .before .before)) .round) (messages (own-known (c .before .before .before .before .before .before)))) ≡ false
+whole c = seen (c .before .before .before .before .before .before) verdict-outside _ false (c .before .verdict-outside .ensures) (c .if4 .left)
 
 abbrev accepted : Party → Reply
 accepted next = record { judgement = Accepted; party = next }
 
-sound-requires : tie.Need-sound-requires
-sound-requires c κs = search needs
-
-refused-requires : tie.Need-refused-requires
-refused-requires c κs = search needs
-
-returns : tie.Need-returns
-returns r =
-    let c = r .before in
-    let a = c .before .before .before .before .before .before .args in
-    r .refused .ensures ∙ sym (next-refused _ _ _ _ (short-of-messages (a .q) (a .totals .now) (a .sheets .now) (a .messages .now) (rw (sym (c .before .before .sound .ensures)) (c .if1 .taken))))
-
-say-requires : tie.Need-say-requires
-say-requires c κs = search needs
+turn-requires : tie.Need-turn-requires
+turn-requires c κs = search needs
 
 enum-known-word : tie.Need-enum-known-word
 enum-known-word c = search needs
@@ -107,19 +90,19 @@ enum-known-word c = search needs
 enum-known-why : tie.Need-enum-known-why
 enum-known-why c = search needs
 
-refused-requires-2 : tie.Need-refused-requires-2
-refused-requires-2 c κs = search needs
+refused-requires : tie.Need-refused-requires
+refused-requires c κs = search needs
 
-returns-2 : tie.Need-returns-2
-returns-2 r =
+returns : tie.Need-returns
+returns r =
     let c = r .before in
-    let e = c .before .before .before .before in
-    let a = e .before .before .before .before .before .before .args in
-    r .refused2 .ensures
+    let t = c .before .before .before in
+    let a = t .before .before .before .before .before .args in
+    r .refused .ensures
     ∙ sym
     (next-refused _ _ _ _
-    (not-said (a .q) (a .totals .now) (a .sheets .now) (a .messages .now) (enough e) _
-    (was-refused (say-judgement (a .q) (a .totals .now) (a .sheets .now)) _ _ (sym (c .before .before .before .say .ensures) ∙ c .before .why .given .1))))
+    (not-said (a .q) (a .totals .now) (a .sheets .now) (a .messages .now) _
+    (was-refused (turn-judgement (a .q) (a .totals .now) (a .sheets .now) (long (a .q .n) (a .messages .now))) _ _ (sym (t .turn .ensures) ∙ c .before .why .given .1))))
 
 sub-own : tie.Need-sub-own
 sub-own c = facts c .sound .listed .own-least
@@ -132,14 +115,14 @@ shared-slice-read-word c =
     let l = facts (c .before) .sound .listed in
     omega (arith, many (c .before), l .own-least, l .own-most)
 
-refused-requires-3 : tie.Need-refused-requires-3
-refused-requires-3 c κs = search needs
+refused-requires-2 : tie.Need-refused-requires-2
+refused-requires-2 c κs = search needs
 
-returns-3 : tie.Need-returns-3
-returns-3 r =
+returns-2 : tie.Need-returns-2
+returns-2 r =
     let c = r .before in
     let k = c .before .before in
-    r .refused3 .ensures ∙ sym (next-refused _ _ _ _ (listening k ∙ refuses _ _ _ (ap not (ne-eqb _ _ (λ e. c .if2 .taken (e ∙ sym (own-said k .1)))))))
+    r .refused2 .ensures ∙ sym (next-refused _ _ _ _ (listening k ∙ refuses _ _ _ (ap not (ne-eqb _ _ (λ e. c .if1 .taken (e ∙ sym (own-said k .1)))))))
 
 open-round-requires : tie.Need-open-round-requires
 open-round-requires c κs = search needs
@@ -147,17 +130,32 @@ open-round-requires c κs = search needs
 unopened-requires : tie.Need-unopened-requires
 unopened-requires c κs = search needs
 
+refused-requires-3 : tie.Need-refused-requires-3
+refused-requires-3 c κs = search needs
+
+returns-3 : tie.Need-returns-3
+returns-3 r =
+    let c = r .before in
+    let h = c .before .before in
+    r .refused3 .ensures ∙ sym (next-refused _ _ _ _ (listening (own-known h) ∙ passes _ _ _ (agreed h) ∙ refuses _ _ _ (seen h unopened _ true (c .before .unopened .ensures) (c .if2 .taken))))
+
+sum-outside-requires : tie.Need-sum-outside-requires
+sum-outside-requires c κs = search needs
+
 refused-requires-4 : tie.Need-refused-requires-4
 refused-requires-4 c κs = search needs
 
 returns-4 : tie.Need-returns-4
 returns-4 r =
     let c = r .before in
-    let h = c .before .before in
-    r .refused4 .ensures ∙ sym (next-refused _ _ _ _ (listening (own-known h) ∙ passes _ _ _ (agreed h) ∙ refuses _ _ _ (seen h unopened _ true (c .before .unopened .ensures) (c .if3 .taken))))
+    let h = c .before .before .before .before in
+    r .refused4 .ensures
+    ∙ sym
+    (next-refused _ _ _ _
+    (listening (own-known h) ∙ passes _ _ _ (agreed h) ∙ passes _ _ _ (straight (c .before .before)) ∙ refuses _ _ _ (seen h sum-outside _ true (c .before .sum-outside .ensures) (c .if3 .taken))))
 
-sum-outside-requires : tie.Need-sum-outside-requires
-sum-outside-requires c κs = search needs
+verdict-outside-requires : tie.Need-verdict-outside-requires
+verdict-outside-requires c κs = search needs
 
 refused-requires-5 : tie.Need-refused-requires-5
 refused-requires-5 c κs = search needs
@@ -165,27 +163,12 @@ refused-requires-5 c κs = search needs
 returns-5 : tie.Need-returns-5
 returns-5 r =
     let c = r .before in
-    let h = c .before .before .before .before in
+    let h = c .before .before .before .before .before .before in
     r .refused5 .ensures
     ∙ sym
     (next-refused _ _ _ _
-    (listening (own-known h) ∙ passes _ _ _ (agreed h) ∙ passes _ _ _ (straight (c .before .before)) ∙ refuses _ _ _ (seen h sum-outside _ true (c .before .sum-outside .ensures) (c .if4 .taken))))
-
-verdict-outside-requires : tie.Need-verdict-outside-requires
-verdict-outside-requires c κs = search needs
-
-refused-requires-6 : tie.Need-refused-requires-6
-refused-requires-6 c κs = search needs
-
-returns-6 : tie.Need-returns-6
-returns-6 r =
-    let c = r .before in
-    let h = c .before .before .before .before .before .before in
-    r .refused6 .ensures
-    ∙ sym
-    (next-refused _ _ _ _
     (listening (own-known h) ∙ passes _ _ _ (agreed h) ∙ passes _ _ _ (straight (c .before .before .before .before)) ∙ passes _ _ _ (tame (c .before .before))
-    ∙ refuses _ _ _ (seen h verdict-outside _ true (c .before .verdict-outside .ensures) (c .if5 .taken))))
+    ∙ refuses _ _ _ (seen h verdict-outside _ true (c .before .verdict-outside .ensures) (c .if4 .taken))))
 
 current-requires : tie.Need-current-requires
 current-requires c κs =
@@ -200,15 +183,15 @@ after-requires c κs =
     let f = facts k in (
       sound-of (q k) (f .sound),
       ap length (c .current .ensures) ∙ current-long (q k) (sheets k) (probing (q k) (f .sound) (f .going)) (f .sheets-long),
-      rw (c .current .ensures) (all-below-of 256 (drop 1 (current (q k) (sheets k))) (f .in-field .bytes)),
+      rw (c .current .ensures) (is-below 256 (drop 1 (current (q k) (sheets k))) (f .in-field .bytes)),
       rw (h .open-round .ensures) (heard-possible (q k .n) (q k .round) (messages k) (f .sound .round-least)),
     )
 
 accepted-requires : tie.Need-accepted-requires
 accepted-requires c κs = search needs
 
-returns-7 : tie.Need-returns-7
-returns-7 r =
+returns-6 : tie.Need-returns-6
+returns-6 r =
     let c = r .before in
     let h = c .before .before .before .before .before .before .before .before in
     let k = own-known h in
@@ -223,30 +206,27 @@ pub hear-spec : {M : Type 1} → statement M
 hear-spec =
     tie.close
     (tie.spec
-    sound-requires
-    refused-requires
-    returns
-    say-requires
+    turn-requires
     enum-known-word
     enum-known-why
-    refused-requires-2
-    returns-2
+    refused-requires
+    returns
     sub-own
     mul-word
     shared-slice-read-word
-    refused-requires-3
-    returns-3
+    refused-requires-2
+    returns-2
     open-round-requires
     unopened-requires
+    refused-requires-3
+    returns-3
+    sum-outside-requires
     refused-requires-4
     returns-4
-    sum-outside-requires
+    verdict-outside-requires
     refused-requires-5
     returns-5
-    verdict-outside-requires
-    refused-requires-6
-    returns-6
     current-requires
     after-requires
     accepted-requires
-    returns-7)
+    returns-6)

@@ -8,14 +8,14 @@ use Rattle.comparison.specs.Local.{on-shares}
 use Rattle.comparison.specs.Rounds.{first-carry}
 use Rattle.search.specs.declared.Bracket.{Bracket}
 use Rattle.search.specs.Bracket.{step}
-use Rattle.session.specs.declared.record.Party.{Party}
+use Rattle.record.specs.declared.Party.{Party}
 use Rattle.round.specs.declared.Heard.{Heard}
 use Rattle.round.specs.declared.Heard.the-variants.{Sum, Verdict}
-use Rattle.session.specs.Record.{bracket}
+use Rattle.record.specs.Record.{bracket}
 use Rattle.saying.specs.Say.{bit-share}
-use Rattle.session.specs.Updates.{in-round, decided}
+use Rattle.record.specs.Updates.{in-round, decided}
 use Rattle.hearing.specs.Hear.{after}
-use Rattle.session.proofs.Soundness.{sound-facts, limit-most}
+use Rattle.record.proofs.Soundness.{sound-facts, limit-most}
 use borrow.Author.Needs.{needs}
 use Rattle.hearing.proofs.after.after.Statement.{statement}
 use Rattle.hearing.proofs.after.after.Tie as tie

@@ -1,7 +1,7 @@
 -- `decided` meets its contract. Assumes nothing.
 use mathlib.Core.Path.{refl}
 use borrow.Author.Needs.{needs}
-use Rattle.session.specs.Updates.{decided}
+use Rattle.record.specs.Updates.{decided}
 use Rattle.hearing.proofs.after.decided.Statement.{statement}
 use Rattle.hearing.proofs.after.decided.Tie as tie
 

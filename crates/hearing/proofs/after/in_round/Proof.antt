@@ -1,7 +1,7 @@
 -- `in_round` meets its contract. Assumes nothing.
 use mathlib.Core.Path.{refl}
 use borrow.Author.Needs.{needs}
-use Rattle.session.specs.Updates.{in-round}
+use Rattle.record.specs.Updates.{in-round}
 use Rattle.hearing.proofs.after.in_round.Statement.{statement}
 use Rattle.hearing.proofs.after.in_round.Tie as tie
 

@@ -5,10 +5,10 @@ use Prim.Native.Nat.{ℕ, _+_}
 use Rattle.fields.specs.Byte.{bytes}
 use Rattle.comparison.specs.Local.{on-shares}
 use Rattle.comparison.specs.Rounds.{next-carry}
-use Rattle.session.specs.declared.record.Party.{Party}
+use Rattle.record.specs.declared.Party.{Party}
 use Rattle.round.specs.declared.Heard.the-variants.{Factors}
 use Rattle.saying.specs.Say.{triple-share}
-use Rattle.session.specs.Updates.{in-round}
+use Rattle.record.specs.Updates.{in-round}
 use Rattle.hearing.specs.Hear.{after}
 use borrow.Author.Needs.{needs}
 use Rattle.hearing.proofs.after.multiplied.Statement.{statement}

@@ -45,12 +45,12 @@ use Rattle.refusal.proofs.Judgement as J
 use Rattle.refusal.proofs.Judgement.Laws as J′
 use Rattle.refusal.specs.declared.Judgement.{Judgement}
 use Rattle.hearing.specs.Hear.{hear-reply}
-use Rattle.session.specs.declared.record.Party.{Party}
-use Rattle.session.specs.declared.record.Reply.{Reply}
-use Rattle.session.proofs.record.Party as T
-use Rattle.session.proofs.record.Party.Laws as T′
-use Rattle.session.proofs.record.Reply as R
-use Rattle.session.proofs.record.Reply.Laws as R′
+use Rattle.record.specs.declared.Party.{Party}
+use Rattle.record.specs.declared.Reply.{Reply}
+use Rattle.record.proofs.Party as T
+use Rattle.record.proofs.Party.Laws as T′
+use Rattle.record.proofs.Reply as R
+use Rattle.record.proofs.Reply.Laws as R′
 use Rattle.hearing.proofs.hear as callee
 use Rattle.hearing.proofs.hear.Symbol as callee-def
 use Rattle.hearing.proofs.hear.Symbol.{name as #callee}

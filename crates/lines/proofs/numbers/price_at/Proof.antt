@@ -4,7 +4,7 @@ use Prim.Native.Nat.{ℕ, _+_, _-_, _≤_}
 use native.Mathlib.Nat.{add-zero}
 use native.Mathlib.Omega.{arith}
 use lib.ListN.{drop}
-use Rattle.lines.specs.Lines.{value, first-line, after, bytes-of}
+use Rattle.lines.specs.Lines.{line-value, first-line, past, bytes-of}
 use Rattle.lines.proofs.Again.{led-more, first-here}
 use borrow.Author.Needs.{needs}
 use Rattle.lines.proofs.numbers.price_at.Statement.{statement}
@@ -38,16 +38,16 @@ loop-again c =
 read-line-requires-2 : tie.Need-read-line-requires-2 Inv-loop μ-loop
 read-line-requires-2 c κs = search needs
 
-value-requires : tie.Need-value-requires Inv-loop μ-loop
-value-requires c κs = search needs
+line-value-requires : tie.Need-line-value-requires Inv-loop μ-loop
+line-value-requires c κs = search needs
 
 returns : tie.Need-returns Inv-loop μ-loop
 returns c =
     let l = c .before .before .before .loop in
     let a = c .before .before .before .before .before .args in
     let e : l .passed ≡ a .i = omega arith in
-    c .value .ensures ∙ ap value (c .before .read-line2 .ensures .0 ∙ first-here (a .input .now) (a .at) (l .passed) (l .next) (l .inv .1)
-    ∙ ap (λ (m : ℕ). first-line (after m (drop (a .at) (a .input .now)))) e)
+    c .line-value .ensures ∙ ap line-value (c .before .read-line2 .ensures .0 ∙ first-here (a .input .now) (a .at) (l .passed) (l .next) (l .inv .1)
+    ∙ ap (λ (m : ℕ). first-line (past m (drop (a .at) (a .input .now)))) e)
 
 pub price-at-spec : {M : Type 1} → statement M
 price-at-spec =
@@ -61,5 +61,5 @@ price-at-spec =
     loop-less
     loop-again
     read-line-requires-2
-    value-requires
+    line-value-requires
     returns)

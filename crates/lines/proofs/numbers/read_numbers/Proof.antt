@@ -6,8 +6,7 @@ use native.Mathlib.Nat.{add-zero}
 use native.Mathlib.Omega.{arith}
 use lib.ListN.{length, take, drop, length-set}
 use lib.Seq.{take-all}
-use Rattle.lines.specs.Lines.{value, shaped, numbers, bytes-of}
-use Rattle.lines.specs.Lines.{formed as formed-of}
+use Rattle.lines.specs.Lines.{line-value, shaped, numbers, bytes-of, formed as formed-of}
 use Rattle.lines.proofs.Again.{first-here, led-more, fill-more, formed-up, formed-stays}
 use borrow.Author.Needs.{needs}
 use Rattle.lines.proofs.numbers.read_numbers.Statement.{statement}
@@ -28,8 +27,8 @@ loop-holds c = (omega arith, refl, refl, sym (add-zero _), refl)
 read-line-requires : tie.Need-read-line-requires Inv-loop μ-loop
 read-line-requires c κs = search needs
 
-value-requires : tie.Need-value-requires Inv-loop μ-loop
-value-requires c κs = search needs
+line-value-requires : tie.Need-line-value-requires Inv-loop μ-loop
+line-value-requires c κs = search needs
 
 mul-into : tie.Need-mul-into Inv-loop μ-loop
 mul-into c = omega (arith, c .before .before .before .before .before .before .good)
@@ -59,7 +58,7 @@ loop-again c =
     let first = r .ensures .0 ∙ first-here (a .input .now) (a .at) (l .i) (l .next) (l .inv .3) in (
       omega arith,
       simp length-set (l .inv .1),
-      fill-more (l .into) (drop (a .at) (a .input .now)) (l .i) _ h (l .inv .2) (c .before .before .value .ensures ∙ ap value first),
+      fill-more (l .into) (drop (a .at) (a .input .now)) (l .i) _ h (l .inv .2) (c .before .before .line-value .ensures ∙ ap line-value first),
       led-more (a .input .now) (a .at) (l .i) (l .next) (l .inv .3) _ (r .ensures .1),
       ⊎-elim
           (λ w. w .1 ∙ formed-up (drop (a .at) (a .input .now)) (l .i) (l .formed) _ (l .inv .4) (c .before .shaped .ensures ∙ ap shaped first) (w .0 .taken))
@@ -89,7 +88,7 @@ read-numbers-spec =
     μ-loop
     loop-holds
     read-line-requires
-    value-requires
+    line-value-requires
     mul-into
     slice-write-into
     shaped-requires

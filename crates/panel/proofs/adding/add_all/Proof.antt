@@ -4,9 +4,9 @@ use mathlib.Core.List.{List}
 use Prim.Native.Nat.{ℕ, _+_, _-_, _*_, _≤_, _<_}
 use native.Mathlib.Omega.{arith}
 use lib.ListN.{length, getD}
-use Rattle.session.specs.declared.record.Party.{Party}
+use Rattle.record.specs.declared.Party.{Party}
 use Rattle.session.specs.Add.{add-reply, add-left}
-use Rattle.session.specs.Open.{blank}
+use Rattle.record.specs.Record.{blank}
 use Rattle.panel.specs.Parties.{shares-of, party-added, totals-added}
 use Rattle.panel.proofs.Parts.{room, Spread, spread-start, spread-more, lent, Rowed, rowed-start, rowed-more}
 use borrow.Author.Needs.{needs}

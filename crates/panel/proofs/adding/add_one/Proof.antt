@@ -5,7 +5,7 @@ use native.Mathlib.Omega.{arith}
 use lib.ListN.{length, take, length-replicate}
 use lib.Seq.{length-take-le}
 use Rattle.bid.specs.Split.{split-left}
-use Rattle.session.specs.declared.record.Reply.{Reply}
+use Rattle.record.specs.declared.Reply.{Reply}
 use Rattle.session.specs.Add.{add-reply, add-left}
 use Rattle.panel.specs.Parties.{shares-of}
 use Rattle.panel.proofs.Parts.{take-replicate, prefix-fits, prefix-is, prefix-count}

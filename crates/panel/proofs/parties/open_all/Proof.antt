@@ -1,10 +1,11 @@
 -- `open_all` meets its contract: the first i sessions are opened. Assumes nothing.
-use mathlib.Core.Path.{_≡_, ap, ap₂, _∙_}
+use mathlib.Core.Path.{_≡_, ap, _∙_}
 use Prim.Native.Nat.{_+_, _-_, _*_, _≤_, _<_}
 use native.Mathlib.Omega.{arith}
 use lib.ListN.{length}
-use Rattle.session.specs.declared.record.Reply.{Reply}
-use Rattle.session.specs.Open.{blank, open-reply, open-left}
+use Rattle.record.specs.declared.Reply.{Reply}
+use Rattle.record.specs.Record.{blank}
+use Rattle.session.specs.Open.{open-reply, open-left}
 use Rattle.panel.specs.Parties.{part}
 use Rattle.panel.proofs.Parts.{room, Spread, spread-start, spread-more, lent, Rowed, rowed-start, rowed-more}
 use borrow.Author.Needs.{needs}

@@ -1,10 +1,7 @@
 -- `say_all` meets its contract. Assumes nothing.
-use mathlib.Core.Path.{_≡_, _∙_}
-use Prim.Native.Nat.{_+_, _-_, _*_, _≤_}
+use Prim.Native.Nat.{_-_, _*_, _≤_}
 use native.Mathlib.Omega.{arith}
-use lib.ListN.{length}
 use Rattle.search.specs.Limit.{limit}
-use Rattle.session.specs.Open.{blank}
 use Rattle.panel_rounds.specs.Round.{said-by, all-said}
 use Rattle.panel.proofs.Parts.{room, Rowed, rowed-start, rowed-more, rowed-all}
 use borrow.Author.Needs.{needs}

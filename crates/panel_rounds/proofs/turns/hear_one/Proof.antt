@@ -5,7 +5,7 @@ use Prim.Native.Nat.{ℕ, _+_, _-_, _*_, _≤_}
 use native.Mathlib.Omega.{arith}
 use lib.ListN.{length}
 use Rattle.search.specs.Limit.{limit}
-use Rattle.session.specs.declared.record.Reply.{Reply}
+use Rattle.record.specs.declared.Reply.{Reply}
 use Rattle.hearing.specs.Hear.{hear-reply}
 use Rattle.panel.proofs.Parts.{part-read}
 use borrow.Author.Needs.{needs}

@@ -11,7 +11,7 @@ use borrow.Author.Tests.{not-true, not-false, leb-true}
 use Rattle.ranges.proofs.Loops.{and-right}
 use Rattle.lines.specs.declared.line.Line.the-variants.{Number}
 use Rattle.plan.specs.declared.judging.Judged.the-variants.{Faulty}
-use Rattle.lines.specs.Lines.{lines, first-line, line-length, rest, numbers, bytes-of, formed, after}
+use Rattle.lines.specs.Lines.{lines, first-line, line-length, rest, numbers, bytes-of, formed, past}
 use Rattle.plan.specs.Plan.{read-prices}
 use Rattle.sections.specs.Sections.{xor-of}
 use Rattle.plan.specs.Judged.{as-judged}
@@ -70,7 +70,7 @@ nxt c =
     ∙ ap₂ (λ (m j : ℕ). j + bytes-of m (drop j (lent (line (passed c .before))))) (length-take-le _ _ (at-most (passed c))) (second (line (passed c .before)))
 
 -- the first line is one line
-one : (bytes : List ℕ) → after 1 bytes ≡ rest bytes
+one : (bytes : List ℕ) → past 1 bytes ≡ rest bytes
 one bytes = ap (λ (j : ℕ). drop j bytes) (bytes-one bytes)
 
 read-line-requires : tie.Need-read-line-requires

@@ -9,7 +9,7 @@ use lib.Seq.{length-take-le, drop-drop}
 use Rattle.lines.specs.declared.line.Line.the-variants.{Number}
 use Rattle.sections.specs.declared.table.Fault.the-variants.{None}
 use Rattle.plan.specs.declared.judging.Judged.the-variants.{Good}
-use Rattle.lines.specs.Lines.{first-line, line-length, rest, bytes-of, after}
+use Rattle.lines.specs.Lines.{first-line, line-length, rest, bytes-of, past}
 use Rattle.plan.specs.Judged.{as-judged, seeds-of, prices-of}
 use Rattle.sections.specs.Sections.{bids-fault}
 use Rattle.lines.proofs.Again.{line-more}
@@ -86,13 +86,13 @@ fault c =
 -- what is left after bids without a fault
 over : (c : tie.After-read-bids) → c .read-bids .result .fault ≡ None
     → drop (c .read-bids .result .next) (lent (line (passed c .before)))
-    ≡ after (m-of (passed c .before) * (2 * start (line (passed c .before)) .args .k)) (rest (left (line (passed c .before))))
+    ≡ past (m-of (passed c .before) * (2 * start (line (passed c .before)) .args .k)) (rest (left (line (passed c .before))))
 over c e =
     let l = line (passed c .before) in
     let m = m-of (passed c .before) * (2 * start l .args .k) in
     ap (λ (j : ℕ). drop j (lent l)) (c .read-bids .ensures .1 e)
     ∙ sym (drop-drop (bytes-of m (drop (l .read-line .result .next) (lent l))) (l .read-line .result .next) (lent l))
-    ∙ ap (after m) (moved l)
+    ∙ ap (past m) (moved l)
 
 good-shape : {n k seed seed′ bids bids′ prices prices′ from from′ : ℕ} → seed ≡ seed′ → prices ≡ prices′ → from ≡ from′ → bids ≡ bids′
     → Good (record { n = n; seed = seed; k = k; bids = bids; «prices_at» = prices; «bids_at» = from })

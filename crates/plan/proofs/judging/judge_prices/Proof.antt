@@ -11,7 +11,7 @@ use borrow.Author.Tests.{not-true, not-false, leb-true}
 use Rattle.ranges.proofs.Loops.{and-right}
 use Rattle.lines.specs.declared.line.Line.the-variants.{Number}
 use Rattle.plan.specs.declared.judging.Judged.the-variants.{Faulty}
-use Rattle.lines.specs.Lines.{lines, first-line, line-length, rest, numbers, bytes-of, after}
+use Rattle.lines.specs.Lines.{lines, first-line, line-length, rest, numbers, bytes-of, past}
 use Rattle.plan.specs.Plan.{read-bids}
 use Rattle.plan.specs.Judged.{as-judged, seeds-of}
 use Rattle.sections.specs.Sections.{good-prices}
@@ -82,7 +82,7 @@ nxt c =
 at-prices : (c : tie.After-read-line) → c .read-line .result .next ≡ bytes-of (start c .args .n + 2) (lent c)
 at-prices c = second c ∙ line-more (lent c) (start c .args .at) (start c .args .n + 1) (start c .pre .1) ∙ ap (λ (j : ℕ). bytes-of j (lent c)) (two (start c .args .n))
 
-from-prices : (c : tie.After-read-line) → rest (left c) ≡ after (start c .args .n + 2) (lent c)
+from-prices : (c : tie.After-read-line) → rest (left c) ≡ past (start c .args .n + 2) (lent c)
 from-prices c = sym (moved c) ∙ ap (λ (j : ℕ). drop j (lent c)) (at-prices c)
 
 at-bids : (c : tie.After-read-prices) → c .read-prices .result .next ≡ bytes-of (start (line (passed c .before)) .args .n + 2 + k-of (passed c .before)) (lent (line (passed c .before)))
@@ -166,7 +166,7 @@ returns-4 c =
     c .judge-bids .ensures
     ∙ ap₂ (λ (vs bs : List ℕ). as-judged bytes (read-bids (s .args .n) (seeds-of (s .args .n) bytes) (k-of k) vs (lines bs)))
     (ap (numbers (k-of k)) (sym (from-prices (line k))))
-    (ap (λ (j : ℕ). drop j bytes) (at-bids r) ∙ sym (after-add (s .args .n + 2) (k-of k) bytes) ∙ ap (after (k-of k)) (sym (from-prices (line k))))
+    (ap (λ (j : ℕ). drop j bytes) (at-bids r) ∙ sym (after-add (s .args .n + 2) (k-of k) bytes) ∙ ap (past (k-of k)) (sym (from-prices (line k))))
     ∙ sym (ap (as-judged bytes) (prices-good (s .args .n) (seeds-of (s .args .n) bytes) (left (line k)) (k-of k) (is-k k) (in-range (passed r)) h))
 
 pub judge-prices-spec : {M : Type 1} → statement M

@@ -5,7 +5,7 @@ use Prim.Native.Nat.{ℕ, _-_, _≤_}
 use native.Mathlib.Omega.{arith}
 use Rattle.search.specs.declared.Bracket.{Bracket}
 use Rattle.search.specs.Bracket.{middle}
-use Rattle.comparison.specs.Probe as probe
+use Rattle.comparison.specs.Probe.{SheetCoins}
 use Rattle.auction.specs.Auction.{IsAuction}
 use Rattle.auction.specs.Coins.{Coins, InRange}
 use Rattle.auction.proofs.Closed.{polynomials, probe-at, fresh-stage}
@@ -20,7 +20,7 @@ abbrev Inv-loop : tie.InvT-loop
 Inv-loop n k totals sheets after₀ i₀ after i =
     (i ≤ 32)
     × ((bids : List (List ℕ)) (c : Coins) → IsAuction (record { n = n; k = k; bids = bids }) → InRange (record { n = n; k = k; bids = bids }) c
-    → (b : Bracket) (m : ℕ) (s : probe.Coins) (ss : List probe.Coins) → Ready (record { n = n; k = k; bids = bids }) c b m s ss
+    → (b : Bracket) (m : ℕ) (s : SheetCoins) (ss : List SheetCoins) → Ready (record { n = n; k = k; bids = bids }) c b m s ss
     → Stands (record { n = n; k = k; bids = bids }) c (fresh-stage b m) after₀ totals sheets
     → Stands (record { n = n; k = k; bids = bids }) c
     (stage-of b m (probe-at (record { n = n; k = k; bids = bids }) (polynomials (record { n = n; k = k; bids = bids }) c) (middle b) s) i)

@@ -9,11 +9,10 @@ use borrow.Author.Tests.{ltb-true, ltb-false, not-true}
 use Rattle.ranges.proofs.Loops.{and-left, and-right}
 use lib.ListN.{length, getD, length-set}
 use Rattle.search.specs.Bracket.{start, over}
-use Rattle.session.specs.Record.{bracket}
+use Rattle.record.specs.Record.{bracket, blank}
 use Rattle.auction.specs.Auction.{IsAuction}
 use Rattle.auction.specs.Coins.{Coins, InRange}
 use Rattle.auction.proofs.Closed.{fresh-stage}
-use Rattle.session.specs.Open.{blank}
 use Rattle.standing.proofs.Standing.{Stands}
 use Rattle.probing.proofs.Leading.{Led, led-start, led-more, led-over, follows}
 use borrow.Author.Needs.{needs}

@@ -4,8 +4,8 @@ use Prim.Native.Nat.{ℕ, _-_}
 use native.Mathlib.Omega.{arith}
 use lib.ListN.{getD}
 use Rattle.search.specs.Bracket.{middle}
-use Rattle.session.specs.Record.{bracket}
-use Rattle.session.proofs.Soundness.{Probing, sound-facts, probing}
+use Rattle.record.specs.Record.{bracket}
+use Rattle.record.proofs.Soundness.{Probing, sound-facts, probing}
 use borrow.Author.Needs.{needs}
 use Rattle.saying.proofs.message.demand_share.Statement.{statement}
 use Rattle.saying.proofs.message.demand_share.Tie as tie

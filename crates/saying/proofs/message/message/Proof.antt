@@ -12,7 +12,7 @@ use Rattle.comparison.specs.Local.{on-shares}
 use Rattle.comparison.specs.Rounds.{masked, left, right, both, last}
 use Rattle.saying.specs.Say.{mask-share, bit-share}
 use Rattle.saying.proofs.Messages.{first-message, product-message, last-message}
-use Rattle.session.proofs.Soundness.{Sound, sound-facts}
+use Rattle.record.proofs.Soundness.{Sound, sound-facts}
 use Rattle.saying.proofs.Sheets.{in-field-bytes}
 use borrow.Author.Needs.{needs}
 use Rattle.saying.proofs.message.message.Statement.{statement}

@@ -3,8 +3,9 @@ use mathlib.Core.Path.{_≡_, sym, _∙_}
 use native.Mathlib.Omega.{arith}
 use Rattle.refusal.specs.declared.Judgement.the-variants.{Accepted}
 use Rattle.session.specs.Add.{add-judgement}
-use Rattle.session.specs.Updates.{counted}
-use Rattle.session.proofs.Judging.{kept-new, kept-old, next-accepted, next-refused}
+use Rattle.record.specs.Updates.{counted}
+use Rattle.refusal.proofs.Judging.{kept-new, kept-old}
+use Rattle.record.proofs.Replies.{next-accepted, next-refused}
 use Rattle.session.proofs.Laws.{adds}
 use borrow.Author.Needs.{needs}
 use Rattle.session.proofs.adding.add.Statement.{statement}

@@ -4,10 +4,10 @@ use mathlib.Core.Bool.{false, not, _&&_}
 use Prim.Native.Nat.{_≤_}
 use native.Mathlib.Omega.{arith}
 use borrow.Author.Tests.{not-false, le-leb, lt-leb}
-use Rattle.session.specs.Record.{sound}
+use Rattle.record.specs.Record.{sound}
 use Rattle.session.specs.Add.{amounts-below, add-judgement}
-use Rattle.session.proofs.Judging.{refuses, passes, all-passed}
-use Rattle.session.proofs.Soundness.{sound-facts}
+use Rattle.refusal.proofs.Judging.{refuses, passes, all-passed}
+use Rattle.record.proofs.Soundness.{sound-facts}
 use borrow.Author.Needs.{needs}
 use Rattle.session.proofs.adding.judge.Statement.{statement}
 use Rattle.session.proofs.adding.judge.Tie as tie

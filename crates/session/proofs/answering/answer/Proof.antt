@@ -3,9 +3,10 @@ use mathlib.Core.Path.{_≡_, sym, ap, _∙_}
 use mathlib.Core.Bool.{false, not}
 use borrow.Author.Needs.{needs}
 use Rattle.search.specs.Bracket.{over}
-use Rattle.session.specs.Record.{sound}
+use Rattle.record.specs.Record.{sound}
 use Rattle.session.specs.Answer.{answer-judgement}
-use Rattle.session.proofs.Judging.{refuses, passes, all-passed, answered-accepted, answered-refused}
+use Rattle.refusal.proofs.Judging.{refuses, passes, all-passed}
+use Rattle.session.proofs.Answered.{answered-accepted, answered-refused}
 use Rattle.session.proofs.answering.answer.Statement.{statement}
 use Rattle.session.proofs.answering.answer.Tie as tie
 

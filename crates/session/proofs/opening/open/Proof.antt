@@ -6,9 +6,11 @@ use native.Mathlib.Omega.{arith}
 use lib.ListN.{replicate}
 use borrow.Author.Tests.{not-false, eq-eqb, ne-eqb}
 use Rattle.ranges.specs.Sizes.{party, listed}
-use Rattle.session.specs.Open.{open-judgement, fresh}
-use Rattle.session.proofs.Judging.{refuses, passes, all-passed, kept-new, kept-old, next-accepted, next-refused}
-use Rattle.session.proofs.Soundness.{on-list}
+use Rattle.session.specs.Open.{open-judgement}
+use Rattle.record.specs.Updates.{fresh}
+use Rattle.refusal.proofs.Judging.{refuses, passes, all-passed, kept-new, kept-old}
+use Rattle.record.proofs.Replies.{next-accepted, next-refused}
+use Rattle.ranges.proofs.Ranges.{on-list}
 use borrow.Author.Needs.{needs}
 use Rattle.session.proofs.opening.open.Statement.{statement}
 use Rattle.session.proofs.opening.open.Tie as tie

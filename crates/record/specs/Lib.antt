@@ -1,0 +1,3 @@
+-- A party's record: what the contracts cite.
+pub mod Record
+pub mod Updates

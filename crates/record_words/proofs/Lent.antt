@@ -1,0 +1,37 @@
+-- A lent slice is a record, or none. Assumes nothing.
+use mathlib.Core.Path.{_≡_, refl, _∙_}
+use mathlib.Core.Bool.{true, false, not}
+use mathlib.Core.List.{List}
+use Prim.Native.Nat.{ℕ}
+use Rattle.refusal.specs.Judging.{kept}
+use Rattle.refusal.specs.declared.Refusal.the-variants as refusal
+use Rattle.refusal.specs.declared.Judgement.{Judgement}
+use Rattle.refusal.specs.declared.Judgement.the-variants.{Accepted, Refused}
+use Rattle.refusal.proofs.Judging.{refuses, passes, all-passed, kept-new, kept-old}
+use Rattle.ranges.specs.Sizes.{long}
+use Rattle.record_words.specs.Words.{record-size, record-judgement, on-record}
+
+module _ (words : List ℕ) where
+  pub record-lent : not (long record-size words) ≡ false → record-judgement words ≡ Accepted
+  unfolding record-judgement
+  record-lent e = passes _ _ _ e ∙ all-passed
+
+  pub none-lent : not (long record-size words) ≡ true → record-judgement words ≡ Refused refusal.WrongLength
+  unfolding record-judgement
+  none-lent e = refuses _ _ _ e
+
+  module _ {A : Type 0} (given otherwise : A) where
+    pub with-record : not (long record-size words) ≡ false → on-record words given otherwise ≡ given
+    with-record e = kept-new _ _ _ (record-lent e)
+
+    pub no-record : not (long record-size words) ≡ true → on-record words given otherwise ≡ otherwise
+    no-record e = kept-old _ _ _ _ (none-lent e)
+
+    -- where the call leaves it as it was, record or none
+    pub left-alone : given ≡ otherwise → on-record words given otherwise ≡ otherwise
+    unfolding kept
+    left-alone e = split (record-judgement words)
+      where
+        split : (j : Judgement) → kept j given otherwise ≡ otherwise
+        split Accepted = e
+        split (Refused why) = refl

@@ -1,0 +1,3 @@
+-- Laws of a record as words, and lemmas that the functions' proofs share.
+pub mod Lent
+pub mod ReadBack

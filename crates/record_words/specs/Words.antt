@@ -1,0 +1,49 @@
+-- A record in a lent slice: "n, own number, k, bids, lo, hi, probes done, round, T, carry share", a word each. Assumes nothing.
+use mathlib.Core.Bool.{not}
+use mathlib.Core.List.{List, [], _∷_}
+use Prim.Native.Nat.{ℕ}
+use lib.ListN.{getD}
+use Rattle.refusal.specs.Refusal.{numberOf}
+use Rattle.refusal.specs.Judging.{_⇒_, judged, kept}
+use Rattle.refusal.specs.declared.Judgement.{Judgement}
+use Rattle.refusal.specs.declared.Refusal.the-variants.{WrongLength}
+use Rattle.ranges.specs.Sizes.{long}
+use Rattle.record.specs.declared.Party.{Party}
+use Rattle.record.specs.declared.Reply.{Reply}
+
+abbrev pub record-size : ℕ
+record-size = 10
+
+unfoldable pub words-of : Party → List ℕ
+words-of q = q .n ∷ q .own ∷ q .k ∷ q .bids ∷ q .lo ∷ q .hi ∷ q .probes ∷ q .round ∷ q .sum ∷ q .carry ∷ []
+
+unfoldable pub party-of : List ℕ → Party
+party-of words =
+    record {
+      n = getD words 0 0;
+      own = getD words 1 0;
+      k = getD words 2 0;
+      bids = getD words 3 0;
+      lo = getD words 4 0;
+      hi = getD words 5 0;
+      probes = getD words 6 0;
+      round = getD words 7 0;
+      sum = getD words 8 0;
+      carry = getD words 9 0;
+    }
+
+-- a slice of any other length is no record
+unfoldable pub record-judgement : List ℕ → Judgement
+record-judgement words = judged ((not (long record-size words) ⇒ WrongLength) ∷ [])
+
+-- what a call gives where a record is lent, and what stands there otherwise
+abbrev pub on-record : {A : Type 0} (words : List ℕ) (given otherwise : A) → A
+on-record words given otherwise = kept (record-judgement words) given otherwise
+
+-- the call's number: without a record nothing else is judged
+abbrev pub number-on : (words : List ℕ) (number : ℕ) → ℕ
+number-on words number = on-record words number (numberOf WrongLength)
+
+-- what a reply leaves in the record's slice
+abbrev pub stored : Reply → List ℕ → List ℕ
+stored reply words = kept (reply .judgement) (words-of (reply .party)) words

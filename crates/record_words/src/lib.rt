@@ -1,0 +1,78 @@
+// A party's record as the host holds it: ten words, in the order of the fields.
+ghost use mathlib.Core.Path.{_≡_};
+ghost use lib.ListN.{length, getD};
+ghost use Rattle.refusal.specs.Refusal.{codeOf};
+ghost use Rattle.ranges.specs.Sizes.{long};
+ghost use Rattle.record_words.specs.Words.{record-size, words-of, party-of, number-on, on-record, stored};
+use record::Party;
+use record::Reply;
+use refusal::Judgement;
+use refusal::Refusal;
+use refusal::number;
+
+const WORDS: usize = 10;
+
+pub fn is_record(words: &[u64]) -> bool
+    ensures { λ r. ⌜ r ≡ long record-size (now (words .entry)) ⌝ }
+{
+    words.len() == WORDS
+}
+
+// Any words are read, and what is not there is 0: the call judges what they say.
+pub fn read(words: &[u64]) -> Party
+    ensures { λ q. ⌜ q ≡ party-of (now (words .entry)) ⌝ }
+{
+    Party {
+        n: word(words, 0),
+        own: word(words, 1),
+        k: word(words, 2),
+        bids: word(words, 3),
+        lo: word(words, 4),
+        hi: word(words, 5),
+        probes: word(words, 6),
+        round: word(words, 7),
+        sum: word(words, 8),
+        carry: word(words, 9),
+    }
+}
+
+fn word(words: &[u64], at: usize) -> u64
+    ensures { λ r. ⌜ r ≡ getD (now (words .entry)) at 0 ⌝ }
+{
+    if at < words.len() { words[at] } else { 0 }
+}
+
+// The record that a call gives is written over the one it was lent, unless the call was refused.
+// A slice of another length is left alone.
+pub fn store(reply: Reply, words: &mut [u64]) -> u64
+    ensures { λ r. ⌜ (r ≡ number-on (now (words .entry)) (codeOf (reply .judgement)))
+        × (now (words .exit) ≡ on-record (now (words .entry)) (stored reply (now (words .entry))) (now (words .entry))) ⌝ }
+{
+    if !is_record(&words[..]) {
+        return number(Refusal::WrongLength);
+    }
+    let judgement = reply.judgement;
+    match judgement {
+        Judgement::Accepted => {
+            write(reply.party, words);
+            0
+        }
+        Judgement::Refused(why) => number(why),
+    }
+}
+
+fn write(q: Party, words: &mut [u64])
+    requires { ⌜ length (now words) ≡ record-size ⌝ }
+    ensures { λ _. ⌜ now (words .exit) ≡ words-of q ⌝ }
+{
+    words[0] = q.n;
+    words[1] = q.own;
+    words[2] = q.k;
+    words[3] = q.bids;
+    words[4] = q.lo;
+    words[5] = q.hi;
+    words[6] = q.probes;
+    words[7] = q.round;
+    words[8] = q.sum;
+    words[9] = q.carry;
+}

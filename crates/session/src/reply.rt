@@ -1,0 +1,8 @@
+// What asking replies.
+use refusal::Refusal;
+
+// The clearing index, 0 for no price, and how many probes were made.
+pub enum Answer {
+    Cleared(u64, u64),
+    Refused(Refusal),
+}

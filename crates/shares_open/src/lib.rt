@@ -1,0 +1,2 @@
+// "Shares open to the amount split": what the shares of a bid and of a sheet open to. There is no code
+// here.
