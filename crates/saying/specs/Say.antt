@@ -55,7 +55,8 @@ in-field q totals sheet =
     && ltb (mask-share sheet) p
     && every (λ w. ltb w 256) (drop 1 sheet)
 
--- The tests of a saying, and the first ones of a hearing, which is lent its messages too: whether all else that is lent has its length.
+-- The tests of a saying, and the first ones of a hearing. A hearing is lent its messages too; `else-long` says whether what is lent
+-- beside totals and sheets is as long as stated.
 unfoldable pub turn-judgement : (q : Party) (totals sheets : List ℕ) (else-long : Bool) → Judgement
 turn-judgement q totals sheets else-long =
     judged
