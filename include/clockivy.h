@@ -11,14 +11,17 @@
  *   prime   2^61 - 1; shares of amounts and their coefficients are below it
  *   totals  a party's shares of total demand at each price, then of supply
  *   sheet   a party's preprocessing for one probe, 127 words
- *   record  where a party stands in the auction, ten words (clockivy_party)
+ *   bidder  a bidder's number, 1 to 1,000, the same at every party
+ *   roll    the marks of the bidders whose bids a party has added, 16 words:
+ *           bidder b is bit b % 64 of word b / 64, bit 0 being the lowest
+ *   record  where a party stands in the auction, 26 words (clockivy_party)
  *
  * An auction
  *   Each party opens a session. A bidder splits its table once for each party,
- *   with the same coins, and each party adds its shares. The dealer writes
- *   every party's sheets for P probes, from new coins for each probe. Then,
- *   round after round, each party says a message and hears all n of them, 33
- *   rounds to a probe, until the answer is there.
+ *   with the same coins, and each party adds its shares under the bidder's
+ *   number. The dealer writes every party's sheets for P probes, from new coins
+ *   for each probe. Then, round after round, each party says a message and
+ *   hears all n of them, 33 rounds to a probe, until the answer is there.
  *
  * Buffers
  *   Every buffer is the caller's and is lent for the length of the call; no
@@ -31,17 +34,36 @@
  *   judged, and every call returns.
  *
  * Replies
- *   0 when the call is done, else the number of a refusal. Of the refusals
- *   that apply the lowest is given; but where a record has not ten words,
- *   nothing else can be judged and the reply is 2 (clockivy_open, which only
- *   writes the record, judges 1 first). A refused call has changed nothing.
+ *   0 when the call is done, else the number of a refusal. Each call lists its
+ *   refusals in the order in which it judges them, and gives the first that
+ *   applies; but where a record has not 26 words, nothing else can be judged
+ *   and the reply is 2 (clockivy_open, which only writes the record, judges 1
+ *   first). A refused call has changed nothing.
+ *
+ * A bid sent again
+ *   A desk that does not know whether its bid arrived sends the same shares
+ *   again, under the same number. A party that has the bid answers 14 and has
+ *   changed nothing; one that has it not adds it. So a bid counts once, however
+ *   often it is sent. Once a round is heard the reply is 3 for every bid, one
+ *   that is in or not; clockivy_party_has_bid still tells which. What the desks
+ *   and the parties have to see to:
+ *   - A bid counts rightly only where every party adds it, under the same
+ *     bidder number and from one splitting: shares of a table split anew do not
+ *     fit those that other parties have added. Who is in is no secret among the
+ *     parties, so they may compare their rolls before they speak.
+ *   - A bid that is in is not replaced: another bid of its bidder is 14 too.
+ *   - Record and totals are stored together, as one. Where totals hold a bid
+ *     that an older record's roll does not mark, the bid sent again counts
+ *     double; where the roll marks a bid that older totals do not hold, it is
+ *     missing there, and is 14 when sent again. No call can tell.
  *
  * Secrets
  *   Coins are drawn by the caller: each uniform over its range, independent,
  *   used once. A party's shares, totals, sheets and record are for that party
- *   alone. The dealer must see neither the messages of round 1 nor the sum
- *   they open to: it knows the mask, and so would learn total demand minus
- *   total supply at the probed index.
+ *   alone, but for the roll: who bids, and in which order, is not hidden from
+ *   the other parties. The dealer must see neither the messages of round 1 nor
+ *   the sum they open to: it knows the mask, and so would learn total demand
+ *   minus total supply at the probed index.
  *
  * Two uses that give bids away
  *   A sheet hides one message of each round. Saying that message again is
@@ -51,8 +73,9 @@
  *   - Say, add, say. A bid is refused only once a round is heard. The messages
  *     before and after it have one mask, so they differ by the party's share
  *     of the bid's demand minus supply at the probed index, and any t other
- *     parties can open that. Add no bid once a message is said. The record
- *     does not show that one was: the caller has to remember it.
+ *     parties can open that. Add no bid once a message is said, not even one
+ *     that is sent again. The record does not show that a message was said: the
+ *     caller has to remember it.
  *   - An older record, or one record in two sessions. It passes every
  *     judgement and uses masks and triples again. Where it then meets other
  *     totals, or hears other messages than before, it says other messages.
@@ -72,11 +95,10 @@ extern "C" {
 /* The replies. */
 enum {
     CLOCKIVY_DONE = 0,
-    CLOCKIVY_OUT_OF_RANGE = 1,        /* n, own, k or a field of the record */
+    CLOCKIVY_OUT_OF_RANGE = 1,        /* n, own, k, bidder or a field of the record */
     CLOCKIVY_WRONG_LENGTH = 2,        /* a slice is not as long as stated */
     CLOCKIVY_OUT_OF_TURN = 3,         /* a bid after the first heard round; a round
                                          when over; the answer before it is over */
-    CLOCKIVY_TOO_MANY_BIDS = 4,       /* 1,000 bids are held */
     CLOCKIVY_COIN_OUT_OF_RANGE = 5,   /* a coefficient at or above the prime, a mask
                                          at or above 2^58 */
     CLOCKIVY_AMOUNT_TOO_LARGE = 6,    /* an amount above 4,194,303 */
@@ -88,7 +110,8 @@ enum {
     CLOCKIVY_INCONSISTENT = 10,       /* a message out of range, or no polynomial of
                                          degree at most t through all of them */
     CLOCKIVY_SUM_OUT_OF_RANGE = 11,   /* the opened sum of round 1 */
-    CLOCKIVY_VERDICT_NOT_BIT = 12     /* the opened verdict is above 1 */
+    CLOCKIVY_VERDICT_NOT_BIT = 12,    /* the opened verdict is above 1 */
+    CLOCKIVY_ALREADY_ENTERED = 14     /* a bid of this bidder has been added */
 };
 
 /* Limits. */
@@ -96,12 +119,13 @@ enum {
 #define CLOCKIVY_MASK_LIMIT (((uint64_t)1) << 58)
 #define CLOCKIVY_MAX_PARTIES 9
 #define CLOCKIVY_MAX_PRICES 1024
-#define CLOCKIVY_MAX_BIDS 1000
+#define CLOCKIVY_MAX_BIDS 1000 /* the most bids held, and the highest bidder number */
 #define CLOCKIVY_MAX_AMOUNT 4194303
 #define CLOCKIVY_ROUNDS 33
 
 /* Lengths, for n and k within their ranges. */
-#define CLOCKIVY_RECORD_LEN 10
+#define CLOCKIVY_ROLL_LEN 16
+#define CLOCKIVY_RECORD_LEN 26
 #define CLOCKIVY_SHEET_LEN 127
 #define CLOCKIVY_THRESHOLD(n) (((n) - 1) / 2)
 #define CLOCKIVY_TABLE_LEN(k) (2 * (k))
@@ -113,11 +137,11 @@ enum {
  * Opens party own's session: zeroes totals and writes a new record.
  *
  *   totals  2k words, written
- *   record  10 words, written: n, own, k, bids 0, lo 0, hi k + 1, probes 0,
- *           round 1, sum 0, carry 0
+ *   record  26 words, written: n, own, k, bids 0, lo 0, hi k + 1, probes 0,
+ *           round 1, sum 0, carry 0, then the roll, 16 words of 0
  *
  *   1  n, own or k is out of range
- *   2  totals has not 2k words, or record not 10
+ *   2  totals has not 2k words, or record not 26
  */
 uint64_t clockivy_open(uint64_t n, uint64_t own, uint64_t k,
                        uint64_t *totals, size_t totals_len,
@@ -167,23 +191,29 @@ uint64_t clockivy_deal(uint64_t n, uint64_t own,
                        uint64_t *sheet, size_t sheet_len);
 
 /*
- * Adds a bid's shares to the totals, modulo the prime, and counts the bid.
+ * Adds a bid's shares to the totals, modulo the prime, counts the bid and marks
+ * its bidder on the roll. A bid that may not have arrived is sent again and
+ * added in the same way: where the party has it, the reply is 14 and nothing
+ * has changed. What that rests on is under "A bid sent again".
+ *
  * Call it only before the party has said its first message. A bid between that
  * and the first heard round is not refused, and is given away by the next
  * message: see "Two uses that give bids away".
  *
- *   record  10 words; bids grows by one
+ *   record  26 words; bids grows by one, and the roll has the bidder's mark
  *   totals  2k words; each has its share added
+ *   bidder  the bidder's number, 1 to 1,000
  *   shares  2k words
  *
- *   1  a field of the record is out of range
- *   2  record has not 10 words, or totals or shares not 2k
- *   3  a round has been heard: probes above 0 or round above 1
- *   4  1,000 bids are held
- *   8  a word of totals or of shares is at or above the prime
+ *   1   a field of the record is out of range, or bidder is
+ *   2   record has not 26 words, or totals or shares not 2k
+ *   3   a round has been heard: probes above 0 or round above 1
+ *   14  the bidder is on the roll: a bid of it has been added
+ *   8   a word of totals or of shares is at or above the prime
  */
 uint64_t clockivy_add(uint64_t *record, size_t record_len,
                       uint64_t *totals, size_t totals_len,
+                      uint64_t bidder,
                       const uint64_t *shares, size_t shares_len);
 
 /*
@@ -192,13 +222,13 @@ uint64_t clockivy_add(uint64_t *record, size_t record_len,
  * repeated with these; but add no bid from now on, and never say a round again
  * with another record or other totals: see "Two uses that give bids away".
  *
- *   record   10 words
+ *   record   26 words
  *   totals   2k words
  *   sheets   127P words: the party's sheets for all probes in turn
  *   message  one word, written
  *
  *   1  a field of the record is out of range
- *   2  record has not 10 words, totals not 2k, or sheets not 127P
+ *   2  record has not 26 words, totals not 2k, or sheets not 127P
  *   3  the auction is over
  *   8  round 1: a word of totals at the probed index is at or above the prime;
  *      any round: in the current sheet, the mask's share is at or above the
@@ -214,13 +244,13 @@ uint64_t clockivy_say(const uint64_t *record, size_t record_len,
  * next round. Round 33 opens the verdict: on 1 lo becomes the probed index, on
  * 0 hi does, and the next probe begins or the auction is over.
  *
- *   record    10 words, stepped
+ *   record    26 words, stepped
  *   totals    2k words
  *   sheets    127P words
  *   messages  n words, party 1's first
  *
  *   1   a field of the record is out of range
- *   2   record has not 10 words, totals not 2k, sheets not 127P, or messages
+ *   2   record has not 26 words, totals not 2k, sheets not 127P, or messages
  *       not n
  *   3   the auction is over
  *   8   as in clockivy_say
@@ -240,12 +270,12 @@ uint64_t clockivy_hear(uint64_t *record, size_t record_len,
  * Writes the clearing index, the highest at which total demand is at least
  * total supply, or 0 where there is none; and the number of probes made.
  *
- *   record  10 words
+ *   record  26 words
  *   index   one word, written
  *   probes  one word, written
  *
  *   1  a field of the record is out of range
- *   2  record has not 10 words
+ *   2  record has not 26 words
  *   3  the auction is not over
  */
 uint64_t clockivy_answer(const uint64_t *record, size_t record_len,
@@ -256,31 +286,35 @@ uint64_t clockivy_answer(const uint64_t *record, size_t record_len,
 #endif
 
 /*
- * A party's record by names. Where it is stored, store it before the message
- * said from it leaves. Read back only the newest one, and lend the totals and
- * the sheets that belong to it. Every call judges the fields, but an older
- * record passes: see "Two uses that give bids away".
+ * A party's record by names. Where it is stored, store it together with the
+ * totals, and before the message said from it leaves. Read back only the newest
+ * one, and lend the totals and the sheets that belong to it. Every call judges
+ * the fields, but an older record passes: see "Two uses that give bids away",
+ * and "A bid sent again" for what then counts double.
  *
- * A field is out of range (refusal 1) where n, own or k is; bids is above
- * 1,000; not lo < hi <= k + 1; round is outside 1 to 33; sum is at or above
- * 2^59 + 2^33; carry is above 255; probes is above P, or is P with hi - lo
- * above 1.
+ * A field is out of range (refusal 1) where n, own or k is; bids is not the
+ * number of marks on the roll; the roll has a mark of no bidder, which is bit 0
+ * of the first word or one past bidder 1,000, bits 41 to 63 of the last; not
+ * lo < hi <= k + 1; round is outside 1 to 33; sum is at or above 2^59 + 2^33;
+ * carry is above 255; probes is above P, or is P with hi - lo above 1.
  */
 typedef struct clockivy_party {
     uint64_t n;      /* the number of parties */
     uint64_t own;    /* this party's number */
     uint64_t k;      /* the number of listed prices */
-    uint64_t bids;   /* bids added */
+    uint64_t bids;   /* bids added: the number of marks on the roll */
     uint64_t lo;     /* the highest index known to clear, or 0 */
     uint64_t hi;     /* the lowest index known not to clear, or k + 1 */
     uint64_t probes; /* probes done */
     uint64_t round;  /* the round to be said and heard next */
     uint64_t sum;    /* the opened sum of this probe's round 1, else 0 */
     uint64_t carry;  /* this party's share of the carry, else 0 */
+    uint64_t roll[CLOCKIVY_ROLL_LEN]; /* who is in: bidder b is bit b % 64, the
+                                         lowest being bit 0, of roll[b / 64] */
 } clockivy_party;
 
-/* The struct is the ten words, in their order. */
-typedef char clockivy_party_is_ten_words
+/* The struct is the 26 words, in their order. */
+typedef char clockivy_party_is_26_words
     [sizeof(clockivy_party) == CLOCKIVY_RECORD_LEN * sizeof(uint64_t) ? 1 : -1];
 
 #if defined(__cplusplus) || (defined(__STDC_VERSION__) && __STDC_VERSION__ >= 199901L)
@@ -300,7 +334,15 @@ CLOCKIVY_INLINE size_t clockivy_probe_limit(uint64_t k)
     return limit;
 }
 
-/* The calls on a record, with a struct in place of ten words. */
+/* 1 where the roll marks this bidder, else 0. Any number may be asked about. */
+CLOCKIVY_INLINE int clockivy_party_has_bid(const clockivy_party *party, uint64_t bidder)
+{
+    const uint64_t word = bidder / 64;
+
+    return word < CLOCKIVY_ROLL_LEN && ((party->roll[word] >> (bidder % 64)) & 1) != 0;
+}
+
+/* The calls on a record, with a struct in place of 26 words. */
 
 CLOCKIVY_INLINE uint64_t clockivy_party_open(clockivy_party *party,
                                              uint64_t n, uint64_t own, uint64_t k,
@@ -312,10 +354,11 @@ CLOCKIVY_INLINE uint64_t clockivy_party_open(clockivy_party *party,
 
 CLOCKIVY_INLINE uint64_t clockivy_party_add(clockivy_party *party,
                                             uint64_t *totals, size_t totals_len,
+                                            uint64_t bidder,
                                             const uint64_t *shares, size_t shares_len)
 {
     return clockivy_add((uint64_t *)party, CLOCKIVY_RECORD_LEN,
-                        totals, totals_len, shares, shares_len);
+                        totals, totals_len, bidder, shares, shares_len);
 }
 
 CLOCKIVY_INLINE uint64_t clockivy_party_say(const clockivy_party *party,

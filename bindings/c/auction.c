@@ -1,7 +1,8 @@
 /*
  * A whole auction of five parties in one process: four bids, eight listed
- * prices. Prints each probe and the clearing price, and checks both against
- * the totals, which only a program that plays every role can add up.
+ * prices. A line drops while a bid is sent, and the bid is sent again. Prints
+ * that, each probe and the clearing price, and checks all of it against the
+ * tables, which only a program that plays every role can add up.
  *
  *   cc -O2 -I../../include auction.c -L../../target/staticlib -lexchange -o auction
  *
@@ -10,6 +11,7 @@
  */
 #include <stdio.h>
 #include <stdlib.h>
+#include <string.h>
 
 #include "clockivy.h"
 
@@ -23,6 +25,18 @@ static const uint64_t tables[BIDS][TABLE] = {
     {45, 45, 45, 45, 41, 15, 0, 0, 0, 0, 0, 0, 0, 0, 5, 9},
     {0, 0, 0, 0, 0, 0, 0, 0, 0, 10, 30, 30, 52, 60, 60, 75},
     {0, 0, 0, 0, 0, 0, 0, 0, 7, 7, 7, 12, 29, 33, 48, 90}
+};
+
+/* The numbers of those who bid. */
+static const uint64_t bidders[BIDS] = {17, 4, 640, CLOCKIVY_MAX_BIDS};
+
+/* The bid whose line drops, and the parties that it has reached by then. */
+enum { DROPPED = 1, REACHED = 2 };
+
+/* What a desk keeps until every party has its bid. */
+struct desk {
+    uint64_t bidder;
+    uint64_t shares[N][TABLE];
 };
 
 /* What one party keeps. */
@@ -73,21 +87,76 @@ static uint64_t draw_coefficient(void)
     return word;
 }
 
-/* The bidder splits its table, and each party adds its own shares. */
-static void bid(const uint64_t *table)
+/* The desk splits its bidder's table for every party, with the same coins. */
+static void split(struct desk *desk, uint64_t bidder, const uint64_t *table)
 {
     uint64_t coins[CLOCKIVY_COINS_LEN(N, K)];
-    uint64_t shares[TABLE];
     size_t i;
 
     for (i = 0; i < CLOCKIVY_COINS_LEN(N, K); i++)
         coins[i] = draw_coefficient();
-    for (i = 0; i < N; i++) {
+    desk->bidder = bidder;
+    for (i = 0; i < N; i++)
         done(clockivy_split(N, i + 1, K, table, TABLE, coins, CLOCKIVY_COINS_LEN(N, K),
-                            shares, TABLE), "split");
-        done(clockivy_party_add(&seats[i].party, seats[i].totals, TABLE, shares, TABLE),
-             "add");
+                            desk->shares[i], TABLE), "split");
+}
+
+/* A party is sent the desk's bid. */
+static uint64_t add(size_t i, const struct desk *desk)
+{
+    return clockivy_party_add(&seats[i].party, seats[i].totals, TABLE,
+                              desk->bidder, desk->shares[i], TABLE);
+}
+
+/* The bid goes to the first parties, and each adds its own shares. */
+static void send_bid(const struct desk *desk, size_t reached)
+{
+    size_t i;
+
+    for (i = 0; i < reached; i++)
+        done(add(i, desk), "add");
+}
+
+/*
+ * The same shares go to every party once more. Those that have the bid refuse
+ * it and are as before; the others add it.
+ */
+static void send_again(const struct desk *desk)
+{
+    int refused = 0;
+    size_t i;
+
+    for (i = 0; i < N; i++) {
+        const struct seat before = seats[i];
+        const uint64_t reply = add(i, desk);
+
+        if (reply == CLOCKIVY_ALREADY_ENTERED) {
+            check(memcmp(&before, &seats[i], sizeof before) == 0,
+                  "a refused bid has changed something");
+            refused++;
+        } else {
+            done(reply, "add");
+        }
     }
+    check(refused == REACHED, "a bid was added twice, or is lost");
+    printf("bidder %d sent again: %d refused, %d added\n",
+           (int)desk->bidder, refused, N - refused);
+}
+
+/* Whether every party has each bid once. */
+static int all_in(void)
+{
+    size_t i;
+    size_t j;
+
+    for (i = 0; i < N; i++) {
+        if (seats[i].party.bids != BIDS)
+            return 0;
+        for (j = 0; j < BIDS; j++)
+            if (!clockivy_party_has_bid(&seats[i].party, bidders[j]))
+                return 0;
+    }
+    return 1;
 }
 
 /* The dealer writes every party's sheet for one probe. */
@@ -144,14 +213,23 @@ int main(void)
     uint64_t index = 0;
     uint64_t probes = 0;
     uint64_t expected = K;
+    struct desk desk;
     size_t i;
 
     check(clockivy_probe_limit(K) == PROBES, "the sheets are too few");
     for (i = 0; i < N; i++)
         done(clockivy_party_open(&seats[i].party, N, i + 1, K, seats[i].totals, TABLE),
              "open");
-    for (i = 0; i < BIDS; i++)
-        bid(tables[i]);
+    for (i = 0; i < BIDS; i++) {
+        split(&desk, bidders[i], tables[i]);
+        if (i == DROPPED) {
+            send_bid(&desk, REACHED);
+            send_again(&desk);
+        } else {
+            send_bid(&desk, N);
+        }
+    }
+    check(all_in(), "a bid is missing");
     for (i = 0; i < PROBES; i++)
         deal(i);
 

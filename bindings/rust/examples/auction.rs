@@ -1,13 +1,14 @@
 //! A whole auction of five parties in one process: four bids, eight listed
-//! prices. Prints each probe and the clearing price, and checks both against
-//! the totals, which only a program that plays every role can add up.
+//! prices. A line drops while a bid is sent, and the bid is sent again. Prints
+//! that, each probe and the clearing price, and checks all of it against the
+//! tables, which only a program that plays every role can add up.
 //!
 //! The coins here come from a small generator with a fixed seed. A real bidder
 //! or dealer draws them from the operating system.
 
 use clockivy::{
     coins_len, deal, deal_bytes_len, deal_words_len, sheets_len, split, table_len, Collecting,
-    Refusal, Speaking, MASK_LIMIT, PRIME, ROUNDS, SHEET_LEN,
+    Refusal, Speaking, MASK_LIMIT, MAX_BIDS, PRIME, ROUNDS, SHEET_LEN,
 };
 
 const N: u64 = 5;
@@ -20,6 +21,12 @@ const BIDS: [[u64; 2 * K as usize]; 4] = [
     [0, 0, 0, 0, 0, 0, 0, 0, 0, 10, 30, 30, 52, 60, 60, 75],
     [0, 0, 0, 0, 0, 0, 0, 0, 7, 7, 7, 12, 29, 33, 48, 90],
 ];
+
+/// The numbers of those who bid.
+const BIDDERS: [u64; BIDS.len()] = [17, 4, 640, MAX_BIDS];
+/// The bid whose line drops, and the parties that it has reached by then.
+const DROPPED: u64 = 4;
+const REACHED: usize = 2;
 
 /// Marsaglia's xorshift64.
 struct Coins(u64);
@@ -54,8 +61,20 @@ fn main() -> Result<(), Refusal> {
     let mut coins = Coins(0x9E37_79B9_7F4A_7C15);
     let mut totals = vec![vec![0; table_len(K)]; N as usize];
     let mut sessions = open_sessions(&mut totals)?;
-    for table in &BIDS {
-        bid(&mut sessions, &mut totals, table, &mut coins)?;
+    for (bidder, table) in BIDDERS.into_iter().zip(&BIDS) {
+        let shares = split_bid(table, &mut coins)?;
+        if bidder == DROPPED {
+            let reached = &mut sessions[..REACHED];
+            send(reached, &mut totals, bidder, &shares)?;
+            send_again(&mut sessions, &mut totals, bidder, &shares)?;
+        } else {
+            send(&mut sessions, &mut totals, bidder, &shares)?;
+        }
+    }
+    for session in &sessions {
+        let record = session.record();
+        assert_eq!(record.bids as usize, BIDS.len());
+        assert!(BIDDERS.iter().all(|&bidder| record.has_bid(bidder)));
     }
     let sheets = preprocess(&mut coins)?;
     let mut parties: Vec<Speaking> = sessions
@@ -101,19 +120,53 @@ fn open_sessions(totals: &mut [Vec<u64>]) -> Result<Vec<Collecting>, Refusal> {
         .collect()
 }
 
-/// The bidder splits its table, and each party adds its own shares.
-fn bid(
+/// The desk splits its bidder's table for every party, with the same coins.
+fn split_bid(table: &[u64], coins: &mut Coins) -> Result<Vec<Vec<u64>>, Refusal> {
+    let drawn: Vec<u64> = (0..coins_len(N, K)).map(|_| coins.coefficient()).collect();
+    (1..=N)
+        .map(|own| {
+            let mut shares = vec![0; table_len(K)];
+            split(N, own, K, table, &drawn, &mut shares)?;
+            Ok(shares)
+        })
+        .collect()
+}
+
+/// The bid goes to these parties, and each adds its own shares.
+fn send(
     sessions: &mut [Collecting],
     totals: &mut [Vec<u64>],
-    table: &[u64],
-    coins: &mut Coins,
+    bidder: u64,
+    shares: &[Vec<u64>],
 ) -> Result<(), Refusal> {
-    let drawn: Vec<u64> = (0..coins_len(N, K)).map(|_| coins.coefficient()).collect();
-    let mut shares = vec![0; table_len(K)];
-    for (session, totals) in sessions.iter_mut().zip(totals) {
-        split(N, session.record().own, K, table, &drawn, &mut shares)?;
-        session.add(totals, &shares)?;
+    for ((session, totals), shares) in sessions.iter_mut().zip(totals).zip(shares) {
+        session.add(totals, bidder, shares)?;
     }
+    Ok(())
+}
+
+/// The same shares go to every party once more. Those that have the bid refuse
+/// it and are as before; the others add it.
+fn send_again(
+    sessions: &mut [Collecting],
+    totals: &mut [Vec<u64>],
+    bidder: u64,
+    shares: &[Vec<u64>],
+) -> Result<(), Refusal> {
+    let mut refused = 0;
+    for ((session, totals), shares) in sessions.iter_mut().zip(totals).zip(shares) {
+        let before = (session.store(), totals.clone());
+        match session.add(totals, bidder, shares) {
+            Err(Refusal::AlreadyEntered) => {
+                assert_eq!((session.store(), totals.clone()), before);
+                refused += 1;
+            }
+            reply => reply?,
+        }
+    }
+    assert_eq!(refused, REACHED);
+    let added = sessions.len() - refused;
+    println!("bidder {bidder} sent again: {refused} refused, {added} added");
     Ok(())
 }
 

@@ -5,32 +5,53 @@
 //!
 //! # The roles
 //!
-//! * A **bidder** has a table: its demand in tenths of an hour at each of k
-//!   listed prices, never rising, then its supply at each, never falling. It
-//!   draws coins for this bid, calls [`split`] once for each party and sends
-//!   each party its shares.
+//! * A **bidder** has a number, 1 to 1,000, and a table: its demand in tenths
+//!   of an hour at each of k listed prices, never rising, then its supply at
+//!   each, never falling. It draws coins for this bid, calls [`split`] once for
+//!   each party and sends each party its shares.
 //! * The **dealer** draws coins for each of [`probe_limit`]`(k)` probes, calls
 //!   [`deal`] once for each party and probe, and sends each party its
 //!   preprocessing: a sheet for each probe.
 //! * A **party** keeps its totals and a session. The session is [`Collecting`]
-//!   first, and adds each bid's shares ([`Collecting::add`]). Then it is
-//!   [`Speaking`] ([`Collecting::speak`]): it says a message
-//!   ([`Speaking::say`]) and hears all n of them ([`Speaking::hear`]), 33
-//!   rounds for each probe of a binary search, until [`Speaking::answer`] gives
-//!   the clearing index: the highest at which total demand is at least total
-//!   supply, or 0 where there is none.
+//!   first, and adds each bid's shares ([`Collecting::add`]), once for each
+//!   bidder: it keeps a roll of who is in. Then it is [`Speaking`]
+//!   ([`Collecting::speak`]): it says a message ([`Speaking::say`]) and hears
+//!   all n of them ([`Speaking::hear`]), 33 rounds for each probe of a binary
+//!   search, until [`Speaking::answer`] gives the clearing index: the highest at
+//!   which total demand is at least total supply, or 0 where there is none.
 //!
 //! A call judges all that it is lent, and where something is wrong it answers a
 //! [`Refusal`] and changes nothing. Drawing coins, networks and signatures are
 //! the caller's.
 //!
+//! # A bid sent again
+//!
+//! A desk that does not know whether its bid arrived sends the same shares
+//! again, under the same number. A party that has the bid answers
+//! [`AlreadyEntered`](Refusal::AlreadyEntered) and has changed nothing; one that
+//! has it not adds it. So a bid counts once, however often it is sent. A session
+//! that speaks adds none; [`Record::has_bid`] still tells who is in. What the
+//! desks and the parties have to see to:
+//!
+//! * A bid counts rightly only where every party adds it, under the same bidder
+//!   number and from one splitting: shares of a table split anew do not fit
+//!   those that other parties have added. Who is in is no secret among the
+//!   parties, so they may compare their rolls before they speak
+//!   ([`Record::roll`]).
+//! * A bid that is in is not replaced: another bid of its bidder is
+//!   `AlreadyEntered` too.
+//! * Session and totals are stored together, as one. Where totals hold a bid
+//!   that an older session's roll does not mark, the bid sent again counts
+//!   double; where the roll marks a bid that older totals do not hold, it is
+//!   missing there, and is `AlreadyEntered` when sent again. No call can tell.
+//!
 //! # What is secret
 //!
 //! With t being (n - 1) / 2 rounded down: what any t parties together receive
-//! fits any other bids that are as many and have the same clearing index, for
-//! exactly one choice of the coins, but for masks that leave their range (at
-//! most 2^33 - 2 of 2^58 at each probe). Fewer than t parties see a part of
-//! that. It rests on this:
+//! fits any other bids of the same bidders, entered in the same order, that have
+//! the same clearing index, for exactly one choice of the coins, but for masks
+//! that leave their range (at most 2^33 - 2 of 2^58 at each probe). Fewer than t
+//! parties see a part of that. It rests on this:
 //!
 //! * Coins are drawn uniformly, independently and used once.
 //! * The parties follow the protocol.
@@ -41,9 +62,9 @@
 //!   opened sum, from even one party or from the messages, learns total demand
 //!   minus total supply there.
 //!
-//! What the price itself says of the totals is not hidden: total demand is at
-//! least total supply up to the clearing index, and below it at every higher
-//! one.
+//! Who bids, and in which order, is not hidden. Nor is what the price itself
+//! says of the totals: total demand is at least total supply up to the clearing
+//! index, and below it at every higher one.
 //!
 //! # Two uses that give bids away
 //!
@@ -72,7 +93,7 @@
 //! // Three parties and one listed price, at which 5 are wanted and 3 offered.
 //! // The coins are fixed for the sake of the example; real ones are random.
 //! let (n, k) = (3, 1);
-//! let (table, coins) = ([5, 3], [11, 12]);
+//! let (bidder, table, coins) = (640, [5, 3], [11, 12]);
 //! let (words, bytes) = ([7, 13], [14; 126 + 62]);
 //!
 //! let mut kept = [([0; 2], [0; SHEET_LEN]); 3];
@@ -81,7 +102,10 @@
 //!     let mut session = Collecting::open(n, own, k, totals)?;
 //!     let mut shares = [0; 2];
 //!     split(n, own, k, &table, &coins, &mut shares)?;
-//!     session.add(totals, &shares)?;
+//!     session.add(totals, bidder, &shares)?;
+//!     // Sent again, it is refused and does not count double.
+//!     let again = session.add(totals, bidder, &shares);
+//!     assert_eq!(again, Err(Refusal::AlreadyEntered));
 //!     deal(n, own, &words, &bytes, sheets)?;
 //!     parties.push(session.speak(totals, sheets));
 //! }
@@ -120,7 +144,7 @@ pub const MASK_LIMIT: u64 = 1 << 58;
 pub const PARTIES: std::ops::RangeInclusive<u64> = 3..=9;
 /// The most listed prices.
 pub const MAX_PRICES: u64 = 1_024;
-/// The most bids.
+/// The most bids that are held, and the highest bidder number.
 pub const MAX_BIDS: u64 = 1_000;
 /// The largest amount, in tenths of an hour.
 pub const MAX_AMOUNT: u64 = 4_194_303;
@@ -128,8 +152,10 @@ pub const MAX_AMOUNT: u64 = 4_194_303;
 pub const ROUNDS: u64 = 33;
 /// The words of a party's preprocessing for one probe.
 pub const SHEET_LEN: usize = 127;
-/// The words of a party's record.
-pub const RECORD_LEN: usize = 10;
+/// The words of a roll, with a bit for each bidder's number.
+pub const ROLL_LEN: usize = 16;
+/// The words of a party's record: ten numbers, then the roll.
+pub const RECORD_LEN: usize = 10 + ROLL_LEN;
 /// The words of a stored session: which of the two types it is, then its record.
 pub const STORED_LEN: usize = 1 + RECORD_LEN;
 

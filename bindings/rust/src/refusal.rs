@@ -1,13 +1,16 @@
 use std::error::Error;
 use std::fmt;
 
-/// Why a call did nothing. Of several that apply, a call names the one with
-/// the lowest number; whatever was lent to it is as before.
+/// Why a call did nothing. Each call lists its refusals in the order in which
+/// it judges them, and names the first that applies; whatever was lent to it is
+/// as before.
 #[derive(Clone, Copy, Debug, PartialEq, Eq, Hash)]
 #[non_exhaustive]
 pub enum Refusal {
-    /// 1: `n`, `own` or `k` is outside its range, or a field of the record is,
-    /// or the first word of a stored session.
+    /// 1: `n`, `own`, `k` or the bidder's number is outside its range, or a
+    /// field of the record is, or the first word of a stored session; `bids` is
+    /// not the number of marks on the roll, or the roll marks a number outside
+    /// 1 to 1,000.
     OutOfRange = 1,
     /// 2: a slice has not the length that the call states.
     WrongLength = 2,
@@ -15,8 +18,6 @@ pub enum Refusal {
     /// the answer before it is over; a stored session resumed as one of the
     /// other type.
     OutOfTurn = 3,
-    /// 4: 1,000 bids are held already.
-    TooManyBids = 4,
     /// 5: a coefficient is not below the prime, or a mask not below 2^58.
     CoinOutOfRange = 5,
     /// 6: an amount is above 4,194,303.
@@ -35,6 +36,8 @@ pub enum Refusal {
     SumOutOfRange = 11,
     /// 12: the opened verdict is neither 0 nor 1.
     VerdictNotBit = 12,
+    /// 14: a bid of this bidder has been added already.
+    AlreadyEntered = 14,
 }
 
 impl Refusal {
@@ -43,7 +46,6 @@ impl Refusal {
         Refusal::OutOfRange,
         Refusal::WrongLength,
         Refusal::OutOfTurn,
-        Refusal::TooManyBids,
         Refusal::CoinOutOfRange,
         Refusal::AmountTooLarge,
         Refusal::NotMonotone,
@@ -52,9 +54,10 @@ impl Refusal {
         Refusal::Inconsistent,
         Refusal::SumOutOfRange,
         Refusal::VerdictNotBit,
+        Refusal::AlreadyEntered,
     ];
 
-    /// The refusal's number, 1 to 12.
+    /// The refusal's number, 1 to 14. The calls give neither 4 nor 13.
     pub fn number(self) -> u64 {
         self as u64
     }
@@ -73,7 +76,6 @@ impl fmt::Display for Refusal {
             Refusal::OutOfRange => "a number or a field of the record is out of range",
             Refusal::WrongLength => "a slice has the wrong length",
             Refusal::OutOfTurn => "the call is out of turn",
-            Refusal::TooManyBids => "1,000 bids are held already",
             Refusal::CoinOutOfRange => "a coin is out of range",
             Refusal::AmountTooLarge => "an amount is too large",
             Refusal::NotMonotone => "demand rises or supply falls",
@@ -82,6 +84,7 @@ impl fmt::Display for Refusal {
             Refusal::Inconsistent => "the messages lie on no polynomial of the degree",
             Refusal::SumOutOfRange => "the opened sum is out of range",
             Refusal::VerdictNotBit => "the opened verdict is not a bit",
+            Refusal::AlreadyEntered => "a bid of this bidder has been added already",
         };
         write!(f, "refusal {}: {text}", self.number())
     }

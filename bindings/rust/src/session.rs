@@ -21,7 +21,7 @@ const SPEAKING: u64 = 1;
 /// # use clockivy::Collecting;
 /// # let (mut totals, sheets) = ([0; 2], [0; 127]);
 /// let mut session = Collecting::open(3, 1, 1, &mut totals)?;
-/// session.add(&mut totals, &[5, 3])?;
+/// session.add(&mut totals, 1, &[5, 3])?;
 /// let speaking = session.speak(&totals, &sheets);
 /// # speaking.say()?;
 /// # Ok::<(), clockivy::Refusal>(())
@@ -34,7 +34,7 @@ const SPEAKING: u64 = 1;
 /// # let (mut totals, sheets) = ([0; 2], [0; 127]);
 /// let mut session = Collecting::open(3, 1, 1, &mut totals)?;
 /// let speaking = session.speak(&totals, &sheets);
-/// session.add(&mut totals, &[5, 3])?;
+/// session.add(&mut totals, 1, &[5, 3])?;
 /// # Ok::<(), clockivy::Refusal>(())
 /// ```
 ///
@@ -66,16 +66,21 @@ impl Collecting {
         })
     }
 
-    /// Adds a bid's shares to `totals`, both of 2k words, and counts the bid.
+    /// Adds a bid's shares to `totals`, both of 2k words, counts the bid and
+    /// marks its bidder, 1 to 1,000, on the roll.
+    ///
+    /// A bid that may not have arrived is sent again, the same shares under the
+    /// same number. Where the party has it, it is `AlreadyEntered` and nothing
+    /// has changed; see [a bid sent again](crate#a-bid-sent-again).
     ///
     /// Refused: [`OutOfRange`](Refusal::OutOfRange),
     /// [`WrongLength`](Refusal::WrongLength),
     /// [`OutOfTurn`](Refusal::OutOfTurn),
-    /// [`TooManyBids`](Refusal::TooManyBids),
+    /// [`AlreadyEntered`](Refusal::AlreadyEntered),
     /// [`ShareOutOfRange`](Refusal::ShareOutOfRange).
-    pub fn add(&mut self, totals: &mut [u64], shares: &[u64]) -> Result<(), Refusal> {
+    pub fn add(&mut self, totals: &mut [u64], bidder: u64, shares: &[u64]) -> Result<(), Refusal> {
         self.record
-            .step(|record| words::add(record, totals, shares))
+            .step(|record| words::add(record, totals, bidder, shares))
     }
 
     /// Ends the collecting. `totals` are this session's, and `sheets` is the
@@ -95,9 +100,11 @@ impl Collecting {
         &self.record
     }
 
-    /// The session as words: 0, then the record. Store the totals along with
-    /// them. Once the session speaks, [`Speaking::store`] takes their place,
-    /// before the first message leaves.
+    /// The session as words: 0, then the record. Store them together with the
+    /// totals, as one: a bid that only one of the two holds
+    /// [counts double or is missing](crate#a-bid-sent-again). Once the session
+    /// speaks, [`Speaking::store`] takes their place, before the first message
+    /// leaves.
     pub fn store(&self) -> [u64; STORED_LEN] {
         stored(COLLECTING, &self.record)
     }
@@ -106,8 +113,10 @@ impl Collecting {
     /// that were stored along with them.
     ///
     /// Resume only the newest session stored, and let only one go on from it.
-    /// Once the session has spoken, an older one that collects is not refused,
-    /// but a bid added to it
+    /// An older one is not refused. With totals that hold more bids than its
+    /// roll marks, such a bid sent again
+    /// [counts double](crate#a-bid-sent-again). Once the session has spoken, a
+    /// bid added to an older one that collects
     /// [is given away](crate#two-uses-that-give-bids-away).
     ///
     /// Refused: [`OutOfRange`](Refusal::OutOfRange) where the first word is

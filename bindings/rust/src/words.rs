@@ -51,6 +51,7 @@ extern "C" {
         record_len: usize,
         totals: *mut u64,
         totals_len: usize,
+        bidder: u64,
         shares: *const u64,
         shares_len: usize,
     ) -> u64;
@@ -130,15 +131,16 @@ pub fn deal(n: u64, own: u64, words: &[u64], bytes: &[u8], sheet: &mut [u64]) ->
     }
 }
 
-/// Adds a bid's shares to `totals`; not after a message is said. Refusals 1, 2,
-/// 3, 4, 8.
-pub fn add(record: &mut [u64], totals: &mut [u64], shares: &[u64]) -> u64 {
+/// Adds a bid's shares to `totals` and marks its bidder; not after a message is
+/// said. Refusals, in this order, 1, 2, 3, 14, 8.
+pub fn add(record: &mut [u64], totals: &mut [u64], bidder: u64, shares: &[u64]) -> u64 {
     unsafe {
         clockivy_add(
             record.as_mut_ptr(),
             record.len(),
             totals.as_mut_ptr(),
             totals.len(),
+            bidder,
             shares.as_ptr(),
             shares.len(),
         )

@@ -2,8 +2,8 @@
 
 use clockivy::{
     coins_len, deal, deal_bytes_len, deal_words_len, probe_limit, sheets_len, split, table_len,
-    threshold, Answer, Collecting, Refusal, Speaking, MASK_LIMIT, MAX_AMOUNT, PRIME, ROUNDS,
-    SHEET_LEN,
+    threshold, Answer, Collecting, Refusal, Speaking, MASK_LIMIT, MAX_AMOUNT, PRIME, ROLL_LEN,
+    ROUNDS, SHEET_LEN, STORED_LEN,
 };
 
 /// All parties' shares of one amount, written as demand at the only price.
@@ -174,13 +174,56 @@ fn limits_of_a_bid() {
 fn a_thousand_bids_and_no_more() {
     let mut totals = [0; 2];
     let mut session = Collecting::open(3, 2, 1, &mut totals).unwrap();
-    for _ in 0..1_000 {
-        session.add(&mut totals, &[2, 3]).unwrap();
+    for bidder in 1..=1_000 {
+        assert!(!session.record().has_bid(bidder));
+        session.add(&mut totals, bidder, &[2, 3]).unwrap();
+        assert_eq!(session.record().bids, bidder);
+        assert!(session.record().has_bid(bidder));
     }
     assert_eq!(totals, [2_000, 3_000]);
+    let mut full = [u64::MAX; ROLL_LEN];
+    full[0] = u64::MAX - 1;
+    full[ROLL_LEN - 1] = (1 << 41) - 1;
+    assert_eq!(session.record().roll, full);
+
     let before = session.store();
-    assert_eq!(session.add(&mut totals, &[2, 3]), Err(Refusal::TooManyBids));
-    assert_eq!((session.store(), totals), (before, [2_000, 3_000]));
+    for bidder in 0..=1_001 {
+        let refusal = match bidder {
+            0 | 1_001 => Refusal::OutOfRange,
+            _ => Refusal::AlreadyEntered,
+        };
+        assert_eq!(session.add(&mut totals, bidder, &[2, 3]), Err(refusal));
+        assert_eq!((session.store(), totals), (before, [2_000, 3_000]));
+    }
+}
+
+#[test]
+fn bidders_are_numbered_from_1_to_1000() {
+    let mut totals = [7; 2];
+    let mut session = Collecting::open(3, 2, 1, &mut totals).unwrap();
+    let before = session.store();
+    let near = [0, 1_001, 1_023, 1_024, 1_025];
+    // Cut to fewer bits, these would be bidder 1.
+    let far = [10, 16, 32, 63].map(|bits| (1 << bits) + 1);
+    for bidder in near.into_iter().chain(far).chain([u64::MAX]) {
+        // Also where a length or a share is wrong.
+        for shares in [&[2, 3][..], &[2], &[PRIME; 2]] {
+            let refused = session.add(&mut totals, bidder, shares);
+            assert_eq!(refused, Err(Refusal::OutOfRange));
+            assert_eq!((session.store(), totals), (before, [0; 2]));
+        }
+    }
+    for bidder in [1_000, 1] {
+        session.add(&mut totals, bidder, &[2, 3]).unwrap();
+    }
+    assert_eq!((session.record().bids, totals), (2, [4, 6]));
+}
+
+/// A stored session of nobody's bids: its words before the roll, then the roll.
+fn stored(numbers: [u64; STORED_LEN - ROLL_LEN]) -> [u64; STORED_LEN] {
+    let mut words = [0; STORED_LEN];
+    words[..numbers.len()].copy_from_slice(&numbers);
+    words
 }
 
 #[test]
@@ -190,7 +233,7 @@ fn limits_of_a_session() {
         Collecting::open(n, own, k, &mut totals).map(|session| (session.store(), totals))
     };
     for n in 3..=9 {
-        let opened = [0, n, n, 1_024, 0, 0, 1_025, 0, 1, 0, 0];
+        let opened = stored([0, n, n, 1_024, 0, 0, 1_025, 0, 1, 0, 0]);
         assert_eq!(open(n, n, 1_024), Ok((opened, vec![0; 2_048])));
         assert_eq!(open(n, n + 1, 1), Err(Refusal::OutOfRange));
         assert_eq!(open(n, 0, 1), Err(Refusal::OutOfRange));
@@ -210,7 +253,7 @@ fn limits_of_a_session() {
 #[test]
 fn answers_wait_for_the_end() {
     let answer = |lo, probes, carry| {
-        let stored = [1, 3, 1, 1, 0, lo, 2, probes, 1, 0, carry];
+        let stored = stored([1, 3, 1, 1, 0, lo, 2, probes, 1, 0, carry]);
         let party = Speaking::resume(&stored, &[], &[]).unwrap();
         assert_eq!(party.is_over(), lo == 1);
         party.answer()
@@ -226,16 +269,17 @@ fn answers_wait_for_the_end() {
 
 #[test]
 fn refusals_by_number() {
-    for (place, refusal) in Refusal::ALL.into_iter().enumerate() {
-        let number = place as u64 + 1;
-        assert_eq!(refusal.number(), number);
+    let numbers = [1, 2, 3, 5, 6, 7, 8, 9, 10, 11, 12, 14];
+    assert_eq!(Refusal::ALL.map(Refusal::number), numbers);
+    for (number, refusal) in numbers.into_iter().zip(Refusal::ALL) {
         assert_eq!(Refusal::from_number(number), Some(refusal));
         assert!(refusal
             .to_string()
             .starts_with(&format!("refusal {number}: ")));
     }
-    assert_eq!(Refusal::from_number(0), None);
-    assert_eq!(Refusal::from_number(13), None);
+    for number in [0, 4, 13, 15, u64::MAX] {
+        assert_eq!(Refusal::from_number(number), None);
+    }
 }
 
 #[test]

@@ -2,15 +2,30 @@
 
 use clockivy::{
     deal, deal_bytes_len, sheets_len, split, words, Answer, Collecting, Record, Refusal, Speaking,
-    PRIME, RECORD_LEN, SHEET_LEN, STORED_LEN,
+    PRIME, RECORD_LEN, ROLL_LEN, SHEET_LEN, STORED_LEN,
 };
 
 const N: u64 = 3;
 const K: u64 = 2;
 /// Demand 5 and 2, supply 1 and 4: they clear at index 1.
 const TABLE: [u64; 4] = [5, 2, 1, 4];
-/// The record that [`Collecting::open`] writes for party 1.
-const OPENED: [u64; RECORD_LEN] = [N, 1, K, 0, 0, K + 1, 0, 1, 0, 0];
+/// The number of the one who bids it.
+const BIDDER: u64 = 640;
+/// The place of `bids` in a record, of its round, and of its roll.
+const BIDS: usize = 3;
+const ROUND: usize = 7;
+const ROLL: usize = RECORD_LEN - ROLL_LEN;
+
+/// The record of party 1 before the first round, with these bidders on the roll.
+fn with_bids(bidders: &[u64]) -> [u64; RECORD_LEN] {
+    let mut record = [0; RECORD_LEN];
+    record[..ROLL].copy_from_slice(&[N, 1, K, 0, 0, K + 1, 0, 1, 0, 0]);
+    record[BIDS] = bidders.len() as u64;
+    for bidder in bidders {
+        record[ROLL + *bidder as usize / 64] |= 1 << (bidder % 64);
+    }
+    record
+}
 
 /// What one party keeps beside its session.
 struct Kept {
@@ -40,7 +55,7 @@ fn sheets(own: u64) -> Vec<u64> {
 fn collected(own: u64) -> (Collecting, Kept) {
     let mut totals = [9; 4];
     let mut session = Collecting::open(N, own, K, &mut totals).unwrap();
-    session.add(&mut totals, &shares(own)).unwrap();
+    session.add(&mut totals, BIDDER, &shares(own)).unwrap();
     let sheets = sheets(own);
     (session, Kept { totals, sheets })
 }
@@ -60,9 +75,10 @@ fn stored(phase: u64, record: [u64; RECORD_LEN]) -> [u64; STORED_LEN] {
 fn bids_and_then_rounds() {
     let mut totals = [9; 4];
     let mut session = Collecting::open(N, 1, K, &mut totals).unwrap();
-    assert_eq!((session.store(), totals), (stored(0, OPENED), [0; 4]));
-    session.add(&mut totals, &shares(1)).unwrap();
-    let one_bid = [N, 1, K, 1, 0, K + 1, 0, 1, 0, 0];
+    let opened = with_bids(&[]);
+    assert_eq!((session.store(), totals), (stored(0, opened), [0; 4]));
+    session.add(&mut totals, BIDDER, &shares(1)).unwrap();
+    let one_bid = with_bids(&[BIDDER]);
     assert_eq!((session.store(), totals), (stored(0, one_bid), shares(1)));
 
     let sheets = sheets(1);
@@ -74,7 +90,8 @@ fn bids_and_then_rounds() {
 
 #[test]
 fn the_fields_of_a_record_in_their_order() {
-    let words = [1, 10, 11, 12, 13, 14, 15, 16, 17, 18, 19];
+    let record: [u64; RECORD_LEN] = std::array::from_fn(|place| place as u64 + 10);
+    let words = stored(1, record);
     let party = Speaking::resume(&words, &[], &[]).unwrap();
     let expected = Record {
         n: 10,
@@ -87,6 +104,9 @@ fn the_fields_of_a_record_in_their_order() {
         round: 17,
         sum: 18,
         carry: 19,
+        roll: [
+            20, 21, 22, 23, 24, 25, 26, 27, 28, 29, 30, 31, 32, 33, 34, 35,
+        ],
     };
     assert_eq!((party.record(), party.store()), (&expected, words));
 }
@@ -95,11 +115,13 @@ fn the_fields_of_a_record_in_their_order() {
 fn a_refused_call_leaves_the_session() {
     let (mut session, mut kept) = collected(1);
     let (before, totals) = (session.store(), kept.totals);
-    for (shares, refusal) in [
-        (&[1; 3][..], Refusal::WrongLength),
-        (&[PRIME; 4], Refusal::ShareOutOfRange),
+    for (bidder, shares, refusal) in [
+        (0, &[1; 4][..], Refusal::OutOfRange),
+        (1, &[1; 3], Refusal::WrongLength),
+        (BIDDER, &[1; 4], Refusal::AlreadyEntered),
+        (1, &[PRIME; 4], Refusal::ShareOutOfRange),
     ] {
-        assert_eq!(session.add(&mut kept.totals, shares), Err(refusal));
+        assert_eq!(session.add(&mut kept.totals, bidder, shares), Err(refusal));
         assert_eq!((session.store(), kept.totals), (before, totals));
     }
 
@@ -155,28 +177,185 @@ fn what_is_not_resumed() {
         ]
     };
     let out_of_turn = Some(Refusal::OutOfTurn);
-    assert_eq!(resume(&stored(0, OPENED)), [None, out_of_turn]);
-    assert_eq!(resume(&stored(1, OPENED)), [out_of_turn, None]);
+    let opened = with_bids(&[]);
+    assert_eq!(resume(&stored(0, opened)), [None, out_of_turn]);
+    assert_eq!(resume(&stored(1, opened)), [out_of_turn, None]);
     for first in [2, u64::MAX] {
         let out_of_range = [Some(Refusal::OutOfRange); 2];
-        assert_eq!(resume(&stored(first, OPENED)), out_of_range);
+        assert_eq!(resume(&stored(first, opened)), out_of_range);
     }
-    for length in [0, RECORD_LEN, STORED_LEN + 1] {
+    // Eleven words were a session before there was a roll.
+    for length in [0, 11, RECORD_LEN, STORED_LEN + 1] {
         let wrong_length = [Some(Refusal::WrongLength); 2];
         assert_eq!(resume(&vec![7; length]), wrong_length);
     }
 }
 
+/// Adds a bid to a session with this record: its record and totals afterwards.
+/// A refusal has left both as they were.
+fn add_to(
+    record: [u64; RECORD_LEN],
+    bidder: u64,
+    totals: [u64; 4],
+    shares: &[u64],
+) -> Result<([u64; RECORD_LEN], [u64; 4]), Refusal> {
+    let mut session = Collecting::resume(&stored(0, record)).unwrap();
+    let mut left = totals;
+    let reply = session.add(&mut left, bidder, shares);
+    let [_, after @ ..] = session.store();
+    if reply.is_err() {
+        assert_eq!((after, left), (record, totals));
+    }
+    reply.map(|()| (after, left))
+}
+
+#[test]
+fn a_bid_sent_again_is_refused_and_changes_nothing() {
+    let (mut session, mut kept) = collected(1);
+    session.add(&mut kept.totals, 1, &[1, 2, 3, 4]).unwrap();
+    let (before, totals) = (session.store(), kept.totals);
+    // The same shares, those of another bid, and either in a stored session.
+    for shares in [shares(1), [9, 8, 7, 6]] {
+        for _ in 0..3 {
+            let again = session.add(&mut kept.totals, BIDDER, &shares);
+            assert_eq!(again, Err(Refusal::AlreadyEntered));
+            assert_eq!((session.store(), kept.totals), (before, totals));
+        }
+        let [_, record @ ..] = before;
+        let again = add_to(record, BIDDER, totals, &shares);
+        assert_eq!(again, Err(Refusal::AlreadyEntered));
+    }
+    // The next bidder's is none of these.
+    session.add(&mut kept.totals, BIDDER + 1, &[1; 4]).unwrap();
+    let expected = with_bids(&[BIDDER, 1, BIDDER + 1]);
+    assert_eq!(session.store(), stored(0, expected));
+}
+
+#[test]
+fn a_bid_marks_its_bidder_and_nobody_else() {
+    for bidder in [1, 2, 62, 63, 64, 65, 127, 128, 512, 959, 960, 999, 1_000] {
+        let others: Vec<u64> = [1, 63, 64, 128, 960, 999, 1_000]
+            .into_iter()
+            .filter(|&other| other != bidder)
+            .collect();
+        let left = add_to(with_bids(&others), bidder, [1; 4], &[2, 3, 4, 5]);
+        let all = [&others[..], &[bidder]].concat();
+        assert_eq!(left, Ok((with_bids(&all), [3, 4, 5, 6])));
+        let again = add_to(with_bids(&all), bidder, [1; 4], &[2, 3, 4, 5]);
+        assert_eq!(again, Err(Refusal::AlreadyEntered));
+    }
+}
+
+#[test]
+fn the_roll_by_bidders() {
+    let past = [1_024, 1_025, 2_048, 1 << 32, 1 << 38, 1 << 63, u64::MAX];
+    for bidder in [0, 1, 63, 64, 640, 1_000, 1_001, 1_023] {
+        let session = Collecting::resume(&stored(0, with_bids(&[bidder]))).unwrap();
+        let record = session.record();
+        for other in (0..1_024).chain(past) {
+            assert_eq!(record.has_bid(other), other == bidder);
+        }
+    }
+}
+
+/// Every call on a record refuses one whose roll is not sound.
+fn assert_unsound(record: [u64; RECORD_LEN]) {
+    let out_of_range = Err(Refusal::OutOfRange);
+    for bidder in [BIDDER, BIDDER + 1] {
+        let reply = add_to(record, bidder, [0; 4], &[0; 4]);
+        assert_eq!(reply.map(|_| ()), out_of_range);
+    }
+    let (totals, sheets) = ([0; 4], vec![0; sheets_len(K)]);
+    let mut party = Speaking::resume(&stored(1, record), &totals, &sheets).unwrap();
+    assert_eq!(party.say().map(|_| ()), out_of_range);
+    assert_eq!(party.hear(&[0; 3]), out_of_range);
+    assert_eq!(party.answer().map(|_| ()), out_of_range);
+    assert_eq!(party.store(), stored(1, record));
+}
+
+#[test]
+fn bids_are_the_marks_on_the_roll() {
+    for bidders in [&[][..], &[BIDDER], &[1, 64, 1_000]] {
+        let sound = with_bids(bidders);
+        let marks = bidders.len() as u64;
+        for bids in [marks.wrapping_sub(1), marks + 1, 1_000, 1_001, u64::MAX] {
+            let mut record = sound;
+            record[BIDS] = bids;
+            assert_unsound(record);
+        }
+        assert!(add_to(sound, 7, [0; 4], &[0; 4]).is_ok());
+    }
+}
+
+#[test]
+fn a_roll_marks_bidders_alone() {
+    // `with_bids` counts these marks too, so that only their place is wrong.
+    for nobody in std::iter::once(0).chain(1_001..1_024) {
+        assert_unsound(with_bids(&[nobody]));
+        assert_unsound(with_bids(&[nobody, BIDDER]));
+        assert_unsound(with_bids(&[nobody, 1, 1_000]));
+    }
+    let everybody: Vec<u64> = (0..1_024).collect();
+    assert_unsound(with_bids(&everybody));
+    assert_unsound(with_bids(&everybody[..1_001]));
+    let full = with_bids(&everybody[1..1_001]);
+    let reply = add_to(full, BIDDER, [0; 4], &[0; 4]);
+    assert_eq!(reply, Err(Refusal::AlreadyEntered));
+}
+
+#[test]
+fn a_bid_is_judged_in_its_order() {
+    let sound = with_bids(&[BIDDER]);
+    let mut unsound = sound;
+    unsound[BIDS] = 2;
+    let mut heard = sound;
+    heard[ROUND] = 2;
+    let (short, foreign) = (&[PRIME; 3][..], &[PRIME; 4]);
+    for (record, bidder, shares, refusal) in [
+        (unsound, BIDDER, short, Refusal::OutOfRange),
+        (heard, 0, short, Refusal::OutOfRange),
+        (heard, BIDDER, short, Refusal::WrongLength),
+        (heard, BIDDER, foreign, Refusal::OutOfTurn),
+        (heard, 1, foreign, Refusal::OutOfTurn),
+        (sound, BIDDER, foreign, Refusal::AlreadyEntered),
+        (sound, 1, foreign, Refusal::ShareOutOfRange),
+    ] {
+        for totals in [[0; 4], [PRIME; 4]] {
+            assert_eq!(add_to(record, bidder, totals, shares), Err(refusal));
+        }
+    }
+    // On plain words the record's length comes before all else.
+    for length in [0, 10, RECORD_LEN - 1, RECORD_LEN + 1] {
+        let mut record = vec![u64::MAX; length];
+        let number = words::add(&mut record, &mut [0; 4], 0, short);
+        assert_eq!(number, Refusal::WrongLength.number());
+        assert_eq!(record, vec![u64::MAX; length]);
+    }
+}
+
+/// Why session and totals are stored as one: an older session passes every
+/// judgement, and does not know of the bid that the totals hold.
+#[test]
+fn a_bid_sent_again_to_an_older_session_counts_double() {
+    let mut totals = [0; 4];
+    let mut session = Collecting::open(N, 1, K, &mut totals).unwrap();
+    let older = session.store();
+    session.add(&mut totals, BIDDER, &[1, 2, 3, 4]).unwrap();
+    let mut session = Collecting::resume(&older).unwrap();
+    session.add(&mut totals, BIDDER, &[1, 2, 3, 4]).unwrap();
+    assert_eq!((session.record().bids, totals), (1, [2, 4, 6, 8]));
+}
+
 #[test]
 fn a_resumed_record_is_judged_by_the_next_call() {
-    let mut heard = OPENED;
-    heard[7] = 2;
-    let mut session = Collecting::resume(&stored(0, heard)).unwrap();
-    assert_eq!(session.add(&mut [0; 4], &[0; 4]), Err(Refusal::OutOfTurn));
+    let mut heard = with_bids(&[]);
+    heard[ROUND] = 2;
+    let reply = add_to(heard, BIDDER, [0; 4], &[0; 4]);
+    assert_eq!(reply, Err(Refusal::OutOfTurn));
 
     let none = [u64::MAX; RECORD_LEN];
-    let mut session = Collecting::resume(&stored(0, none)).unwrap();
-    assert_eq!(session.add(&mut [0; 4], &[0; 4]), Err(Refusal::OutOfRange));
+    let reply = add_to(none, BIDDER, [0; 4], &[0; 4]);
+    assert_eq!(reply, Err(Refusal::OutOfRange));
     let mut party = Speaking::resume(&stored(1, none), &[], &[]).unwrap();
     assert_eq!((party.is_over(), party.index()), (false, u64::MAX));
     assert_eq!(party.say(), Err(Refusal::OutOfRange));
@@ -205,7 +384,7 @@ fn a_bid_between_two_sayings_is_given_away() {
     };
     let before = say(&record, &totals);
     let bid = [9_000, 8_000, 70, 60];
-    assert_eq!(words::add(&mut record, &mut totals, &bid), 0);
+    assert_eq!(words::add(&mut record, &mut totals, 1, &bid), 0);
     let after = say(&record, &totals);
     assert_eq!((after + PRIME - before) % PRIME, bid[0] - bid[2]);
 }

@@ -3,7 +3,6 @@ use mathlib.Core.Path.{_≡_, refl, sym, ap, ap₂, _∙_}
 use mathlib.Core.List.{List, [], _∷_, _++_}
 use Prim.Native.Nat.{ℕ, zero, suc, _+_, _*_, _%_, _≤_, _<_}
 use native.Mathlib.Nat.{suc-inj, mul-zero}
-use native.Mathlib.Numerals.{add-one}
 use native.Mathlib.Omega.{arith}
 use lib.ListN.{length, replicate, length-append, length-map, length-replicate}
 use lib.Seq.{take-at, drop-at}
@@ -20,16 +19,19 @@ use Rattle.comparison.specs.Probe.{Each, Group}
 use Rattle.comparison.proofs.Values.{Shared}
 use Rattle.bid.specs.Split.{split-judgement, bid-shares, split-left}
 use Rattle.bid.proofs.Laws.{split-accepted}
+use Rattle.roll.specs.declared.Roll.{Roll}
+use Rattle.roll.specs.Marks.{marks, empty, mark}
+use Rattle.roll.proofs.Laws.{Proper, Free, marks-mark, marks-empty}
 use Rattle.record.specs.declared.Party.{Party}
 use Rattle.record.specs.Record.{blank}
 use Rattle.session.specs.Open.{open-judgement}
-use Rattle.record.specs.Updates.{fresh, counted}
+use Rattle.record.specs.Updates.{fresh, entered}
 use Rattle.record.proofs.Soundness.{Sound}
-use Rattle.record.proofs.Updates.{fresh-sound, counted-sound}
+use Rattle.record.proofs.Updates.{fresh-sound}
 use Rattle.session.specs.Add.{add-judgement, add-reply, add-left}
 use Rattle.session.proofs.Laws.{open-accepted, add-accepted}
 use Rattle.auction.specs.Auction.{Auction, IsAuction}
-use Rattle.auction.specs.Coins.{Coins, flat}
+use Rattle.auction.specs.Coins.{Coins, DrawnBid, flat}
 use Rattle.auction.specs.Canonical.{Seat, zeros, seated, shares-for, after-adding}
 use Rattle.auction.proofs.Closed.{entries, added-polynomials, at-party, no-totals}
 use Rattle.auction.proofs.Judging.{kept-new, replied-next}
@@ -64,10 +66,10 @@ shares-written t j (x ∷ xs) (g ∷ gs) l h =
     ap₂ (λ (u v : List ℕ). value amounts (x ∷ u) j ∷ bid-shares t j xs v) (take-at g (flat gs) t (h .0 .0)) (drop-at g (flat gs) t (h .0 .0))
     ∙ ap (λ (z : List ℕ). value amounts (x ∷ g) j ∷ z) (shares-written t j xs gs (suc-inj l) (h .1))
 
-module _ (n j k : ℕ) (L : OnList n j k) (b : List ℕ × List (List ℕ)) (shares : List ℕ) (B : GoodBid k (threshold n) b) (l : length shares ≡ 2 * k) where
-  pub splits-bid : split-judgement n j k (b .0) (flat (b .1)) shares ≡ Accepted
+module _ (n j k : ℕ) (L : OnList n j k) (b : DrawnBid) (shares : List ℕ) (B : GoodBid k (threshold n) b) (l : length shares ≡ 2 * k) where
+  pub splits-bid : split-judgement n j k (b .0 .table) (flat (b .1)) shares ≡ Accepted
   splits-bid =
-      split-accepted n j k (b .0) (flat (b .1)) shares
+      split-accepted n j k (b .0 .table) (flat (b .1)) shares
       (record {
         listed = L;
         table-long = B .table .long;
@@ -78,27 +80,40 @@ module _ (n j k : ℕ) (L : OnList n j k) (b : List ℕ × List (List ℕ)) (sha
         monotone = B .table .monotone;
       })
 
-  pub split-writes : split-left n j k (b .0) (flat (b .1)) shares ≡ at-party j (entries (b .0) (b .1))
-  split-writes = kept-new _ splits-bid _ shares ∙ shares-written (threshold n) j (b .0) (b .1) (B .many ∙ sym (B .table .long)) (B .groups)
+  pub split-writes : split-left n j k (b .0 .table) (flat (b .1)) shares ≡ at-party j (entries (b .0 .table) (b .1))
+  split-writes = kept-new _ splits-bid _ shares ∙ shares-written (threshold n) j (b .0 .table) (b .1) (B .many ∙ sym (B .table .long)) (B .groups)
 
--- the record of party j with m bids held
-unfoldable pub holding : (n k m j : ℕ) → Party
-holding n k m j = record { n = n; own = j; k = k; bids = m; lo = 0; hi = k + 1; probes = 0; round = 1; sum = 0; carry = 0 }
+-- the record of party j with the bids of these on the roll held
+unfoldable pub holding : (n k : ℕ) (roll : Roll) (j : ℕ) → Party
+holding n k roll j =
+    record { n = n; own = j; k = k; bids = marks roll; lo = 0; hi = k + 1; probes = 0; round = 1; sum = 0; carry = 0; roll = roll }
 
-fresh-holding : (n k j : ℕ) → fresh n j k ≡ holding n k 0 j
+pub fresh-holding : (n k j : ℕ) → fresh n j k ≡ holding n k empty j
 unfolding fresh holding
-fresh-holding n k j = refl
+fresh-holding n k j = rw marks-empty
 
-pub one-more : (n k m j : ℕ) → counted (holding n k m j) ≡ holding n k (m + 1) j
-unfolding counted holding
-one-more n k m j = refl
+module _ (n k j : ℕ) (roll : Roll) (P : Proper roll) where
+  pub one-more : (b : ℕ) → Free roll b → entered (holding n k roll j) b ≡ holding n k (mark roll b) j
+  unfolding entered holding
+  one-more b free = rw (marks-mark roll P b free)
 
-holding-sound : (n k j m : ℕ) → OnList n j k → m ≤ 1000 → Sound (holding n k m j)
-unfolding holding fresh counted
-holding-sound n k j zero L h = fresh-sound n j k L
-holding-sound n k j (suc m) L h =
-    let next : Sound (holding n k (m + 1) j) = counted-sound (holding n k m j) (holding-sound n k j m L (omega arith)) (omega arith) in
-    rw (add-one m) at next
+  holding-sound : OnList n j k → Sound (holding n k roll j)
+  unfolding holding fresh
+  holding-sound L =
+      let s = fresh-sound n j k L in
+      record {
+        listed = L;
+        apart = s .apart;
+        inside = s .inside;
+        round-least = s .round-least;
+        round-most = s .round-most;
+        sum = s .sum;
+        carry = s .carry;
+        probes = s .probes;
+        ended = s .ended;
+        roll = P;
+        bids = refl;
+      }
 
 -- ---- the words of a party
 
@@ -130,9 +145,9 @@ at-party-zeros t j (suc m) = ap₂ (λ (x : ℕ) (xs : List ℕ). x ∷ xs) (val
 
 -- ---- seats
 
--- party j with m bids held and the polynomials fs behind the totals
-unfoldable pub holding-seat : (a : Auction) (m : ℕ) (fs : List (List ℕ)) (j : ℕ) → Seat
-holding-seat a m fs j = record { party = holding (a .n) (a .k) m j; totals = at-party j fs; sheets = [] }
+-- party j with the bids of these on the roll held and the polynomials fs behind the totals
+unfoldable pub holding-seat : (a : Auction) (roll : Roll) (fs : List (List ℕ)) (j : ℕ) → Seat
+holding-seat a roll fs j = record { party = holding (a .n) (a .k) roll j; totals = at-party j fs; sheets = [] }
 
 module _ {a : Auction} (A : IsAuction a) (j : ℕ) (h1 : 1 ≤ j) (hn : j ≤ a .n) where
   -- every party of an auction is one of n, with k listed prices
@@ -154,48 +169,48 @@ module _ {a : Auction} (c : Coins) (A : IsAuction a) (j : ℕ) (h1 : 1 ≤ j) (h
   pub opened : open-judgement (a .n) j (a .k) (zeros a c) ≡ Accepted
   opened = opening-accepted A j h1 hn (zeros a c) (length-replicate (2 * a .k) 0)
 
-  pub seated-holding : seated a c j ≡ holding-seat a 0 (no-totals a) j
+  pub seated-holding : seated a c j ≡ holding-seat a empty (no-totals a) j
   unfolding seated holding-seat
   seated-holding =
       ap₂ (λ (q : Party) (totals : List ℕ). record { party = q; totals = totals; sheets = [] })
       (replied-next _ opened (fresh (a .n) j (a .k)) blank ∙ fresh-holding (a .n) (a .k) j)
       (kept-new _ opened (replicate (2 * a .k) 0) (zeros a c) ∙ sym (at-party-zeros (threshold (a .n)) j (2 * a .k)))
 
-  module _ (b : List ℕ × List (List ℕ)) (B : GoodBid (a .k) (threshold (a .n)) b) where
-    pub splitting-accepted : split-judgement (a .n) j (a .k) (b .0) (flat (b .1)) (zeros a c) ≡ Accepted
+  module _ (b : DrawnBid) (B : GoodBid (a .k) (threshold (a .n)) b) where
+    pub splitting-accepted : split-judgement (a .n) j (a .k) (b .0 .table) (flat (b .1)) (zeros a c) ≡ Accepted
     splitting-accepted = splits-bid (a .n) j (a .k) (member A j h1 hn) b (zeros a c) B (length-replicate (2 * a .k) 0)
 
-    module _ (m : ℕ) (fs : List (List ℕ)) (F : Held (a .k) (threshold (a .n)) fs) where
-      pub shares-for-party : shares-for a c b (holding-seat a m fs j) ≡ at-party j (entries (b .0) (b .1))
+    module _ (roll : Roll) (fs : List (List ℕ)) (F : Held (a .k) (threshold (a .n)) fs) where
+      pub shares-for-party : shares-for a c b (holding-seat a roll fs j) ≡ at-party j (entries (b .0 .table) (b .1))
       unfolding shares-for holding-seat holding
       shares-for-party = split-writes (a .n) j (a .k) (member A j h1 hn) b (zeros a c) B (length-replicate (2 * a .k) 0)
 
-      module _ (hm : m < 1000) where
-        pub adding-accepted : add-judgement (holding (a .n) (a .k) m j) (at-party j fs) (at-party j (entries (b .0) (b .1))) ≡ Accepted
+      module _ (P : Proper roll) (free : Free roll (b .0 .bidder)) where
+        pub adding-accepted : add-judgement (holding (a .n) (a .k) roll j) (at-party j fs) (b .0 .bidder) (at-party j (entries (b .0 .table) (b .1))) ≡ Accepted
         unfolding holding
         adding-accepted =
-            let E : Held (a .k) (threshold (a .n)) (entries (b .0) (b .1)) = entries-held (a .k) (threshold (a .n)) b B in
+            let E : Held (a .k) (threshold (a .n)) (entries (b .0 .table) (b .1)) = entries-held (a .k) (threshold (a .n)) b B in
             let hj : j < p = point-below (a .n) j (A .n-most) hn in
-            add-accepted (holding (a .n) (a .k) m j) (at-party j fs) (at-party j (entries (b .0) (b .1)))
+            add-accepted (holding (a .n) (a .k) roll j) (at-party j fs) (b .0 .bidder) (at-party j (entries (b .0 .table) (b .1)))
             (record {
-              sound = holding-sound (a .n) (a .k) j m (member A j h1 hn) (omega (arith, hm));
+              sound = holding-sound (a .n) (a .k) j roll P (member A j h1 hn);
+              free = free;
               totals-long = length-map fs (λ f. value amounts f j) ∙ F .many;
-              shares-long = length-map (entries (b .0) (b .1)) (λ f. value amounts f j) ∙ E .many;
+              shares-long = length-map (entries (b .0 .table) (b .1)) (λ f. value amounts f j) ∙ E .many;
               no-probes = refl;
               first-round = refl;
-              room = hm;
               totals-below = at-party-below (threshold (a .n)) j fs hj (F .shared);
-              shares-below = at-party-below (threshold (a .n)) j (entries (b .0) (b .1)) hj (E .shared);
+              shares-below = at-party-below (threshold (a .n)) j (entries (b .0 .table) (b .1)) hj (E .shared);
             })
 
-        pub added-holding : after-adding a c b (holding-seat a m fs j) ≡ holding-seat a (m + 1) (added-polynomials fs (entries (b .0) (b .1))) j
+        pub added-holding : after-adding a c b (holding-seat a roll fs j) ≡ holding-seat a (mark roll (b .0 .bidder)) (added-polynomials fs (entries (b .0 .table) (b .1))) j
         unfolding after-adding holding-seat
         added-holding =
-            let q : Party = holding (a .n) (a .k) m j in
-            let E : Held (a .k) (threshold (a .n)) (entries (b .0) (b .1)) = entries-held (a .k) (threshold (a .n)) b B in
-            ap (λ (shares : List ℕ). record { party = add-reply q (at-party j fs) shares .party; totals = add-left q (at-party j fs) shares; sheets = [] })
+            let q : Party = holding (a .n) (a .k) roll j in
+            let E : Held (a .k) (threshold (a .n)) (entries (b .0 .table) (b .1)) = entries-held (a .k) (threshold (a .n)) b B in
+            ap (λ (shares : List ℕ). record { party = add-reply q (at-party j fs) (b .0 .bidder) shares .party; totals = add-left q (at-party j fs) (b .0 .bidder) shares; sheets = [] })
             shares-for-party
             ∙ ap₂ (λ (r : Party) (totals : List ℕ). record { party = r; totals = totals; sheets = [] })
-            (replied-next _ adding-accepted (counted q) q ∙ one-more (a .n) (a .k) m j)
+            (replied-next _ adding-accepted (entered q (b .0 .bidder)) q ∙ one-more (a .n) (a .k) j roll P (b .0 .bidder) free)
             (kept-new _ adding-accepted _ (at-party j fs)
-            ∙ at-party-added (threshold (a .n)) j fs (entries (b .0) (b .1)) (point-below (a .n) j (A .n-most) hn) (F .shared) (E .shared) (E .many ∙ sym (F .many)))
+            ∙ at-party-added (threshold (a .n)) j fs (entries (b .0 .table) (b .1)) (point-below (a .n) j (A .n-most) hn) (F .shared) (E .shared) (E .many ∙ sym (F .many)))

@@ -6,19 +6,17 @@ use mathlib.Core.Option.{Option}
 use Prim.Native.Nat.{ℕ, _*_, _≤_}
 use lib.ListN.{length, replicate, length-map}
 use Rattle.ranges.specs.Sizes.{probe-rounds}
-use Rattle.session.specs.declared.reply.Answer.the-variants.{Cleared}
-use Rattle.auction.specs.Auction.{Auction, IsAuction, clearing-answer}
+use Rattle.auction.specs.Auction.{Auction, IsAuction}
 use Rattle.auction.specs.Coins.{Coins, InRange}
 use Rattle.auction.specs.Call.{Call}
 use Rattle.auction.specs.Canonical.{canonical}
 use Rattle.auction.specs.Run.{own}
-use Rattle.auction.specs.Received.{collect, bid-shares-in, hearing-in, answer-in, received-shares, hearings, answers, messages, sheets, decisions, verdicts}
+use Rattle.auction.specs.Received.{collect, bid-in, hearing-in, asking-in, received-bids, hearings, askings, messages, sheets, decisions, verdicts}
 use Rattle.auction.specs.Demands.{all-accepted}
-use Rattle.auction.proofs.Closed.{decision, all-spoken, sheets-at, probes}
+use Rattle.auction.proofs.Closed.{bid-words, decision, all-spoken, record-at, sheets-at, probes}
 use Rattle.auction.proofs.Calls.{own-append, collect-append, all-accepted-append}
-use Rattle.auction.proofs.Setup.{setup-calls, canonical-setup, setup-accepted, setup-shares, setup-hearings, setup-answers}
-use Rattle.auction.proofs.SameBids.{bid-words}
-use Rattle.auction.proofs.Rounds.{round-calls, rounds-accepted, rounds-messages, rounds-sheets, rounds-decisions, rounds-bids, rounds-answers}
+use Rattle.auction.proofs.Setup.{setup-calls, canonical-setup, setup-accepted, setup-bids, setup-hearings, setup-askings}
+use Rattle.auction.proofs.Rounds.{end, round-calls, rounds-accepted, rounds-messages, rounds-sheets, rounds-decisions, rounds-bids, rounds-askings}
 
 module _ (a : Auction) (c : Coins) (A : IsAuction a) (C : InRange a c) where
   pub canonical-accepted : all-accepted (canonical a c) ≡ true
@@ -36,8 +34,8 @@ module _ (a : Auction) (c : Coins) (A : IsAuction a) (C : InRange a c) where
         ∙ ap (λ l. l ++ collect f (own j (round-calls a c))) e
         ∙ ap (λ l. xs ++ l) g
 
-    pub canonical-bid-shares : received-shares j (canonical a c) ≡ bid-words j (a .bids) (c .bids)
-    canonical-bid-shares = reads bid-shares-in _ [] (setup-shares A C j j1 jn) (rounds-bids a c A C j j1 jn) ∙ append-nil _
+    pub canonical-bids : received-bids j (canonical a c) ≡ bid-words j (a .bids) (c .bids)
+    canonical-bids = reads bid-in _ [] (setup-bids A C j j1 jn) (rounds-bids a c A C j j1 jn) ∙ append-nil _
 
     canonical-hearings : hearings j (canonical a c) ≡ collect hearing-in (own j (round-calls a c))
     canonical-hearings = reads hearing-in [] _ (setup-hearings A C j j1 jn) refl
@@ -54,5 +52,5 @@ module _ (a : Auction) (c : Coins) (A : IsAuction a) (C : InRange a c) where
     pub canonical-many : length (verdicts j (canonical a c)) ≡ length (probes a c)
     canonical-many = length-map (decisions j (canonical a c)) (λ d. d .1) ∙ ap length canonical-decisions ∙ length-map (probes a c) decision
 
-    pub canonical-answers : answers j (canonical a c) ≡ Cleared (clearing-answer a) (length (probes a c)) ∷ []
-    canonical-answers = reads answer-in [] _ (setup-answers A C j j1 jn) (rounds-answers a c A C j j1 jn)
+    pub canonical-askings : askings j (canonical a c) ≡ record-at a c (end a c A C) j ∷ []
+    canonical-askings = reads asking-in [] _ (setup-askings A C j j1 jn) (rounds-askings a c A C j j1 jn)

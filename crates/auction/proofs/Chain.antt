@@ -16,7 +16,7 @@ use Rattle.auction.specs.Coins.{Coins}
 use Rattle.auction.specs.Call.{Call, accepted, whose, of-party, given}
 use Rattle.auction.specs.Canonical.{Seat, all-over, say-by, word-by, hear-by, ask, from-rounds, after-hearing}
 use Rattle.auction.specs.Run.{select, own}
-use Rattle.auction.specs.Received.{collect, bid-shares-in, Hearing, hearing-in, answer-in, verdict-in, decision-in}
+use Rattle.auction.specs.Received.{collect, bid-in, Hearing, hearing-in, asking-in, verdict-in, decision-in}
 use Rattle.auction.specs.Demands.{all-accepted}
 use Rattle.auction.proofs.Closed.{Stage, record-at, sheets-at, seat}
 use Rattle.auction.proofs.Calls.{own-append, collect-append, collect-none, collect-some, all-accepted-append, all-accepted-points, map-points, Own, own-points}
@@ -144,13 +144,13 @@ module _ (a : Auction) (c : Coins) (many : 1 ≤ a .n) where
       unfolding collect hearing-in say-by hear-by seat
       turn-hearings = ap (collect hearing-in) own-turn
 
-      turn-bids : collect bid-shares-in (own j (turn-calls a c this)) ≡ []
-      unfolding collect bid-shares-in say-by hear-by
-      turn-bids = ap (collect bid-shares-in) own-turn
+      turn-bids : collect bid-in (own j (turn-calls a c this)) ≡ []
+      unfolding collect bid-in say-by hear-by
+      turn-bids = ap (collect bid-in) own-turn
 
-      turn-answers : collect answer-in (own j (turn-calls a c this)) ≡ []
-      unfolding collect answer-in say-by hear-by
-      turn-answers = ap (collect answer-in) own-turn
+      turn-askings : collect asking-in (own j (turn-calls a c this)) ≡ []
+      unfolding collect asking-in say-by hear-by
+      turn-askings = ap (collect asking-in) own-turn
 
   -- ---- a chain of rounds
 
@@ -194,17 +194,17 @@ module _ (a : Auction) (c : Coins) (many : 1 ≤ a .n) where
     chain-hearings (quiet {rs} s e r) = reads hearing-in _ rs _ (map (hearing-of a c j) rs) (turn-hearings s j j1 jn) (chain-hearings r)
     chain-hearings (decides {rs} s e r) = reads hearing-in _ rs _ (map (hearing-of a c j) rs) (turn-hearings s j j1 jn) (chain-hearings r)
 
-    pub chain-bids : {σ τ : Stage} {rs : List Turn} {ds : List (ℕ × ℕ)} → Chain a c σ rs ds τ → collect bid-shares-in (own j (calls a c rs)) ≡ []
+    pub chain-bids : {σ τ : Stage} {rs : List Turn} {ds : List (ℕ × ℕ)} → Chain a c σ rs ds τ → collect bid-in (own j (calls a c rs)) ≡ []
     unfolding calls collect select
     chain-bids done = refl
-    chain-bids (quiet {rs} s e r) = reads bid-shares-in _ rs [] [] (turn-bids s j j1 jn) (chain-bids r)
-    chain-bids (decides {rs} s e r) = reads bid-shares-in _ rs [] [] (turn-bids s j j1 jn) (chain-bids r)
+    chain-bids (quiet {rs} s e r) = reads bid-in _ rs [] [] (turn-bids s j j1 jn) (chain-bids r)
+    chain-bids (decides {rs} s e r) = reads bid-in _ rs [] [] (turn-bids s j j1 jn) (chain-bids r)
 
-    pub chain-answers : {σ τ : Stage} {rs : List Turn} {ds : List (ℕ × ℕ)} → Chain a c σ rs ds τ → collect answer-in (own j (calls a c rs)) ≡ []
+    pub chain-askings : {σ τ : Stage} {rs : List Turn} {ds : List (ℕ × ℕ)} → Chain a c σ rs ds τ → collect asking-in (own j (calls a c rs)) ≡ []
     unfolding calls collect select
-    chain-answers done = refl
-    chain-answers (quiet {rs} s e r) = reads answer-in _ rs [] [] (turn-answers s j j1 jn) (chain-answers r)
-    chain-answers (decides {rs} s e r) = reads answer-in _ rs [] [] (turn-answers s j j1 jn) (chain-answers r)
+    chain-askings done = refl
+    chain-askings (quiet {rs} s e r) = reads asking-in _ rs [] [] (turn-askings s j j1 jn) (chain-askings r)
+    chain-askings (decides {rs} s e r) = reads asking-in _ rs [] [] (turn-askings s j j1 jn) (chain-askings r)
 
     -- the decisions are those that the chain tells
     none-decided : (r : Turn) → verdict-heard a c r ≡ none → decision-in (hearing-of a c j r) ≡ none

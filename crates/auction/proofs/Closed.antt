@@ -3,7 +3,7 @@
 use mathlib.Core.Bool.{true, false}
 use mathlib.Core.List.{List, [], _∷_, map, flatten, zip}
 use Prim.Native.Nat.{ℕ, zero, suc, _+_, _-_, _*_}
-use lib.ListN.{length, replicate, getD}
+use lib.ListN.{replicate, getD}
 use Rattle.ranges.specs.Sizes.{probe-rounds}
 use Rattle.fields.specs.Amount.{amounts}
 use Rattle.fields.specs.Byte.{bytes}
@@ -15,8 +15,11 @@ use Rattle.search.specs.declared.Bracket.{Bracket}
 use Rattle.search.specs.Bracket.{start, middle, over, step}
 use Rattle.comparison.specs.Probe.{SheetCoins, sheet-polynomials, sheet-shares, probe-messages, Probe, secret, round, carry-after, opened-sum, carry-one, last-polynomial}
 use Rattle.record.specs.declared.Party.{Party}
-use Rattle.auction.specs.Auction.{Auction}
-use Rattle.auction.specs.Coins.{Coins, flat}
+use Rattle.roll.specs.declared.Roll.{Roll}
+use Rattle.roll.specs.Marks.{marks, empty}
+use Rattle.roll.proofs.Entry.{enter}
+use Rattle.auction.specs.Auction.{Auction, Bid, bidders}
+use Rattle.auction.specs.Coins.{Coins, DrawnBid, flat}
 use Rattle.auction.specs.Canonical.{Seat}
 
 -- ---- totals
@@ -34,13 +37,20 @@ added-polynomials (f ∷ fs) [] = []
 added-polynomials (f ∷ fs) (g ∷ gs) = sums amounts f g ∷ added-polynomials fs gs
 
 -- the polynomials of the totals after these bids
-unfoldable pub totals-after : List (List ℕ × List (List ℕ)) → List (List ℕ) → List (List ℕ)
+unfoldable pub totals-after : List DrawnBid → List (List ℕ) → List (List ℕ)
 totals-after [] fs = fs
-totals-after (b ∷ bs) fs = totals-after bs (added-polynomials fs (entries (b .0) (b .1)))
+totals-after (b ∷ bs) fs = totals-after bs (added-polynomials fs (entries (b .0 .table) (b .1)))
 
 -- party j's words of them
 abbrev pub at-party : ℕ → List (List ℕ) → List ℕ
 at-party j fs = map (λ f. value amounts f j) fs
+
+-- what party j receives of a bid, and of all of them
+abbrev pub bid-for : ℕ → DrawnBid → ℕ × List ℕ
+bid-for j b = (b .0 .bidder, at-party j (entries (b .0 .table) (b .1)))
+
+abbrev pub bid-words : ℕ → List Bid → List (List (List ℕ)) → List (ℕ × List ℕ)
+bid-words j bids gss = map (bid-for j) (zip bids gss)
 
 module _ (a : Auction) where
   abbrev pub no-totals : List (List ℕ)
@@ -48,6 +58,10 @@ module _ (a : Auction) where
 
   unfoldable pub polynomials : Coins → List (List ℕ)
   polynomials c = totals-after (zip (a .bids) (c .bids)) no-totals
+
+  -- the roll once all have entered
+  unfoldable pub full-roll : Roll
+  full-roll = enter empty (bidders a)
 
   -- ---- one probe
 
@@ -117,13 +131,14 @@ module _ (a : Auction) (c : Coins) where
         n = a .n;
         own = j;
         k = a .k;
-        bids = length (a .bids);
+        bids = marks (full-roll a);
         lo = σ .lo;
         hi = σ .hi;
         probes = σ .probes;
         round = σ .round;
         sum = σ .sum;
         carry = value bytes (σ .carry) j;
+        roll = full-roll a;
       }
 
   unfoldable pub sheets-at : ℕ → List ℕ

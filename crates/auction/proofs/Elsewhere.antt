@@ -15,17 +15,17 @@ use Rattle.sharing.specs.Scheme.{points}
 use Rattle.comparison.specs.Probe.{Each}
 use Rattle.record.specs.declared.Party.{Party}
 use Rattle.record.specs.Record.{sound, replied, blank}
-use Rattle.record.specs.Updates.{fresh, counted}
+use Rattle.record.specs.Updates.{fresh, entered}
 use Rattle.session.specs.Open.{open-judgement}
 use Rattle.session.specs.Add.{add-judgement}
 use Rattle.session.specs.Answer.{answer-judgement}
-use Rattle.record.proofs.Updates.{blank-unsound, counted-same}
+use Rattle.record.proofs.Updates.{blank-unsound, entered-same}
 use Rattle.saying.specs.Say.{current, turn-judgement, say-judgement}
 use Rattle.hearing.proofs.Next.{after-same}
 use Rattle.hearing.specs.Hear.{hear-judgement, after}
 use Rattle.round.specs.Round.{heard}
 use Rattle.auction.specs.Auction.{Auction}
-use Rattle.auction.specs.Coins.{Coins}
+use Rattle.auction.specs.Coins.{Coins, DrawnBid}
 use Rattle.auction.specs.Call.{Call, open-call, service, judgement, is-accepted, accepted, whose, of-party}
 use Rattle.auction.specs.Canonical.{Seat, all-over, zeros, seated, shares-for, split-for, add-by, after-adding, deal-for, after-dealing, say-by, word-by, hear-by, after-hearing, ask, enough-rounds, from-rounds, deals, from-bids, canonical}
 use Rattle.auction.specs.Run.{select, own}
@@ -35,9 +35,9 @@ use Rattle.auction.proofs.Calls.{select-append}
 -- ---- on a record that is not sound every call is refused
 
 module _ (q : Party) (unsound : sound q ≡ false) where
-  no-add : (totals shares : List ℕ) → is-accepted (add-judgement q totals shares) ≡ false
+  no-add : (totals : List ℕ) (bidder : ℕ) (shares : List ℕ) → is-accepted (add-judgement q totals bidder shares) ≡ false
   unfolding add-judgement is-accepted
-  no-add totals shares = ap is-accepted (refuses _ _ _ (ap not unsound))
+  no-add totals bidder shares = ap is-accepted (refuses _ _ _ (rw unsound))
 
   no-say : (totals sheets : List ℕ) → is-accepted (say-judgement q totals sheets) ≡ false
   unfolding turn-judgement is-accepted
@@ -118,11 +118,11 @@ module _ (j : ℕ) where
         split Accepted = and-false (sound (fresh (a .n) i (a .k))) (eqb i j) h
         split (Refused why) = rw blank-unsound
 
-    away-added : (b : List ℕ × List (List ℕ)) (s : Seat) → Away s → Away (after-adding a c b s)
+    away-added : (b : DrawnBid) (s : Seat) → Away s → Away (after-adding a c b s)
     unfolding after-adding
     away-added b s h =
-        left-away (s .party) (counted (s .party)) (add-judgement (s .party) (s .totals) (shares-for a c b s)) (λ e. no-add (s .party) e (s .totals) (shares-for a c b s))
-        (counted-same (s .party) .own) h
+        left-away (s .party) (entered (s .party) (b .0 .bidder)) (add-judgement (s .party) (s .totals) (b .0 .bidder) (shares-for a c b s))
+        (λ e. no-add (s .party) e (s .totals) (b .0 .bidder) (shares-for a c b s)) (entered-same (s .party) (b .0 .bidder) .own) h
 
     away-heard : (words : List ℕ) (s : Seat) → Away s → Away (after-hearing a c words s)
     unfolding after-hearing
@@ -144,11 +144,11 @@ module _ (j : ℕ) where
     unfolding hear-by judgement whose of-party
     none-hears words ss h = none-map Away (hear-by a c words) (λ s e. none-by (s .party) _ (λ u. no-hear (s .party) u (s .totals) (s .sheets) words) e) ss h
 
-    none-adds : (b : List ℕ × List (List ℕ)) (ss : List Seat) → Each Away ss → own j (map (add-by a c b) ss) ≡ []
+    none-adds : (b : DrawnBid) (ss : List Seat) → Each Away ss → own j (map (add-by a c b) ss) ≡ []
     unfolding add-by judgement whose of-party
-    none-adds b ss h = none-map Away (add-by a c b) (λ s e. none-by (s .party) _ (λ u. no-add (s .party) u (s .totals) (shares-for a c b s)) e) ss h
+    none-adds b ss h = none-map Away (add-by a c b) (λ s e. none-by (s .party) _ (λ u. no-add (s .party) u (s .totals) (b .0 .bidder) (shares-for a c b s)) e) ss h
 
-    none-splits : (b : List ℕ × List (List ℕ)) (ss : List Seat) → own j (map (split-for a c b) ss) ≡ []
+    none-splits : (b : DrawnBid) (ss : List Seat) → own j (map (split-for a c b) ss) ≡ []
     unfolding split-for whose
     none-splits b ss = none-served (split-for a c b) (λ s. refl) ss
 
@@ -165,7 +165,7 @@ module _ (j : ℕ) where
         let rest = none-rounds fuel (map (after-hearing a c words) ss) (away-map Away (after-hearing a c words) (away-heard words) ss h) in
         either (own j) (all-over ss) _ _ [] (none-asks ss h) (none-append _ _ (none-says ss h) (none-append _ _ (none-hears words ss h) rest))
 
-    none-bids : (bs : List (List ℕ × List (List ℕ))) (ss : List Seat) → Each Away ss → own j (from-bids a c bs ss) ≡ []
+    none-bids : (bs : List DrawnBid) (ss : List Seat) → Each Away ss → own j (from-bids a c bs ss) ≡ []
     unfolding from-bids after-dealing
     none-bids [] ss h =
         none-append _ _ (none-deals ss) (none-rounds (enough-rounds a) (map (after-dealing a c) ss) (away-map Away (after-dealing a c) (λ s e. e) ss h))

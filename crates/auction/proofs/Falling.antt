@@ -5,8 +5,9 @@ use Prim.Native.Nat.{ℕ, zero, suc, _+_, _-_, _^_, _≤_, _<_, min}
 use native.Mathlib.Omega.{arith}
 use lib.Dec.{ltb}
 use borrow.Author.Tests.{le-leb, lt-ltb, ltb-true, ltb-false}
+use Rattle.ranges.specs.Lists.{count}
 use Rattle.auction.specs.Auction.{Auction, IsAuction, demand, supply}
-use Rattle.auction.specs.Demands.{stays, count}
+use Rattle.auction.specs.Demands.{stays}
 use Rattle.auction.proofs.Totals.{demand-small, supply-small}
 
 -- ---- counting

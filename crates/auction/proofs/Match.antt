@@ -20,13 +20,13 @@ use Rattle.search.proofs.Narrowing.{encloses-start}
 use Rattle.search.proofs.Clearing.{verdict-by-clearing}
 use Rattle.comparison.specs.Probe.{probe-messages, Each}
 use Rattle.comparison.proofs.Agreement.{In}
-use Rattle.auction.specs.Auction.{Auction, IsAuction, demand, supply}
+use Rattle.auction.specs.Auction.{Auction, Bid, IsAuction, demand, supply}
 use Rattle.auction.specs.Coins.{Coins, InRange, flat}
 use Rattle.auction.specs.Demands.{Alike, Pool, probed, stays, Stay}
 use Rattle.auction.proofs.Matched.{matched-bids, matched-sheets, match-coins}
-use Rattle.auction.proofs.Closed.{totals-after, no-totals, at-party, polynomials, probe-at, decision, made, spoken, sheets-at, probes}
+use Rattle.auction.proofs.Closed.{totals-after, no-totals, at-party, bid-words, polynomials, probe-at, decision, made, spoken, sheets-at, probes}
 use Rattle.auction.proofs.Totals.{all-good, no-totals-held, totals-monotone, polynomial-shared, demand-small, supply-small, demand-secret, supply-secret}
-use Rattle.auction.proofs.SameBids.{bid-words, bids-many, bids-ranged, bids-words, bids-only, totals-same, shares-same}
+use Rattle.auction.proofs.SameBids.{bids-many, bids-ranged, bids-words, bids-only, totals-same, shares-same}
 use Rattle.auction.proofs.SameSheets.{spoken-same}
 use Rattle.auction.proofs.SameProbes.{auction, Compared, Setting, Course, course, sheets-ranged, sheets-many, words-same, made-same, unused-same, sheets-only}
 
@@ -79,7 +79,7 @@ in-field (x ∷ xs) D j i = go (in-field xs (D .2) j) (List·Memᴰ·cases-cons 
     go h (inr m) = h m
 
 -- two auctions of n parties and k prices
-module _ (n k : ℕ) (bids bids′ : List (List ℕ)) (A : IsAuction (auction n k bids)) (B : IsAuction (auction n k bids′))
+module _ (n k : ℕ) (bids bids′ : List Bid) (A : IsAuction (auction n k bids)) (B : IsAuction (auction n k bids′))
     (alike : Alike (auction n k bids) (auction n k bids′)) (xs : List ℕ) (pool : Pool n xs)
     (c : Coins) (C : InRange (auction n k bids) c) (stay : Stay (auction n k bids) (auction n k bids′) c) where
   abbrev a : Auction
@@ -99,6 +99,9 @@ module _ (n k : ℕ) (bids bids′ : List (List ℕ)) (A : IsAuction (auction n 
 
   -- ---- bids and totals
 
+  many-bids : length bids′ ≡ length bids
+  many-bids = sym (length-map bids′ (λ b. b .bidder)) ∙ ap length (alike .bidders) ∙ length-map bids (λ b. b .bidder)
+
   -- the second's bids, with sheets of which only the range counts
   abbrev c₀ : Coins
   c₀ = record { bids = matched-bids xs bids bids′ (c .bids); sheets = c .sheets }
@@ -106,14 +109,14 @@ module _ (n k : ℕ) (bids bids′ : List (List ℕ)) (A : IsAuction (auction n 
   first-ranged : InRange b c₀
   first-ranged =
       record {
-        bids-many = bids-many t xs D (pool .many) k bids bids′ (c .bids) (alike .bids) (C .bids-many) ∙ sym (alike .bids);
+        bids-many = bids-many t xs D (pool .many) k bids bids′ (c .bids) many-bids (C .bids-many) ∙ sym many-bids;
         bids = bids-ranged t xs D (pool .many) k bids bids′ (c .bids) (A .tables) (B .tables) (C .bids);
         sheets-many = C .sheets-many;
         sheets = C .sheets;
       }
 
   same-bids : (j : ℕ) → In j xs → bid-words j bids′ (c₀ .bids) ≡ bid-words j bids (c .bids)
-  same-bids j i = bids-words t xs D (pool .many) k j i bids bids′ (c .bids) (A .tables) (B .tables) (C .bids) (alike .bids) (C .bids-many)
+  same-bids j i = bids-words t xs D (pool .many) k j i bids bids′ (c .bids) (A .tables) (B .tables) (C .bids) (alike .bidders) (C .bids-many)
 
   same-totals : (j : ℕ) → In j xs → at-party j (polynomials b c₀) ≡ at-party j (polynomials a c)
   unfolding polynomials
@@ -158,8 +161,8 @@ module _ (n k : ℕ) (bids bids′ : List (List ℕ)) (A : IsAuction (auction n 
       (said : flatten (map (λ d. spoken n (d .probe)) (probes b o)) ≡ flatten (map (λ d. spoken n (d .probe)) (probes a c))) where
     other-bids : o .bids ≡ matched-bids xs bids bids′ (c .bids)
     other-bids =
-        bids-only t xs D (pool .many) k bids bids′ (c .bids) (o .bids) (A .tables) (B .tables) (C .bids) (O .bids) (alike .bids) (C .bids-many)
-        (O .bids-many ∙ alike .bids) ws
+        bids-only t xs D (pool .many) k bids bids′ (c .bids) (o .bids) (A .tables) (B .tables) (C .bids) (O .bids) many-bids (C .bids-many)
+        (O .bids-many ∙ many-bids) ws
 
     other-polynomials : polynomials b o ≡ polynomials b c₀
     unfolding polynomials

@@ -6,7 +6,7 @@ use Rattle.fields.proofs.Fields.{amount-field}
 use Rattle.sharing.proofs.Laws.{recolour}
 use Rattle.comparison.specs.Probe.{SheetCoins}
 use Rattle.comparison.proofs.Matched.{moved, matched}
-use Rattle.auction.specs.Auction.{Auction, demand, supply}
+use Rattle.auction.specs.Auction.{Auction, Bid, demand, supply}
 use Rattle.auction.specs.Coins.{Coins}
 use Rattle.auction.specs.Demands.{probed}
 
@@ -22,11 +22,11 @@ module _ (xs : List ℕ) where
   matched-groups (x ∷ table) (x′ ∷ table′) [] = []
   matched-groups (x ∷ table) (x′ ∷ table′) (g ∷ gs) = recolour amount-field xs x x′ g ∷ matched-groups table table′ gs
 
-  unfoldable pub matched-bids : (bids bids′ : List (List ℕ)) → List (List (List ℕ)) → List (List (List ℕ))
+  unfoldable pub matched-bids : (bids bids′ : List Bid) → List (List (List ℕ)) → List (List (List ℕ))
   matched-bids [] bids′ gss = []
-  matched-bids (table ∷ bids) [] gss = []
-  matched-bids (table ∷ bids) (table′ ∷ bids′) [] = []
-  matched-bids (table ∷ bids) (table′ ∷ bids′) (gs ∷ gss) = matched-groups table table′ gs ∷ matched-bids bids bids′ gss
+  matched-bids (b ∷ bids) [] gss = []
+  matched-bids (b ∷ bids) (b′ ∷ bids′) [] = []
+  matched-bids (b ∷ bids) (b′ ∷ bids′) (gs ∷ gss) = matched-groups (b .table) (b′ .table) gs ∷ matched-bids bids bids′ gss
 
 module _ (a b : Auction) (xs : List ℕ) where
   -- the sheet of the probe at index i: its mask moved by the second's surplus minus the first's, so that the same T opens

@@ -9,13 +9,12 @@ use native.Mathlib.Omega.{arith}
 use lib.ListN.{replicate}
 use borrow.Author.Tests.{eqb-true}
 use Rattle.record.specs.declared.Party.{Party}
-use Rattle.session.specs.declared.reply.Answer.{Answer}
 use Rattle.auction.specs.Auction.{Auction}
 use Rattle.auction.specs.Coins.{Coins}
 use Rattle.auction.specs.Call.{Call, say-call, answer-call, accepted, Whose, party, service, whose, of-party, of-service, given}
 use Rattle.auction.specs.Canonical.{canonical}
 use Rattle.auction.specs.Run.{Run, Repeats, Shuffle, select, own, services}
-use Rattle.auction.specs.Received.{collect, bid-shares-in, hearing-in, answer-in, received-shares, hearings, answers, messages, sheets, decisions, verdicts, indices, unused}
+use Rattle.auction.specs.Received.{collect, bid-in, hearing-in, asking-in, received-bids, hearings, askings, messages, sheets, decisions, verdicts, indices, unused}
 use Rattle.auction.proofs.Selected.{and-false, with-call, select-cons, select-skip}
 use Rattle.auction.proofs.Calls.{select-append}
 use Rattle.auction.proofs.Swaps.{shuffle-swap, shuffle-refl, repeats-refl, repeats-say, repeats-ask, repeats-none}
@@ -43,9 +42,9 @@ module _ {B : Type 0} (f : Call → Option B) (no-say : (q : Party) (t s : List 
   same-reading (Repeats.ask-again {q} {ds} h) = ap (λ o. with-read o (collect f ds)) (no-ask q) ∙ same-reading h
 
 module _ (a : Auction) (c : Coins) (l : List Call) (run : Run a c l) (j : ℕ) where
-  pub run-bid-shares : received-shares j l ≡ received-shares j (canonical a c)
-  unfolding bid-shares-in
-  run-bid-shares = same-reading bid-shares-in (λ q t s. refl) (λ q. refl) (run .parties j)
+  pub run-bids : received-bids j l ≡ received-bids j (canonical a c)
+  unfolding bid-in
+  run-bids = same-reading bid-in (λ q t s. refl) (λ q. refl) (run .parties j)
 
   pub run-hearings : hearings j l ≡ hearings j (canonical a c)
   unfolding hearing-in
@@ -85,27 +84,27 @@ module _ {B : Type 0} where
   read-one none x xs ys f g e = g e
   read-one (some y) x xs ys f g e = (0, ap₂ (λ h t. h ∷ t) (head-eq-of-cons-eq e) (f (tail-eq-of-cons-eq e)))
 
-no-answers : {cs ds : List Call} → Repeats cs ds → collect answer-in cs ≡ [] → collect answer-in ds ≡ []
-unfolding collect answer-in
-no-answers Repeats.end e = e
-no-answers (Repeats.next {c} {cs} {ds} h) e = read-none (answer-in c) (collect answer-in cs) (collect answer-in ds) (no-answers h) e
-no-answers (Repeats.say-again h) e = no-answers h e
-no-answers (Repeats.ask-again h) e = absurd (cons≢nil e)
+no-askings : {cs ds : List Call} → Repeats cs ds → collect asking-in cs ≡ [] → collect asking-in ds ≡ []
+unfolding collect asking-in
+no-askings Repeats.end e = e
+no-askings (Repeats.next {c} {cs} {ds} h) e = read-none (asking-in c) (collect asking-in cs) (collect asking-in ds) (no-askings h) e
+no-askings (Repeats.say-again h) e = no-askings h e
+no-askings (Repeats.ask-again h) e = absurd (cons≢nil e)
 
-more-answers : {cs ds : List Call} → Repeats cs ds → (x : Answer) → collect answer-in cs ≡ x ∷ [] → Again x (collect answer-in ds)
-unfolding collect answer-in
-more-answers Repeats.end x e = (0, e)
-more-answers (Repeats.next {c} {cs} {ds} h) x e =
-    read-one (answer-in c) x (collect answer-in cs) (collect answer-in ds) (no-answers h) (more-answers h x) e
-more-answers (Repeats.say-again h) x e = more-answers h x e
-more-answers (Repeats.ask-again h) x e =
-    let w = more-answers h x e in
+more-askings : {cs ds : List Call} → Repeats cs ds → (x : Party) → collect asking-in cs ≡ x ∷ [] → Again x (collect asking-in ds)
+unfolding collect asking-in
+more-askings Repeats.end x e = (0, e)
+more-askings (Repeats.next {c} {cs} {ds} h) x e =
+    read-one (asking-in c) x (collect asking-in cs) (collect asking-in ds) (no-askings h) (more-askings h x) e
+more-askings (Repeats.say-again h) x e = more-askings h x e
+more-askings (Repeats.ask-again h) x e =
+    let w = more-askings h x e in
     (suc (w .0), ap₂ (λ y ys. y ∷ ys) (head-eq-of-cons-eq e) (w .1))
 
--- a party that is answered once in the canonical list is given the same answer once or more
-pub run-answers : (a : Auction) (c : Coins) (l : List Call) → Run a c l → (j : ℕ) (x : Answer)
-    → answers j (canonical a c) ≡ x ∷ [] → (m : ℕ) × (answers j l ≡ replicate (suc m) x)
-run-answers a c l run j x e = more-answers (run .parties j) x e
+-- a party that asks once in the canonical list asks once or more with the same record
+pub run-askings : (a : Auction) (c : Coins) (l : List Call) → Run a c l → (j : ℕ) (x : Party)
+    → askings j (canonical a c) ≡ x ∷ [] → (m : ℕ) × (askings j l ≡ replicate (suc m) x)
+run-askings a c l run j x e = more-askings (run .parties j) x e
 
 -- ---- parties that there are not
 

@@ -6,25 +6,31 @@ use Prim.Native.Nat.{ℕ, zero, suc, _*_, _≤_, _<_}
 use native.Mathlib.Omega.{arith}
 use lib.ListN.{length, drop, getD, replicate, getD-replicate}
 use Rattle.ranges.specs.Sizes.{sheet-size, probe-rounds}
-use Rattle.sharing.specs.Parties.{Parties}
+use Rattle.ranges.specs.Distinct.{Distinct}
 use Rattle.search.specs.Bracket.{start}
 use Rattle.search.specs.Limit.{limit}
 use Rattle.search.specs.Clearing.{highest, covered, clearing}
 use Rattle.search.specs.Search.{promise, trail}
 use Rattle.search.proofs.Trails.{trail-given}
+use Rattle.ranges.specs.Lists.{member}
+use Rattle.roll.specs.Marks.{marked}
+use Rattle.roll.proofs.Entry.{entered-marked}
+use Rattle.record.specs.declared.Party.{Party}
 use Rattle.session.specs.declared.reply.Answer.the-variants.{Cleared}
-use Rattle.auction.specs.Auction.{Auction, IsAuction, sum, demand, supply, clearing-answer}
+use Rattle.session.specs.Answer.{answer-reply}
+use Rattle.auction.specs.Auction.{Auction, bidders, IsAuction, sum, demand, supply, clearing-answer}
 use Rattle.auction.specs.Coins.{Coins, InRange}
 use Rattle.auction.specs.Call.{Call}
 use Rattle.auction.specs.Run.{Run}
-use Rattle.auction.specs.Received.{received-shares, sheets, messages, decisions, verdicts, unused}
+use Rattle.auction.specs.Received.{received-bids, sheets, messages, decisions, verdicts, unused}
 use Rattle.auction.specs.Demands.{Outcome, Demand2, Alike, Pool, Same, Matched, Demand3}
 use Rattle.auction.proofs.Matched.{match-coins}
-use Rattle.auction.proofs.Closed.{decision, all-spoken, sheets-at, probes}
-use Rattle.auction.proofs.Orders.{canonical-run, run-bid-shares, run-messages, run-sheets, run-decisions, run-verdicts, run-answers}
-use Rattle.auction.proofs.Canonical.{canonical-accepted, canonical-bid-shares, canonical-messages, canonical-sheets, canonical-decisions, canonical-many, canonical-answers}
+use Rattle.auction.proofs.Closed.{bid-words, full-roll, decision, all-spoken, record-at, sheets-at, probes}
+use Rattle.auction.proofs.Orders.{canonical-run, run-bids, run-messages, run-sheets, run-decisions, run-verdicts, run-askings}
+use Rattle.auction.proofs.Canonical.{canonical-accepted, canonical-bids, canonical-messages, canonical-sheets, canonical-decisions, canonical-many, canonical-askings}
 use Rattle.auction.proofs.Search.{probes-trail, probes-few, probes-some}
-use Rattle.auction.proofs.SameBids.{bid-words}
+use Rattle.auction.proofs.Totals.{each-replicate}
+use Rattle.auction.proofs.Rounds.{end, end-answer}
 use Rattle.auction.proofs.Falling.{few-fall}
 use Rattle.auction.proofs.Match.{Match, matching}
 
@@ -39,7 +45,7 @@ once : {A : Type 0} (m m′ : ℕ) (x y : A) → 0 < m → 0 < m′ → replicat
 once {A} m m′ x y h h′ e = sym (getD-replicate m 0 x x h) ∙ ap (λ (l : List A). getD l 0 x) e ∙ getD-replicate m′ 0 y x h′
 
 -- a pooled party is one of the n
-pooled : (n j : ℕ) (xs : List ℕ) → Parties n xs → List·Memᴰ j xs → (1 ≤ j) × (j ≤ n)
+pooled : (n j : ℕ) (xs : List ℕ) → Distinct n xs → List·Memᴰ j xs → (1 ≤ j) × (j ≤ n)
 pooled n j [] P m = absurd (List·Memᴰ·not-nil m)
 pooled n j (x ∷ xs) P m =
     ⊎-elim (λ e. (subst (λ (z : ℕ). 1 ≤ z) (sym e) (P .0), subst (λ (z : ℕ). z ≤ n) (sym e) (P .1))) (λ m′. pooled n j xs (P .3) m′) (List·Memᴰ·cases-cons m)
@@ -47,8 +53,8 @@ pooled n j (x ∷ xs) P m =
 -- ---- what every run has, in closed form
 
 module _ (a : Auction) (c : Coins) (A : IsAuction a) (C : InRange a c) (l : List Call) (run : Run a c l) (j : ℕ) (j1 : 1 ≤ j) (jn : j ≤ a .n) where
-  bid-shares-are : received-shares j l ≡ bid-words j (a .bids) (c .bids)
-  bid-shares-are = run-bid-shares a c l run j ∙ canonical-bid-shares a c A C j j1 jn
+  bids-are : received-bids j l ≡ bid-words j (a .bids) (c .bids)
+  bids-are = run-bids a c l run j ∙ canonical-bids a c A C j j1 jn
 
   messages-are : messages j l ≡ all-spoken (a .n) (probes a c)
   messages-are = run-messages a c l run j ∙ canonical-messages a c A C j j1 jn
@@ -72,20 +78,29 @@ module _ (a : Auction) (c : Coins) (A : IsAuction a) (C : InRange a c) (l : List
 
   -- ---- demand 2
 
+  -- the roll at the end
+  marked-are : (b : ℕ) → marked (record-at a c (end a c A C) j .roll) b ≡ member b (bidders a)
+  unfolding record-at full-roll
+  marked-are = entered-marked (bidders a) (A .bidders)
+
   outcome : Outcome a l j
   outcome =
       let given : ℕ → ℕ = promise (demand a) (supply a) in
       let e : decisions j l ≡ trail given (limit (a .k)) (start (a .k)) = decisions-are ∙ probes-trail a c A C in
-      let r = run-answers a c l run j (Cleared (clearing-answer a) (length (probes a c))) (canonical-answers a c A C j j1 jn) in
+      let q : Party = record-at a c (end a c A C) j in
+      let r = run-askings a c l run j q (canonical-askings a c A C j j1 jn) in
       record {
         promised = ap (map (λ d. d .1)) e ∙ trail-given given (limit (a .k)) (start (a .k)) ∙ ap (λ ds. map given (map (λ d. d .0) ds)) (sym e);
         asked = r .0;
-        cleared = r .1 ∙ ap (λ (m : ℕ). replicate (suc (r .0)) (Cleared (clearing-answer a) m)) (sym many);
+        cleared =
+            ap (map answer-reply) (r .1) ∙ map-replicate answer-reply (suc (r .0)) q
+            ∙ ap (replicate (suc (r .0))) (end-answer a c A C j j1 jn ∙ ap (Cleared (clearing-answer a)) (sym many));
         few = subst (λ (m : ℕ). m ≤ limit (a .k)) (sym many) (probes-few a c A C);
+        rolled = rw (r .1) (each-replicate _ (suc (r .0)) q marked-are);
       }
 
 -- DEMAND 2: no call of a run is refused but those that stand between; each verdict is the promise at the true totals; each answer is
--- the clearing answer, with as many probes as verdicts, at most P.
+-- the clearing answer, with as many probes as verdicts, at most P; and the roll marks the bidders.
 pub demand-2 : (a : Auction) → IsAuction a → (c : Coins) → InRange a c → Demand2 a c
 demand-2 a A c C = record { none-refused = canonical-accepted a c A C; outcome = λ l run j j1 jn. outcome a c A C l run j j1 jn }
 
@@ -117,7 +132,7 @@ module _ (a b : Auction) (A : IsAuction a) (B : IsAuction b) (alike : Alike a b)
         record {
           pool-bids = λ j h.
               let (j1, jn) = pooled (a .n) j pool (P .parties) h in
-              bid-shares-are b o B R m runM j j1 (jb j jn) ∙ bids j h ∙ sym (bid-shares-are a c A C l runL j j1 jn);
+              bids-are b o B R m runM j j1 (jb j jn) ∙ bids j h ∙ sym (bids-are a c A C l runL j j1 jn);
           pool-sheets = λ j h.
               let (j1, jn) = pooled (a .n) j pool (P .parties) h in
               sheets-are b o B R m runM j j1 (jb j jn) ∙ ap₂ (λ (k : ℕ) (x : List ℕ). replicate (probe-rounds * k) x) count (sheets-same j h)
@@ -149,7 +164,7 @@ module _ (a b : Auction) (A : IsAuction a) (B : IsAuction b) (alike : Alike a b)
           M .only o R
           (λ j h.
           let (j1, jn) = pooled (a .n) j pool (P .parties) h in
-          sym (bid-shares-are b o B R m runM j j1 (jb j jn)) ∙ S .pool-bids j h ∙ bid-shares-are a c A C l runL j j1 jn)
+          sym (bids-are b o B R m runM j j1 (jb j jn)) ∙ S .pool-bids j h ∙ bids-are a c A C l runL j j1 jn)
           (λ j h.
           let (j1, jn) = pooled (a .n) j pool (P .parties) h in
           once (probe-rounds * length (probes b o)) (probe-rounds * L) (sheets-at b o j) (sheets-at a c j) some-b some

@@ -23,12 +23,12 @@ use Rattle.auction.specs.Coins.{Coins, InRange}
 use Rattle.auction.specs.Call.{Call, accepted, is-accepted, judgement, whose, of-party, given}
 use Rattle.auction.specs.Canonical.{enough-rounds, ask, from-rounds}
 use Rattle.auction.specs.Run.{own}
-use Rattle.auction.specs.Received.{collect, bid-shares-in, hearing-in, answer-in, decision-in}
+use Rattle.auction.specs.Received.{collect, bid-in, hearing-in, asking-in, decision-in}
 use Rattle.auction.specs.Demands.{all-accepted}
 use Rattle.auction.proofs.Closed.{Made, spoken, Stage, fresh-stage, record-at, sheets-at, seat, probes, all-spoken, decision}
 use Rattle.auction.proofs.Calls.{own-append, collect-append, all-accepted-append, all-accepted-points, Own, own-points}
 use Rattle.auction.proofs.Step.{fresh-sane, sound-at}
-use Rattle.auction.proofs.Chain.{Turn, from-ending, all-done, seats, all-words, calls, hearing-of, chain-rounds, chain-accepted, chain-hearings, chain-bids, chain-answers, chain-decisions}
+use Rattle.auction.proofs.Chain.{Turn, from-ending, all-done, seats, all-words, calls, hearing-of, chain-rounds, chain-accepted, chain-hearings, chain-bids, chain-askings, chain-decisions}
 use Rattle.auction.proofs.Probed.{turn-of}
 use Rattle.auction.proofs.Search.{turns-of, turns-length, after-probes, Leads, whole, probes-few, search-ends}
 
@@ -68,7 +68,7 @@ module _ (a : Auction) (c : Coins) (A : IsAuction a) (C : InRange a c) where
   rs = turns-of 0 (probes a c)
 
   -- the stage at the end
-  abbrev end : Stage
+  abbrev pub end : Stage
   end = fresh-stage (after-probes (start (a .k)) (probes a c)) (0 + length (probes a c))
 
   L : Leads a c (start (a .k)) 0 (c .sheets) (probes a c)
@@ -93,9 +93,9 @@ module _ (a : Auction) (c : Coins) (A : IsAuction a) (C : InRange a c) where
     unfolding ask seat judgement is-accepted
     asked = rw end-judged
 
-    replied : answer-reply (record-at a c end j) ≡ Cleared (clearing-answer a) (length (probes a c))
+    pub end-answer : answer-reply (record-at a c end j) ≡ Cleared (clearing-answer a) (length (probes a c))
     unfolding record-at
-    replied = ask-cleared (record-at a c end j) end-judged ∙ ap₂ Cleared (search-ends a c A C) (zero-add (length (probes a c)))
+    end-answer = ask-cleared (record-at a c end j) end-judged ∙ ap₂ Cleared (search-ends a c A C) (zero-add (length (probes a c)))
 
     ask-own : Own j (ask a c (seat a c end j))
     unfolding ask seat record-at whose of-party
@@ -152,12 +152,10 @@ module _ (a : Auction) (c : Coins) (A : IsAuction a) (C : InRange a c) where
     pub rounds-decisions : collect decision-in (collect hearing-in (own j (round-calls a c))) ≡ map decision (probes a c)
     rounds-decisions = ap (collect decision-in) rounds-hearings ∙ chain-decisions a c many j j1 jn (L .chain)
 
-    pub rounds-bids : collect bid-shares-in (own j (round-calls a c)) ≡ []
-    unfolding collect bid-shares-in ask
-    rounds-bids = reads bid-shares-in [] [] (chain-bids a c many j j1 jn (L .chain)) refl
+    pub rounds-bids : collect bid-in (own j (round-calls a c)) ≡ []
+    unfolding collect bid-in ask
+    rounds-bids = reads bid-in [] [] (chain-bids a c many j j1 jn (L .chain)) refl
 
-    pub rounds-answers : collect answer-in (own j (round-calls a c)) ≡ Cleared (clearing-answer a) (length (probes a c)) ∷ []
-    unfolding collect answer-in ask seat
-    rounds-answers =
-        reads answer-in [] (Cleared (clearing-answer a) (length (probes a c)) ∷ []) (chain-answers a c many j j1 jn (L .chain))
-        (ap (λ x. x ∷ []) (replied j j1 jn))
+    pub rounds-askings : collect asking-in (own j (round-calls a c)) ≡ record-at a c end j ∷ []
+    unfolding collect asking-in ask seat
+    rounds-askings = reads asking-in [] (record-at a c end j ∷ []) (chain-askings a c many j j1 jn (L .chain)) refl

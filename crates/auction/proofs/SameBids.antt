@@ -22,14 +22,11 @@ use Rattle.comparison.proofs.Values.{Shared}
 use Rattle.comparison.proofs.Agreement.{In, map-same, alike-recolour, recolour-group}
 use Rattle.comparison.proofs.Only.{coefficients-only}
 use Rattle.bid.specs.Table.{most}
-use Rattle.auction.specs.Auction.{GoodTable}
+use Rattle.auction.specs.Auction.{Bid, GoodTable}
+use Rattle.auction.specs.Coins.{DrawnBid}
 use Rattle.auction.proofs.Matched.{matched-groups, matched-bids}
-use Rattle.auction.proofs.Closed.{entries, added-polynomials, totals-after, at-party}
+use Rattle.auction.proofs.Closed.{entries, added-polynomials, totals-after, at-party, bid-for, bid-words}
 use Rattle.auction.proofs.Totals.{GoodBid, Held, entries-held, added-held}
-
--- party j's shares of every bid
-abbrev pub bid-words : ℕ → List (List ℕ) → List (List (List ℕ)) → List (List ℕ)
-bid-words j bids gss = map (λ e. at-party j (entries (e .0) (e .1))) (zip bids gss)
 
 -- the coins of a bid are in range
 abbrev pub Groups : (k t : ℕ) → List (List ℕ) → Type 0
@@ -91,7 +88,7 @@ module _ (t : ℕ) (xs : List ℕ) (D : Different (0 ∷ xs)) (l : length xs ≡
   -- ---- all bids
 
   module _ (k : ℕ) where
-    pub bids-many : (bids bids′ : List (List ℕ)) (gss : List (List (List ℕ))) → length bids′ ≡ length bids → length gss ≡ length bids
+    pub bids-many : (bids bids′ : List Bid) (gss : List (List (List ℕ))) → length bids′ ≡ length bids → length gss ≡ length bids
         → length (matched-bids xs bids bids′ gss) ≡ length bids
     unfolding matched-bids
     bids-many [] bids′ gss m n = refl
@@ -99,32 +96,33 @@ module _ (t : ℕ) (xs : List ℕ) (D : Different (0 ∷ xs)) (l : length xs ≡
     bids-many (b ∷ bids) (b′ ∷ bids′) [] m n = absurd (omega arith)
     bids-many (b ∷ bids) (b′ ∷ bids′) (gs ∷ gss) m n = ap suc (bids-many bids bids′ gss (suc-inj m) (suc-inj n))
 
-    pub bids-ranged : (bids bids′ : List (List ℕ)) (gss : List (List (List ℕ))) → Each (GoodTable k) bids → Each (GoodTable k) bids′
+    pub bids-ranged : (bids bids′ : List Bid) (gss : List (List (List ℕ))) → Each (λ b. GoodTable k (b .table)) bids → Each (λ b. GoodTable k (b .table)) bids′
         → Each (Groups k t) gss → Each (Groups k t) (matched-bids xs bids bids′ gss)
     unfolding matched-bids
     bids-ranged [] bids′ gss h h′ hg = tt
     bids-ranged (b ∷ bids) [] gss h h′ hg = tt
     bids-ranged (b ∷ bids) (b′ ∷ bids′) [] h h′ hg = tt
     bids-ranged (b ∷ bids) (b′ ∷ bids′) (gs ∷ gss) h h′ hg = (
-      (groups-many b b′ gs (h′ .0 .long ∙ sym (h .0 .long)) (hg .0 .0 ∙ sym (h .0 .long)) ∙ h .0 .long, groups-ranged b b′ gs),
+      (groups-many (b .table) (b′ .table) gs (h′ .0 .long ∙ sym (h .0 .long)) (hg .0 .0 ∙ sym (h .0 .long)) ∙ h .0 .long, groups-ranged (b .table) (b′ .table) gs),
       bids-ranged bids bids′ gss (h .1) (h′ .1) (hg .1),
     )
 
-    pub bids-words : (j : ℕ) → In j xs → (bids bids′ : List (List ℕ)) (gss : List (List (List ℕ))) → Each (GoodTable k) bids → Each (GoodTable k) bids′
-        → Each (Groups k t) gss → length bids′ ≡ length bids → length gss ≡ length bids
+    pub bids-words : (j : ℕ) → In j xs → (bids bids′ : List Bid) (gss : List (List (List ℕ))) → Each (λ b. GoodTable k (b .table)) bids → Each (λ b. GoodTable k (b .table)) bids′
+        → Each (Groups k t) gss → map (λ b. b .bidder) bids′ ≡ map (λ b. b .bidder) bids → length gss ≡ length bids
         → bid-words j bids′ (matched-bids xs bids bids′ gss) ≡ bid-words j bids gss
     unfolding matched-bids zip zipWith
     bids-words j i [] [] gss h h′ hg m n = refl
-    bids-words j i [] (b′ ∷ bids′) gss h h′ hg m n = absurd (omega arith)
-    bids-words j i (b ∷ bids) [] gss h h′ hg m n = absurd (omega arith)
+    bids-words j i [] (b′ ∷ bids′) gss h h′ hg m n = absurd (omega (arith, ap length m))
+    bids-words j i (b ∷ bids) [] gss h h′ hg m n = absurd (omega (arith, ap length m))
     bids-words j i (b ∷ bids) (b′ ∷ bids′) [] h h′ hg m n = absurd (omega arith)
     bids-words j i (b ∷ bids) (b′ ∷ bids′) (gs ∷ gss) h h′ hg m n =
-        ap₂ (λ (z : List ℕ) (zs : List (List ℕ)). z ∷ zs)
-        (groups-words j i b b′ gs (small-below b (h .0 .small)) (small-below b′ (h′ .0 .small)) (hg .0 .1)
-        (h′ .0 .long ∙ sym (h .0 .long)) (hg .0 .0 ∙ sym (h .0 .long)))
-        (bids-words j i bids bids′ gss (h .1) (h′ .1) (hg .1) (suc-inj m) (suc-inj n))
+        ap₂ (λ (z : ℕ × List ℕ) (zs : List (ℕ × List ℕ)). z ∷ zs)
+        (ap₂ (λ (u : ℕ) (v : List ℕ). (u, v)) (head-eq-of-cons-eq m)
+        (groups-words j i (b .table) (b′ .table) gs (small-below (b .table) (h .0 .small)) (small-below (b′ .table) (h′ .0 .small)) (hg .0 .1)
+        (h′ .0 .long ∙ sym (h .0 .long)) (hg .0 .0 ∙ sym (h .0 .long))))
+        (bids-words j i bids bids′ gss (h .1) (h′ .1) (hg .1) (tail-eq-of-cons-eq m) (suc-inj n))
 
-    pub bids-only : (bids bids′ : List (List ℕ)) (gss hss : List (List (List ℕ))) → Each (GoodTable k) bids → Each (GoodTable k) bids′
+    pub bids-only : (bids bids′ : List Bid) (gss hss : List (List (List ℕ))) → Each (λ b. GoodTable k (b .table)) bids → Each (λ b. GoodTable k (b .table)) bids′
         → Each (Groups k t) gss → Each (Groups k t) hss → length bids′ ≡ length bids → length gss ≡ length bids → length hss ≡ length bids
         → ((j : ℕ) → In j xs → bid-words j bids′ hss ≡ bid-words j bids gss)
         → hss ≡ matched-bids xs bids bids′ gss
@@ -136,8 +134,8 @@ module _ (t : ℕ) (xs : List ℕ) (D : Different (0 ∷ xs)) (l : length xs ≡
     bids-only (b ∷ bids) (b′ ∷ bids′) (gs ∷ gss) [] h h′ hg hh m n o w = absurd (omega arith)
     bids-only (b ∷ bids) (b′ ∷ bids′) (gs ∷ gss) (hs ∷ hss) h h′ hg hh m n o w =
         ap₂ (λ (z : List (List ℕ)) (zs : List (List (List ℕ))). z ∷ zs)
-        (groups-only b b′ gs hs (small-below b (h .0 .small)) (small-below b′ (h′ .0 .small)) (hg .0 .1) (hh .0 .1)
-        (h′ .0 .long ∙ sym (h .0 .long)) (hg .0 .0 ∙ sym (h .0 .long)) (hh .0 .0 ∙ sym (h .0 .long)) (λ j i. head-eq-of-cons-eq (w j i)))
+        (groups-only (b .table) (b′ .table) gs hs (small-below (b .table) (h .0 .small)) (small-below (b′ .table) (h′ .0 .small)) (hg .0 .1) (hh .0 .1)
+        (h′ .0 .long ∙ sym (h .0 .long)) (hg .0 .0 ∙ sym (h .0 .long)) (hh .0 .0 ∙ sym (h .0 .long)) (λ j i. ap (λ e. e .1) (head-eq-of-cons-eq (w j i))))
         (bids-only bids bids′ gss hss (h .1) (h′ .1) (hg .1) (hh .1) (suc-inj m) (suc-inj n) (suc-inj o) (λ j i. tail-eq-of-cons-eq (w j i)))
 
 -- ---- totals
@@ -158,21 +156,21 @@ module _ (k t j : ℕ) (small : j < p) where
       ap₂ (λ (z : ℕ) (zs : List ℕ). z ∷ zs) (value-sums amount-field f g j (hf .0 .1) (hg .0 .1) small) (words-added fs gs (hf .1) (hg .1))
 
   -- with the same shares of every bid a party has the same shares of the totals
-  pub totals-same : (bs bs′ : List (List ℕ × List (List ℕ))) (fs fs′ : List (List ℕ)) → Each (GoodBid k t) bs → Each (GoodBid k t) bs′
+  pub totals-same : (bs bs′ : List DrawnBid) (fs fs′ : List (List ℕ)) → Each (GoodBid k t) bs → Each (GoodBid k t) bs′
       → Held k t fs → Held k t fs′
-      → map (λ e. at-party j (entries (e .0) (e .1))) bs′ ≡ map (λ e. at-party j (entries (e .0) (e .1))) bs → at-party j fs′ ≡ at-party j fs
+      → map (bid-for j) bs′ ≡ map (bid-for j) bs → at-party j fs′ ≡ at-party j fs
       → at-party j (totals-after bs′ fs′) ≡ at-party j (totals-after bs fs)
   unfolding totals-after
   totals-same [] [] fs fs′ B B′ F F′ w e = e
   totals-same [] (b′ ∷ bs′) fs fs′ B B′ F F′ w e = absurd (omega (arith, ap length w))
   totals-same (b ∷ bs) [] fs fs′ B B′ F F′ w e = absurd (omega (arith, ap length w))
   totals-same (b ∷ bs) (b′ ∷ bs′) fs fs′ B B′ F F′ w e =
-      let E : Held k t (entries (b .0) (b .1)) = entries-held k t b (B .0) in
-      let E′ : Held k t (entries (b′ .0) (b′ .1)) = entries-held k t b′ (B′ .0) in
-      totals-same bs bs′ (added-polynomials fs (entries (b .0) (b .1))) (added-polynomials fs′ (entries (b′ .0) (b′ .1))) (B .1) (B′ .1)
-      (added-held k t fs (entries (b .0) (b .1)) F E) (added-held k t fs′ (entries (b′ .0) (b′ .1)) F′ E′) (tail-eq-of-cons-eq w)
-      (words-added fs′ (entries (b′ .0) (b′ .1)) (F′ .shared) (E′ .shared) ∙ ap₂ word-sums e (head-eq-of-cons-eq w)
-      ∙ sym (words-added fs (entries (b .0) (b .1)) (F .shared) (E .shared)))
+      let E : Held k t (entries (b .0 .table) (b .1)) = entries-held k t b (B .0) in
+      let E′ : Held k t (entries (b′ .0 .table) (b′ .1)) = entries-held k t b′ (B′ .0) in
+      totals-same bs bs′ (added-polynomials fs (entries (b .0 .table) (b .1))) (added-polynomials fs′ (entries (b′ .0 .table) (b′ .1))) (B .1) (B′ .1)
+      (added-held k t fs (entries (b .0 .table) (b .1)) F E) (added-held k t fs′ (entries (b′ .0 .table) (b′ .1)) F′ E′) (tail-eq-of-cons-eq w)
+      (words-added fs′ (entries (b′ .0 .table) (b′ .1)) (F′ .shared) (E′ .shared) ∙ ap₂ word-sums e (ap (λ z. z .1) (head-eq-of-cons-eq w))
+      ∙ sym (words-added fs (entries (b .0 .table) (b .1)) (F .shared) (E .shared)))
 
 -- read entry by entry
 pub shares-same : (xs : List ℕ) (fs fs′ : List (List ℕ)) → ((j : ℕ) → In j xs → at-party j fs′ ≡ at-party j fs)

@@ -14,7 +14,7 @@ use Rattle.ranges.specs.Sizes.{sheet-size}
 use Rattle.fields.specs.Amount.{amounts}
 use Rattle.sharing.specs.Polynomial.{shares}
 use Rattle.sharing.specs.Scheme.{threshold}
-use Rattle.sharing.specs.Parties.{Parties}
+use Rattle.ranges.specs.Distinct.{Distinct}
 use Rattle.ranges.proofs.Loops.{and-left, and-right}
 use Rattle.verdict.specs.Verdict.{verdict}
 use Rattle.search.specs.declared.Bracket.{Bracket}
@@ -27,7 +27,7 @@ use Rattle.comparison.proofs.Promise.{Compares, probe-shared, sum-law, promised
 use Rattle.comparison.proofs.Agreement.{In, map-same, same-map}
 use Rattle.comparison.proofs.Hiding.{Other, Matches, hides}
 use Rattle.search.proofs.Trails.{trail-over, trail-going}
-use Rattle.auction.specs.Auction.{Auction, demand, supply}
+use Rattle.auction.specs.Auction.{Auction, Bid, demand, supply}
 use Rattle.auction.specs.Coins.{flat}
 use Rattle.auction.specs.Demands.{stays}
 use Rattle.auction.proofs.Matched.{opening, matched-sheet, matched-sheets}
@@ -61,7 +61,7 @@ module _ (a : Auction) (fs : List (List ℕ)) (br : Bracket) where
 
 -- ---- two auctions of n parties and k prices
 
-abbrev pub auction : (n k : ℕ) → List (List ℕ) → Auction
+abbrev pub auction : (n k : ℕ) → List Bid → Auction
 auction n k bids = record { n = n; k = k; bids = bids }
 
 -- every probe at a listed index compares the totals there
@@ -71,10 +71,10 @@ Compared a fs =
     → Compares (threshold (a .n)) (demand a i) (supply a i) s (probe-at a fs i s)
 
 -- fs and fs′ are the polynomials of their totals, of which the pool xs has the same shares
-pub record Setting (n k : ℕ) (bids bids′ : List (List ℕ)) (xs : List ℕ) (fs fs′ : List (List ℕ)) : Type 0 where
+pub record Setting (n k : ℕ) (bids bids′ : List Bid) (xs : List ℕ) (fs fs′ : List (List ℕ)) : Type 0 where
   pub at-most : n ≤ 9
   pub more : threshold n < n
-  pub pool : Parties n xs
+  pub pool : Distinct n xs
   pub pooled : length xs ≡ threshold n
   pub first : Compared (auction n k bids) fs
   pub second : Compared (auction n k bids′) fs′
@@ -83,7 +83,7 @@ pub record Setting (n k : ℕ) (bids bids′ : List (List ℕ)) (xs : List ℕ) 
       → verdict (demand (auction n k bids) i) (supply (auction n k bids) i) ≡ verdict (demand (auction n k bids′) i) (supply (auction n k bids′) i)
 
 -- the sheets s and s′ of two probes at the index i
-pub record Pair (n k : ℕ) (bids bids′ : List (List ℕ)) (xs : List ℕ) (fs fs′ : List (List ℕ)) (i : ℕ) (s s′ : SheetCoins) : Type 0 where
+pub record Pair (n k : ℕ) (bids bids′ : List Bid) (xs : List ℕ) (fs fs′ : List (List ℕ)) (i : ℕ) (s s′ : SheetCoins) : Type 0 where
   pub least : 1 ≤ i
   pub most : i ≤ k
   pub ranged : SheetInRange (threshold n) s
@@ -96,7 +96,7 @@ pub record Pair (n k : ℕ) (bids bids′ : List (List ℕ)) (xs : List ℕ) (fs
       → e ≡ s′
 
 -- the sheets of two searches from the same bracket on
-pub data Course (n k : ℕ) (bids bids′ : List (List ℕ)) (xs : List ℕ) (fs fs′ : List (List ℕ)) : Bracket → List SheetCoins → List SheetCoins → Type 0 where
+pub data Course (n k : ℕ) (bids bids′ : List Bid) (xs : List ℕ) (fs fs′ : List (List ℕ)) : Bracket → List SheetCoins → List SheetCoins → Type 0 where
   none : {br : Bracket} → Course n k bids bids′ xs fs fs′ br [] []
   ended : {br : Bracket} {ss : List SheetCoins} → over br ≡ true → Each (SheetInRange (threshold n)) ss → Course n k bids bids′ xs fs fs′ br ss ss
   probing : {br next : Bracket} {s s′ : SheetCoins} {ss ss′ : List SheetCoins} → over br ≡ false
@@ -107,7 +107,7 @@ pub data Course (n k : ℕ) (bids bids′ : List (List ℕ)) (xs : List ℕ) (fs
 opening-is : (T demand supply mask : ℕ) → T + mask + supply ≡ 2 ^ 59 + 2 ^ 32 + demand → T ≡ opening demand supply mask
 opening-is T demand supply mask e = omega arith
 
-module _ {n k : ℕ} {bids bids′ : List (List ℕ)} {xs : List ℕ} {fs fs′ : List (List ℕ)} (S : Setting n k bids bids′ xs fs fs′) where
+module _ {n k : ℕ} {bids bids′ : List Bid} {xs : List ℕ} {fs fs′ : List (List ℕ)} (S : Setting n k bids bids′ xs fs fs′) where
   abbrev a : Auction
   a = auction n k bids
 
@@ -233,7 +233,7 @@ drop-words t j m {m′} s ss h l =
     let e : sheet-size * m′ ≡ length w + sheet-size * m = omega (arith, words-long t j s h) in
     ap (λ (z : ℕ). drop z (w ++ flat (words-of j ss))) e ∙ drop-append-add w (flat (words-of j ss)) (sheet-size * m)
 
-module _ {n k : ℕ} {bids bids′ : List (List ℕ)} {xs : List ℕ} {fs fs′ : List (List ℕ)} where
+module _ {n k : ℕ} {bids bids′ : List Bid} {xs : List ℕ} {fs fs′ : List (List ℕ)} where
   pub sheets-ranged : {br : Bracket} {ss ss′ : List SheetCoins} → Course n k bids bids′ xs fs fs′ br ss ss′ → Each (SheetInRange (threshold n)) ss′
   sheets-ranged none = tt
   sheets-ranged (ended o h) = h
@@ -296,7 +296,7 @@ module _ (n t : ℕ) (more : t < n) (most : n ≤ 9) where
       (sheet-fixed n t more most s u (h .0) (k .0) (λ j h1 hn. words-parts j s u ss us (h .0) (k .0) (w j h1 hn) .0))
       (sheets-fixed ss us (h .1) (k .1) (suc-inj l) (λ j h1 hn. words-parts j s u ss us (h .0) (k .0) (w j h1 hn) .1))
 
-module _ {n k : ℕ} {bids bids′ : List (List ℕ)} {xs : List ℕ} {fs fs′ : List (List ℕ)} (S : Setting n k bids bids′ xs fs fs′) where
+module _ {n k : ℕ} {bids bids′ : List Bid} {xs : List ℕ} {fs fs′ : List (List ℕ)} (S : Setting n k bids bids′ xs fs fs′) where
   -- the probe-messages of all probes, round by round
   abbrev all-said : List Made → List (List ℕ)
   all-said ds = flatten (map (λ d. spoken n (d .probe)) ds)

@@ -2,8 +2,9 @@
 -- words of the totals' polynomials and of the dealt ones. Assumes nothing.
 use mathlib.Core.Path.{_≡_, refl, sym, ap, ap₂, _∙_}
 use mathlib.Core.Bool.{true}
-use mathlib.Core.List.{List, [], _∷_, _++_, map, zip, append-assoc, append-nil}
-use Prim.Native.Nat.{ℕ, _+_, _≤_, _<_}
+use mathlib.Core.List.{List, [], _∷_, _++_, map, zip, zipWith, append-assoc, append-nil}
+use Prim.Native.Nat.{ℕ, _≤_}
+use native.Mathlib.Nat.{suc-inj}
 use native.Mathlib.Omega.{arith}
 use lib.ListN.{length, replicate, length-replicate}
 use Rattle.ranges.specs.Sizes.{sheet-size}
@@ -11,59 +12,97 @@ use Rattle.sharing.specs.Polynomial.{value}
 use Rattle.sharing.specs.Scheme.{threshold, points}
 use Rattle.search.specs.Bracket.{start}
 use Rattle.comparison.specs.Probe.{SheetCoins, SheetInRange, Each}
-use Rattle.auction.specs.Auction.{Auction, IsAuction}
-use Rattle.auction.specs.Coins.{Coins, InRange, flat, coin-words, coin-bytes}
+use Rattle.roll.specs.declared.Roll.{Roll}
+use Rattle.roll.specs.Marks.{empty, mark}
+use Rattle.roll.proofs.Laws.{Proper, Free, proper-mark, proper-empty}
+use Rattle.roll.proofs.Entry.{enter, Enters, all-enter}
+use Rattle.auction.specs.Auction.{Auction, Bid, bidders, IsAuction}
+use Rattle.auction.specs.Coins.{Coins, DrawnBid, InRange, flat, coin-words, coin-bytes}
 use Rattle.auction.specs.Call.{Call, open-call, split-call, deal-call, add-call, judgement, accepted, whose, of-party, given}
 use Rattle.auction.specs.Canonical.{Seat, zeros, seated, split-for, add-by, after-adding, deal-for, sheet-for, after-dealing, enough-rounds, from-rounds, deals, from-bids, canonical}
 use Rattle.auction.specs.Run.{select, own}
-use Rattle.auction.specs.Received.{collect, bid-shares-in, hearing-in, answer-in}
+use Rattle.auction.specs.Received.{collect, bid-in, hearing-in, asking-in}
 use Rattle.auction.specs.Demands.{all-accepted}
-use Rattle.auction.proofs.Closed.{entries, added-polynomials, totals-after, at-party, no-totals, polynomials, fresh-stage, record-at, sheets-at, seat}
+use Rattle.auction.proofs.Closed.{entries, added-polynomials, totals-after, at-party, bid-for, bid-words, no-totals, polynomials, full-roll, fresh-stage, record-at, sheets-at, seat}
 use Rattle.auction.proofs.Calls.{own-append, all-accepted-append, all-accepted-map, all-accepted-points, each-point, map-each, map-points, map-through, Own, own-points, own-none}
-use Rattle.auction.proofs.Totals.{each-imp, length-zip, GoodBid, Held, entries-held, added-held, no-totals-held, all-good}
+use Rattle.auction.proofs.Totals.{each-imp, GoodBid, Held, entries-held, added-held, no-totals-held, all-good}
 use Rattle.auction.proofs.Judging.{accepts}
 use Rattle.ranges.proofs.Ranges.{one-of-n}
 use Rattle.auction.proofs.Bidding.{holding, holding-seat, member, opened, seated-holding, splitting-accepted, shares-for-party, adding-accepted, added-holding}
 use Rattle.auction.proofs.Dealing.{deals-sheet, deal-writes}
 
+-- ---- who enters
+
+abbrev pub bidders-of : List DrawnBid → List ℕ
+bidders-of bs = map (λ b. b .0 .bidder) bs
+
+zip-bidders : (bids : List Bid) (gss : List (List (List ℕ))) → length gss ≡ length bids → bidders-of (zip bids gss) ≡ map (λ b. b .bidder) bids
+unfolding zip zipWith
+zip-bidders [] gss l = refl
+zip-bidders (b ∷ bids) [] l = absurd (omega arith)
+zip-bidders (b ∷ bids) (gs ∷ gss) l = ap (λ (z : List ℕ). b .bidder ∷ z) (zip-bidders bids gss (suc-inj l))
+
+-- those on the roll have entered, and the bidders of bs are still to
+pub record Entering (a : Auction) (roll : Roll) (bs : List DrawnBid) : Type 0 where
+  pub proper : Proper roll
+  pub enters : Enters roll (bidders-of bs)
+  pub full : enter roll (bidders-of bs) ≡ full-roll a
+
+module _ (a : Auction) (roll : Roll) where
+  pub entering-more : (b : DrawnBid) (bs : List DrawnBid) → Entering a roll (b ∷ bs) → Entering a (mark roll (b .0 .bidder)) bs
+  unfolding enter
+  entering-more b bs I =
+      record { proper = proper-mark roll (I .proper) (b .0 .bidder) (I .enters .0); enters = I .enters .1; full = I .full }
+
+  pub all-entered : Entering a roll [] → roll ≡ full-roll a
+  unfolding enter
+  all-entered I = I .full
+
+-- at the start all are
+pub entering-all : {a : Auction} → IsAuction a → (gss : List (List (List ℕ))) → length gss ≡ length (a .bids) → Entering a empty (zip (a .bids) gss)
+unfolding full-roll
+entering-all {a} A gss l =
+    let same : bidders-of (zip (a .bids) gss) ≡ bidders a = zip-bidders (a .bids) gss l in
+    record { proper = proper-empty; enters = rw same (all-enter (bidders a) (A .bidders)); full = ap (enter empty) same }
+
 -- ---- the calls
 
 module _ (a : Auction) (c : Coins) where
   -- the seats after these bids
-  unfoldable pub seats-after : List (List ℕ × List (List ℕ)) → List Seat → List Seat
+  unfoldable pub seats-after : List DrawnBid → List Seat → List Seat
   seats-after [] ss = ss
   seats-after (b ∷ bs) ss = seats-after bs (map (after-adding a c b) ss)
 
   unfoldable pub open-at : ℕ → Call
   open-at j = open-call (a .n) j (a .k) (zeros a c)
 
-  unfoldable pub split-at : List ℕ × List (List ℕ) → ℕ → Call
-  split-at b j = split-call (a .n) j (a .k) (b .0) (flat (b .1)) (zeros a c)
+  unfoldable pub split-at : DrawnBid → ℕ → Call
+  split-at b j = split-call (a .n) j (a .k) (b .0 .table) (flat (b .1)) (zeros a c)
 
-  -- with m bids held and the polynomials fs behind the totals
-  unfoldable pub add-at : List ℕ × List (List ℕ) → (m : ℕ) (fs : List (List ℕ)) → ℕ → Call
-  add-at b m fs j = add-call (holding (a .n) (a .k) m j) (at-party j fs) (at-party j (entries (b .0) (b .1)))
+  -- with the bids of these on the roll held and the polynomials fs behind the totals
+  unfoldable pub add-at : DrawnBid → (roll : Roll) (fs : List (List ℕ)) → ℕ → Call
+  add-at b roll fs j = add-call (holding (a .n) (a .k) roll j) (at-party j fs) (b .0 .bidder) (at-party j (entries (b .0 .table) (b .1)))
 
   unfoldable pub deal-at : ℕ → SheetCoins → Call
   deal-at j s = deal-call (a .n) j (coin-words s) (coin-bytes s) (replicate sheet-size 0)
 
-  unfoldable pub bid-calls : List (List ℕ × List (List ℕ)) → (m : ℕ) (fs : List (List ℕ)) → List Call
-  bid-calls [] m fs = []
-  bid-calls (b ∷ bs) m fs =
+  unfoldable pub bid-calls : List DrawnBid → (roll : Roll) (fs : List (List ℕ)) → List Call
+  bid-calls [] roll fs = []
+  bid-calls (b ∷ bs) roll fs =
       map (split-at b) (points (a .n))
-      ++ (map (add-at b m fs) (points (a .n)) ++ bid-calls bs (m + 1) (added-polynomials fs (entries (b .0) (b .1))))
+      ++ (map (add-at b roll fs) (points (a .n)) ++ bid-calls bs (mark roll (b .0 .bidder)) (added-polynomials fs (entries (b .0 .table) (b .1))))
 
   unfoldable pub deal-calls : List ℕ → List Call
   deal-calls [] = []
   deal-calls (j ∷ js) = map (deal-at j) (c .sheets) ++ deal-calls js
 
   unfoldable pub setup-calls : List Call
-  setup-calls = map open-at (points (a .n)) ++ (bid-calls (zip (a .bids) (c .bids)) 0 (no-totals a) ++ deal-calls (points (a .n)))
+  setup-calls = map open-at (points (a .n)) ++ (bid-calls (zip (a .bids) (c .bids)) empty (no-totals a) ++ deal-calls (points (a .n)))
 
   -- party j's own calls of the bids
-  unfoldable pub adds-of : (j : ℕ) → List (List ℕ × List (List ℕ)) → (m : ℕ) (fs : List (List ℕ)) → List Call
-  adds-of j [] m fs = []
-  adds-of j (b ∷ bs) m fs = add-at b m fs j ∷ adds-of j bs (m + 1) (added-polynomials fs (entries (b .0) (b .1)))
+  unfoldable pub adds-of : (j : ℕ) → List DrawnBid → (roll : Roll) (fs : List (List ℕ)) → List Call
+  adds-of j [] roll fs = []
+  adds-of j (b ∷ bs) roll fs = add-at b roll fs j ∷ adds-of j bs (mark roll (b .0 .bidder)) (added-polynomials fs (entries (b .0 .table) (b .1)))
 
 module _ {a : Auction} {c : Coins} (A : IsAuction a) (C : InRange a c) where
   abbrev t : ℕ
@@ -71,45 +110,44 @@ module _ {a : Auction} {c : Coins} (A : IsAuction a) (C : InRange a c) where
 
   -- ---- the seats
 
-  pub seats-holding : (bs : List (List ℕ × List (List ℕ))) (m : ℕ) (fs : List (List ℕ)) → Each (GoodBid (a .k) t) bs → Held (a .k) t fs
-      → m + length bs ≡ length (a .bids)
-      → seats-after a c bs (map (holding-seat a m fs) (points (a .n))) ≡ map (holding-seat a (length (a .bids)) (totals-after bs fs)) (points (a .n))
+  pub seats-holding : (bs : List DrawnBid) (roll : Roll) (fs : List (List ℕ)) → Each (GoodBid (a .k) t) bs → Held (a .k) t fs
+      → Entering a roll bs
+      → seats-after a c bs (map (holding-seat a roll fs) (points (a .n))) ≡ map (holding-seat a (full-roll a) (totals-after bs fs)) (points (a .n))
   unfolding seats-after totals-after
-  seats-holding [] m fs B F l =
-      let e : m ≡ length (a .bids) = omega arith in
-      ap (λ (z : ℕ). map (holding-seat a z fs) (points (a .n))) e
-  seats-holding (b ∷ bs) m fs B F l =
+  seats-holding [] roll fs B F l =
+      ap (λ (z : Roll). map (holding-seat a z fs) (points (a .n))) (all-entered a roll l)
+  seats-holding (b ∷ bs) roll fs B F l =
       ap (seats-after a c bs)
-      (map-through (after-adding a c b) (holding-seat a m fs) (holding-seat a (m + 1) (added-polynomials fs (entries (b .0) (b .1)))) (a .n)
-      (λ j h1 hn. added-holding c A j h1 hn b (B .0) m fs F (omega (arith, A .few))))
-      ∙ seats-holding bs (m + 1) (added-polynomials fs (entries (b .0) (b .1))) (B .1)
-      (added-held (a .k) t fs (entries (b .0) (b .1)) F (entries-held (a .k) t b (B .0))) (omega arith)
+      (map-through (after-adding a c b) (holding-seat a roll fs) (holding-seat a (mark roll (b .0 .bidder)) (added-polynomials fs (entries (b .0 .table) (b .1)))) (a .n)
+      (λ j h1 hn. added-holding c A j h1 hn b (B .0) roll fs F (l .proper) (l .enters .0)))
+      ∙ seats-holding bs (mark roll (b .0 .bidder)) (added-polynomials fs (entries (b .0 .table) (b .1))) (B .1)
+      (added-held (a .k) t fs (entries (b .0 .table) (b .1)) F (entries-held (a .k) t b (B .0))) (entering-more a roll b bs l)
 
-  pub seated-all : map (seated a c) (points (a .n)) ≡ map (holding-seat a 0 (no-totals a)) (points (a .n))
-  seated-all = map-points (seated a c) (holding-seat a 0 (no-totals a)) (a .n) (λ j h1 hn. seated-holding c A j h1 hn)
+  pub seated-all : map (seated a c) (points (a .n)) ≡ map (holding-seat a empty (no-totals a)) (points (a .n))
+  seated-all = map-points (seated a c) (holding-seat a empty (no-totals a)) (a .n) (λ j h1 hn. seated-holding c A j h1 hn)
 
-  many-bids : 0 + length (zip (a .bids) (c .bids)) ≡ length (a .bids)
-  many-bids = omega (arith, length-zip (a .bids) (c .bids) (C .bids-many))
+  all-entering : Entering a empty (zip (a .bids) (c .bids))
+  all-entering = entering-all A (c .bids) (C .bids-many)
 
   pub dealt-seat : (j : ℕ) → 1 ≤ j → j ≤ a .n
-      → after-dealing a c (holding-seat a (length (a .bids)) (polynomials a c) j) ≡ seat a c (fresh-stage (start (a .k)) 0) j
+      → after-dealing a c (holding-seat a (full-roll a) (polynomials a c) j) ≡ seat a c (fresh-stage (start (a .k)) 0) j
   unfolding after-dealing sheet-for holding-seat holding seat record-at sheets-at start value
   dealt-seat j h1 hn =
-      ap (λ (z : List (List ℕ)). record { party = holding (a .n) (a .k) (length (a .bids)) j; totals = at-party j (polynomials a c); sheets = flat z })
+      ap (λ (z : List (List ℕ)). record { party = holding (a .n) (a .k) (full-roll a) j; totals = at-party j (polynomials a c); sheets = flat z })
       (map-each _ _ (c .sheets)
       (each-imp (SheetInRange t) _ (c .sheets) (λ s h. deal-writes (a .n) j (one-of-n _ _ _ (member A j h1 hn)) s h (replicate sheet-size 0) (length-replicate {A = ℕ} sheet-size 0)) (C .sheets)))
 
-  dealt-all : map (after-dealing a c) (map (holding-seat a (length (a .bids)) (polynomials a c)) (points (a .n)))
+  dealt-all : map (after-dealing a c) (map (holding-seat a (full-roll a) (polynomials a c)) (points (a .n)))
       ≡ map (seat a c (fresh-stage (start (a .k)) 0)) (points (a .n))
   dealt-all =
-      map-through (after-dealing a c) (holding-seat a (length (a .bids)) (polynomials a c)) (seat a c (fresh-stage (start (a .k)) 0)) (a .n) dealt-seat
+      map-through (after-dealing a c) (holding-seat a (full-roll a) (polynomials a c)) (seat a c (fresh-stage (start (a .k)) 0)) (a .n) dealt-seat
 
   pub setup-seats : map (after-dealing a c) (seats-after a c (zip (a .bids) (c .bids)) (map (seated a c) (points (a .n))))
       ≡ map (seat a c (fresh-stage (start (a .k)) 0)) (points (a .n))
   unfolding polynomials
   setup-seats =
       ap (λ (z : List Seat). map (after-dealing a c) (seats-after a c (zip (a .bids) (c .bids)) z)) seated-all
-      ∙ ap (map (after-dealing a c)) (seats-holding (zip (a .bids) (c .bids)) 0 (no-totals a) (all-good A C) (no-totals-held (a .k) t) many-bids)
+      ∙ ap (map (after-dealing a c)) (seats-holding (zip (a .bids) (c .bids)) empty (no-totals a) (all-good A C) (no-totals-held (a .k) t) all-entering)
       ∙ dealt-all
 
   -- ---- the list of calls
@@ -117,53 +155,53 @@ module _ {a : Auction} {c : Coins} (A : IsAuction a) (C : InRange a c) where
   abbrev after : List Call
   after = from-rounds a c (enough-rounds a) (map (seat a c (fresh-stage (start (a .k)) 0)) (points (a .n)))
 
-  deals-holding : (m : ℕ) (fs : List (List ℕ)) (js : List ℕ) → deals a c (map (holding-seat a m fs) js) ≡ deal-calls a c js
+  deals-holding : (roll : Roll) (fs : List (List ℕ)) (js : List ℕ) → deals a c (map (holding-seat a roll fs) js) ≡ deal-calls a c js
   unfolding deals deal-calls deal-for deal-at holding-seat holding
-  deals-holding m fs [] = refl
-  deals-holding m fs (j ∷ js) = ap (λ (z : List Call). map (deal-at a c j) (c .sheets) ++ z) (deals-holding m fs js)
+  deals-holding roll fs [] = refl
+  deals-holding roll fs (j ∷ js) = ap (λ (z : List Call). map (deal-at a c j) (c .sheets) ++ z) (deals-holding roll fs js)
 
-  splits-holding : (b : List ℕ × List (List ℕ)) (m : ℕ) (fs : List (List ℕ))
-      → map (split-for a c b) (map (holding-seat a m fs) (points (a .n))) ≡ map (split-at a c b) (points (a .n))
+  splits-holding : (b : DrawnBid) (roll : Roll) (fs : List (List ℕ))
+      → map (split-for a c b) (map (holding-seat a roll fs) (points (a .n))) ≡ map (split-at a c b) (points (a .n))
   unfolding split-for split-at holding-seat holding
-  splits-holding b m fs = map-through (split-for a c b) (holding-seat a m fs) (split-at a c b) (a .n) (λ j h1 hn. refl)
+  splits-holding b roll fs = map-through (split-for a c b) (holding-seat a roll fs) (split-at a c b) (a .n) (λ j h1 hn. refl)
 
-  adds-holding : (b : List ℕ × List (List ℕ)) → GoodBid (a .k) t b → (m : ℕ) (fs : List (List ℕ)) → Held (a .k) t fs
-      → map (add-by a c b) (map (holding-seat a m fs) (points (a .n))) ≡ map (add-at a c b m fs) (points (a .n))
+  adds-holding : (b : DrawnBid) → GoodBid (a .k) t b → (roll : Roll) (fs : List (List ℕ)) → Held (a .k) t fs
+      → map (add-by a c b) (map (holding-seat a roll fs) (points (a .n))) ≡ map (add-at a c b roll fs) (points (a .n))
   unfolding add-by add-at holding-seat
-  adds-holding b B m fs F =
-      map-through (add-by a c b) (holding-seat a m fs) (add-at a c b m fs) (a .n)
-      (λ j h1 hn. ap (add-call (holding (a .n) (a .k) m j) (at-party j fs)) (shares-for-party c A j h1 hn b B m fs F))
+  adds-holding b B roll fs F =
+      map-through (add-by a c b) (holding-seat a roll fs) (add-at a c b roll fs) (a .n)
+      (λ j h1 hn. ap (add-call (holding (a .n) (a .k) roll j) (at-party j fs) (b .0 .bidder)) (shares-for-party c A j h1 hn b B roll fs F))
 
-  from-bids-calls : (bs : List (List ℕ × List (List ℕ))) (m : ℕ) (fs : List (List ℕ)) → Each (GoodBid (a .k) t) bs → Held (a .k) t fs
-      → m + length bs ≡ length (a .bids) → totals-after bs fs ≡ polynomials a c
-      → from-bids a c bs (map (holding-seat a m fs) (points (a .n))) ≡ bid-calls a c bs m fs ++ (deal-calls a c (points (a .n)) ++ after)
+  from-bids-calls : (bs : List DrawnBid) (roll : Roll) (fs : List (List ℕ)) → Each (GoodBid (a .k) t) bs → Held (a .k) t fs
+      → Entering a roll bs → totals-after bs fs ≡ polynomials a c
+      → from-bids a c bs (map (holding-seat a roll fs) (points (a .n))) ≡ bid-calls a c bs roll fs ++ (deal-calls a c (points (a .n)) ++ after)
   unfolding from-bids bid-calls totals-after
-  from-bids-calls [] m fs B F l e =
-      let e′ : m ≡ length (a .bids) = omega arith in
-      ap₂ _++_ (deals-holding m fs (points (a .n)))
+  from-bids-calls [] roll fs B F l e =
+      let e′ : roll ≡ full-roll a = all-entered a roll l in
+      ap₂ _++_ (deals-holding roll fs (points (a .n)))
       (ap (from-rounds a c (enough-rounds a))
-      (ap₂ (λ (z : ℕ) (zs : List (List ℕ)). map (after-dealing a c) (map (holding-seat a z zs) (points (a .n)))) e′ e ∙ dealt-all))
-  from-bids-calls (b ∷ bs) m fs B F l e =
+      (ap₂ (λ (z : Roll) (zs : List (List ℕ)). map (after-dealing a c) (map (holding-seat a z zs) (points (a .n)))) e′ e ∙ dealt-all))
+  from-bids-calls (b ∷ bs) roll fs B F l e =
       let rest : List Call = deal-calls a c (points (a .n)) ++ after in
-      let gs : List (List ℕ) = added-polynomials fs (entries (b .0) (b .1)) in
+      let gs : List (List ℕ) = added-polynomials fs (entries (b .0 .table) (b .1)) in
       let splits : List Call = map (split-at a c b) (points (a .n)) in
-      let adds : List Call = map (add-at a c b m fs) (points (a .n)) in
-      ap₂ _++_ (splits-holding b m fs)
-      (ap₂ _++_ (adds-holding b (B .0) m fs F)
+      let adds : List Call = map (add-at a c b roll fs) (points (a .n)) in
+      ap₂ _++_ (splits-holding b roll fs)
+      (ap₂ _++_ (adds-holding b (B .0) roll fs F)
       (ap (from-bids a c bs)
-      (map-through (after-adding a c b) (holding-seat a m fs) (holding-seat a (m + 1) gs) (a .n)
-      (λ j h1 hn. added-holding c A j h1 hn b (B .0) m fs F (omega (arith, A .few))))
-      ∙ from-bids-calls bs (m + 1) gs (B .1) (added-held (a .k) t fs (entries (b .0) (b .1)) F (entries-held (a .k) t b (B .0))) (omega arith) e))
-      ∙ sym (append-assoc splits (adds ++ bid-calls a c bs (m + 1) gs) rest ∙ ap (λ (z : List Call). splits ++ z) (append-assoc adds (bid-calls a c bs (m + 1) gs) rest))
+      (map-through (after-adding a c b) (holding-seat a roll fs) (holding-seat a (mark roll (b .0 .bidder)) gs) (a .n)
+      (λ j h1 hn. added-holding c A j h1 hn b (B .0) roll fs F (l .proper) (l .enters .0)))
+      ∙ from-bids-calls bs (mark roll (b .0 .bidder)) gs (B .1) (added-held (a .k) t fs (entries (b .0 .table) (b .1)) F (entries-held (a .k) t b (B .0))) (entering-more a roll b bs l) e))
+      ∙ sym (append-assoc splits (adds ++ bid-calls a c bs (mark roll (b .0 .bidder)) gs) rest ∙ ap (λ (z : List Call). splits ++ z) (append-assoc adds (bid-calls a c bs (mark roll (b .0 .bidder)) gs) rest))
 
   pub canonical-setup : canonical a c ≡ setup-calls a c ++ from-rounds a c (enough-rounds a) (map (seat a c (fresh-stage (start (a .k)) 0)) (points (a .n)))
   unfolding canonical setup-calls open-at polynomials
   canonical-setup =
       let opens : List Call = map (open-at a c) (points (a .n)) in
-      let bids : List Call = bid-calls a c (zip (a .bids) (c .bids)) 0 (no-totals a) in
+      let bids : List Call = bid-calls a c (zip (a .bids) (c .bids)) empty (no-totals a) in
       ap (λ (z : List Call). opens ++ z)
       (ap (from-bids a c (zip (a .bids) (c .bids))) seated-all
-      ∙ from-bids-calls (zip (a .bids) (c .bids)) 0 (no-totals a) (all-good A C) (no-totals-held (a .k) t) many-bids refl)
+      ∙ from-bids-calls (zip (a .bids) (c .bids)) empty (no-totals a) (all-good A C) (no-totals-held (a .k) t) all-entering refl)
       ∙ sym (append-assoc opens (bids ++ deal-calls a c (points (a .n))) after ∙ ap (λ (z : List Call). opens ++ z) (append-assoc bids (deal-calls a c (points (a .n))) after))
 
   -- ---- every call is accepted
@@ -172,31 +210,31 @@ module _ {a : Auction} {c : Coins} (A : IsAuction a) (C : InRange a c) where
   unfolding open-at judgement whose of-party
   open-own j h1 hn = record { accepted = accepts (open-at a c j) (opened c A j h1 hn); whose = λ i. refl }
 
-  pub split-at-accepted : (b : List ℕ × List (List ℕ)) → GoodBid (a .k) t b → (j : ℕ) → 1 ≤ j → j ≤ a .n → accepted (split-at a c b j) ≡ true
+  pub split-at-accepted : (b : DrawnBid) → GoodBid (a .k) t b → (j : ℕ) → 1 ≤ j → j ≤ a .n → accepted (split-at a c b j) ≡ true
   unfolding split-at judgement
   split-at-accepted b B j h1 hn = accepts (split-at a c b j) (splitting-accepted c A j h1 hn b B)
 
-  pub add-own : (b : List ℕ × List (List ℕ)) → GoodBid (a .k) t b → (m : ℕ) (fs : List (List ℕ)) → Held (a .k) t fs → m < 1000
-      → (j : ℕ) → 1 ≤ j → j ≤ a .n → Own j (add-at a c b m fs j)
+  pub add-own : (b : DrawnBid) → GoodBid (a .k) t b → (roll : Roll) (fs : List (List ℕ)) → Held (a .k) t fs → Proper roll → Free roll (b .0 .bidder)
+      → (j : ℕ) → 1 ≤ j → j ≤ a .n → Own j (add-at a c b roll fs j)
   unfolding add-at judgement whose of-party holding
-  add-own b B m fs F hm j h1 hn =
-      record { accepted = accepts (add-at a c b m fs j) (adding-accepted c A j h1 hn b B m fs F hm); whose = λ i. refl }
+  add-own b B roll fs F P free j h1 hn =
+      record { accepted = accepts (add-at a c b roll fs j) (adding-accepted c A j h1 hn b B roll fs F P free); whose = λ i. refl }
 
   pub deal-at-accepted : (j : ℕ) → 1 ≤ j → j ≤ a .n → (s : SheetCoins) → SheetInRange t s → accepted (deal-at a c j s) ≡ true
   unfolding deal-at judgement
   deal-at-accepted j h1 hn s h = accepts (deal-at a c j s) (deals-sheet (a .n) j (one-of-n _ _ _ (member A j h1 hn)) s h (replicate sheet-size 0) (length-replicate {A = ℕ} sheet-size 0))
 
-  bids-accepted : (bs : List (List ℕ × List (List ℕ))) (m : ℕ) (fs : List (List ℕ)) → Each (GoodBid (a .k) t) bs → Held (a .k) t fs
-      → m + length bs ≡ length (a .bids) → all-accepted (bid-calls a c bs m fs) ≡ true
+  bids-accepted : (bs : List DrawnBid) (roll : Roll) (fs : List (List ℕ)) → Each (GoodBid (a .k) t) bs → Held (a .k) t fs
+      → Entering a roll bs → all-accepted (bid-calls a c bs roll fs) ≡ true
   unfolding bid-calls all-accepted
-  bids-accepted [] m fs B F l = refl
-  bids-accepted (b ∷ bs) m fs B F l =
+  bids-accepted [] roll fs B F l = refl
+  bids-accepted (b ∷ bs) roll fs B F l =
       all-accepted-append (map (split-at a c b) (points (a .n))) _
       (all-accepted-points (split-at a c b) (a .n) (split-at-accepted b (B .0)))
-      (all-accepted-append (map (add-at a c b m fs) (points (a .n))) _
-      (all-accepted-points (add-at a c b m fs) (a .n) (λ j h1 hn. add-own b (B .0) m fs F (omega (arith, A .few)) j h1 hn .accepted))
-      (bids-accepted bs (m + 1) (added-polynomials fs (entries (b .0) (b .1))) (B .1)
-      (added-held (a .k) t fs (entries (b .0) (b .1)) F (entries-held (a .k) t b (B .0))) (omega arith)))
+      (all-accepted-append (map (add-at a c b roll fs) (points (a .n))) _
+      (all-accepted-points (add-at a c b roll fs) (a .n) (λ j h1 hn. add-own b (B .0) roll fs F (l .proper) (l .enters .0) j h1 hn .accepted))
+      (bids-accepted bs (mark roll (b .0 .bidder)) (added-polynomials fs (entries (b .0 .table) (b .1))) (B .1)
+      (added-held (a .k) t fs (entries (b .0 .table) (b .1)) F (entries-held (a .k) t b (B .0))) (entering-more a roll b bs l)))
 
   deals-accepted : (js : List ℕ) → Each (λ j. (1 ≤ j) × (j ≤ a .n)) js → all-accepted (deal-calls a c js) ≡ true
   unfolding deal-calls all-accepted
@@ -211,14 +249,14 @@ module _ {a : Auction} {c : Coins} (A : IsAuction a) (C : InRange a c) where
   setup-accepted =
       all-accepted-append (map (open-at a c) (points (a .n))) _
       (all-accepted-points (open-at a c) (a .n) (λ j h1 hn. open-own j h1 hn .accepted))
-      (all-accepted-append (bid-calls a c (zip (a .bids) (c .bids)) 0 (no-totals a)) (deal-calls a c (points (a .n)))
-      (bids-accepted (zip (a .bids) (c .bids)) 0 (no-totals a) (all-good A C) (no-totals-held (a .k) t) many-bids)
+      (all-accepted-append (bid-calls a c (zip (a .bids) (c .bids)) empty (no-totals a)) (deal-calls a c (points (a .n)))
+      (bids-accepted (zip (a .bids) (c .bids)) empty (no-totals a) (all-good A C) (no-totals-held (a .k) t) all-entering)
       (deals-accepted (points (a .n)) (each-point (λ j. (1 ≤ j) × (j ≤ a .n)) (a .n) (λ j h1 hn. (h1, hn)))))
 
 -- ---- what a party receives in them
 
 module _ (a : Auction) (c : Coins) (j : ℕ) where
-  pub own-splits : (b : List ℕ × List (List ℕ)) → own j (map (split-at a c b) (points (a .n))) ≡ []
+  pub own-splits : (b : DrawnBid) → own j (map (split-at a c b) (points (a .n))) ≡ []
   unfolding split-at whose of-party
   own-splits b = own-none j (split-at a c b) (points (a .n)) (λ i. refl)
 
@@ -228,67 +266,67 @@ module _ (a : Auction) (c : Coins) (j : ℕ) where
   own-deals (i ∷ js) =
       own-append j (map (deal-at a c i) (c .sheets)) (deal-calls a c js) ∙ ap₂ _++_ (own-none j (deal-at a c i) (c .sheets) (λ s. refl)) (own-deals js)
 
-  given-add : (b : List ℕ × List (List ℕ)) (m : ℕ) (fs : List (List ℕ)) → given (add-at a c b m fs j) ≡ add-at a c b m fs j
+  given-add : (b : DrawnBid) (roll : Roll) (fs : List (List ℕ)) → given (add-at a c b roll fs j) ≡ add-at a c b roll fs j
   unfolding add-at given
-  given-add b m fs = refl
+  given-add b roll fs = refl
 
-  adds-shares : (bs : List (List ℕ × List (List ℕ))) (m : ℕ) (fs : List (List ℕ))
-      → collect bid-shares-in (adds-of a c j bs m fs) ≡ map (λ b. at-party j (entries (b .0) (b .1))) bs
-  unfolding adds-of add-at bid-shares-in collect
-  adds-shares [] m fs = refl
-  adds-shares (b ∷ bs) m fs =
-      ap (λ (z : List (List ℕ)). at-party j (entries (b .0) (b .1)) ∷ z) (adds-shares bs (m + 1) (added-polynomials fs (entries (b .0) (b .1))))
+  adds-bids : (bs : List DrawnBid) (roll : Roll) (fs : List (List ℕ))
+      → collect bid-in (adds-of a c j bs roll fs) ≡ map (bid-for j) bs
+  unfolding adds-of add-at bid-in collect
+  adds-bids [] roll fs = refl
+  adds-bids (b ∷ bs) roll fs =
+      ap (λ (z : List (ℕ × List ℕ)). bid-for j b ∷ z) (adds-bids bs (mark roll (b .0 .bidder)) (added-polynomials fs (entries (b .0 .table) (b .1))))
 
-  adds-hearings : (bs : List (List ℕ × List (List ℕ))) (m : ℕ) (fs : List (List ℕ)) → collect hearing-in (adds-of a c j bs m fs) ≡ []
+  adds-hearings : (bs : List DrawnBid) (roll : Roll) (fs : List (List ℕ)) → collect hearing-in (adds-of a c j bs roll fs) ≡ []
   unfolding adds-of add-at hearing-in collect
-  adds-hearings [] m fs = refl
-  adds-hearings (b ∷ bs) m fs = adds-hearings bs (m + 1) (added-polynomials fs (entries (b .0) (b .1)))
+  adds-hearings [] roll fs = refl
+  adds-hearings (b ∷ bs) roll fs = adds-hearings bs (mark roll (b .0 .bidder)) (added-polynomials fs (entries (b .0 .table) (b .1)))
 
-  adds-answers : (bs : List (List ℕ × List (List ℕ))) (m : ℕ) (fs : List (List ℕ)) → collect answer-in (adds-of a c j bs m fs) ≡ []
-  unfolding adds-of add-at answer-in collect
-  adds-answers [] m fs = refl
-  adds-answers (b ∷ bs) m fs = adds-answers bs (m + 1) (added-polynomials fs (entries (b .0) (b .1)))
+  adds-askings : (bs : List DrawnBid) (roll : Roll) (fs : List (List ℕ)) → collect asking-in (adds-of a c j bs roll fs) ≡ []
+  unfolding adds-of add-at asking-in collect
+  adds-askings [] roll fs = refl
+  adds-askings (b ∷ bs) roll fs = adds-askings bs (mark roll (b .0 .bidder)) (added-polynomials fs (entries (b .0 .table) (b .1)))
 
 module _ {a : Auction} {c : Coins} (A : IsAuction a) (C : InRange a c) (j : ℕ) (h1 : 1 ≤ j) (hn : j ≤ a .n) where
-  own-bids : (bs : List (List ℕ × List (List ℕ))) (m : ℕ) (fs : List (List ℕ)) → Each (GoodBid (a .k) (threshold (a .n))) bs
-      → Held (a .k) (threshold (a .n)) fs → m + length bs ≡ length (a .bids) → own j (bid-calls a c bs m fs) ≡ adds-of a c j bs m fs
+  own-bids : (bs : List DrawnBid) (roll : Roll) (fs : List (List ℕ)) → Each (GoodBid (a .k) (threshold (a .n))) bs
+      → Held (a .k) (threshold (a .n)) fs → Entering a roll bs → own j (bid-calls a c bs roll fs) ≡ adds-of a c j bs roll fs
   unfolding bid-calls adds-of select
-  own-bids [] m fs B F l = refl
-  own-bids (b ∷ bs) m fs B F l =
-      let gs : List (List ℕ) = added-polynomials fs (entries (b .0) (b .1)) in
+  own-bids [] roll fs B F l = refl
+  own-bids (b ∷ bs) roll fs B F l =
+      let gs : List (List ℕ) = added-polynomials fs (entries (b .0 .table) (b .1)) in
       let splits : List Call = map (split-at a c b) (points (a .n)) in
-      let adds : List Call = map (add-at a c b m fs) (points (a .n)) in
-      own-append j splits (adds ++ bid-calls a c bs (m + 1) gs)
+      let adds : List Call = map (add-at a c b roll fs) (points (a .n)) in
+      own-append j splits (adds ++ bid-calls a c bs (mark roll (b .0 .bidder)) gs)
       ∙ ap₂ _++_ (own-splits a c j b)
-      (own-append j adds (bid-calls a c bs (m + 1) gs)
+      (own-append j adds (bid-calls a c bs (mark roll (b .0 .bidder)) gs)
       ∙ ap₂ _++_
-      (own-points j (a .n) (add-at a c b m fs) h1 hn (add-own A C b (B .0) m fs F (omega (arith, A .few)))
-      ∙ ap (λ (z : Call). z ∷ []) (given-add a c j b m fs))
-      (own-bids bs (m + 1) gs (B .1)
-      (added-held (a .k) (threshold (a .n)) fs (entries (b .0) (b .1)) F (entries-held (a .k) (threshold (a .n)) b (B .0))) (omega arith)))
+      (own-points j (a .n) (add-at a c b roll fs) h1 hn (add-own A C b (B .0) roll fs F (l .proper) (l .enters .0))
+      ∙ ap (λ (z : Call). z ∷ []) (given-add a c j b roll fs))
+      (own-bids bs (mark roll (b .0 .bidder)) gs (B .1)
+      (added-held (a .k) (threshold (a .n)) fs (entries (b .0 .table) (b .1)) F (entries-held (a .k) (threshold (a .n)) b (B .0))) (entering-more a roll b bs l)))
 
   -- its own calls: it opens a session, and adds its shares of each bid
-  pub own-setup : own j (setup-calls a c) ≡ given (open-at a c j) ∷ adds-of a c j (zip (a .bids) (c .bids)) 0 (no-totals a)
+  pub own-setup : own j (setup-calls a c) ≡ given (open-at a c j) ∷ adds-of a c j (zip (a .bids) (c .bids)) empty (no-totals a)
   unfolding setup-calls
   own-setup =
       let opens : List Call = map (open-at a c) (points (a .n)) in
-      let bids : List Call = bid-calls a c (zip (a .bids) (c .bids)) 0 (no-totals a) in
+      let bids : List Call = bid-calls a c (zip (a .bids) (c .bids)) empty (no-totals a) in
       own-append j opens (bids ++ deal-calls a c (points (a .n)))
       ∙ ap₂ _++_ (own-points j (a .n) (open-at a c) h1 hn (open-own A C))
       (own-append j bids (deal-calls a c (points (a .n)))
       ∙ ap₂ _++_
-      (own-bids (zip (a .bids) (c .bids)) 0 (no-totals a) (all-good A C) (no-totals-held (a .k) (threshold (a .n))) (many-bids A C))
+      (own-bids (zip (a .bids) (c .bids)) empty (no-totals a) (all-good A C) (no-totals-held (a .k) (threshold (a .n))) (all-entering A C))
       (own-deals a c j (points (a .n)))
-      ∙ append-nil (adds-of a c j (zip (a .bids) (c .bids)) 0 (no-totals a)))
+      ∙ append-nil (adds-of a c j (zip (a .bids) (c .bids)) empty (no-totals a)))
 
-  pub setup-shares : collect bid-shares-in (own j (setup-calls a c)) ≡ map (λ b. at-party j (entries (b .0) (b .1))) (zip (a .bids) (c .bids))
-  unfolding open-at given bid-shares-in collect
-  setup-shares = ap (collect bid-shares-in) own-setup ∙ adds-shares a c j (zip (a .bids) (c .bids)) 0 (no-totals a)
+  pub setup-bids : collect bid-in (own j (setup-calls a c)) ≡ bid-words j (a .bids) (c .bids)
+  unfolding open-at given bid-in collect
+  setup-bids = ap (collect bid-in) own-setup ∙ adds-bids a c j (zip (a .bids) (c .bids)) empty (no-totals a)
 
   pub setup-hearings : collect hearing-in (own j (setup-calls a c)) ≡ []
   unfolding open-at given hearing-in collect
-  setup-hearings = ap (collect hearing-in) own-setup ∙ adds-hearings a c j (zip (a .bids) (c .bids)) 0 (no-totals a)
+  setup-hearings = ap (collect hearing-in) own-setup ∙ adds-hearings a c j (zip (a .bids) (c .bids)) empty (no-totals a)
 
-  pub setup-answers : collect answer-in (own j (setup-calls a c)) ≡ []
-  unfolding open-at given answer-in collect
-  setup-answers = ap (collect answer-in) own-setup ∙ adds-answers a c j (zip (a .bids) (c .bids)) 0 (no-totals a)
+  pub setup-askings : collect asking-in (own j (setup-calls a c)) ≡ []
+  unfolding open-at given asking-in collect
+  setup-askings = ap (collect asking-in) own-setup ∙ adds-askings a c j (zip (a .bids) (c .bids)) empty (no-totals a)

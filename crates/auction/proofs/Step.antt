@@ -1,8 +1,8 @@
 -- One round of all parties: when every call of it is accepted, and what every party then has. Assumes nothing.
-use mathlib.Core.Path.{_≡_, sym, ap, _∙_}
+use mathlib.Core.Path.{_≡_, refl, sym, ap, _∙_}
 use mathlib.Core.Bool.{true, false}
 use mathlib.Core.List.{List, [], _∷_, map}
-use Prim.Native.Nat.{ℕ, zero, suc, _+_, _-_, _*_, _^_, _≤_, _<_}
+use Prim.Native.Nat.{ℕ, _+_, _-_, _*_, _^_, _≤_, _<_}
 use native.Mathlib.Omega.{arith}
 use lib.ListN.{length, drop, getD, length-map, length-drop}
 use Rattle.ranges.specs.Sizes.{sheet-size}
@@ -12,9 +12,8 @@ use Rattle.fields.specs.Amount.{amounts}
 use Rattle.fields.specs.Byte.{bytes}
 use Rattle.ranges.specs.Below.{AllBelow}
 use Rattle.sharing.specs.Polynomial.{value}
-use Rattle.ranges.specs.Lists.{from}
 use Rattle.sharing.specs.Scheme.{threshold, points}
-use Rattle.ranges.proofs.Loops.{length-from}
+use Rattle.ranges.proofs.Loops.{length-from, map-from}
 use Rattle.search.specs.declared.Bracket.{Bracket}
 use Rattle.search.specs.Bracket.{middle, over}
 use Rattle.search.specs.Limit.{limit}
@@ -29,11 +28,12 @@ use Rattle.record.proofs.Soundness.{Sound, sound-of}
 use Rattle.saying.proofs.Laws.{Says, say-accepted}
 use Rattle.saying.proofs.Sheets.{InField}
 use Rattle.hearing.proofs.Hears.{admitted, hear-accepted}
-use Rattle.auction.specs.Auction.{Auction, IsAuction}
+use Rattle.roll.proofs.Entry.{entered-proper}
+use Rattle.auction.specs.Auction.{Auction, bidders, IsAuction}
 use Rattle.auction.specs.Coins.{Coins, InRange}
 use Rattle.auction.specs.Call.{accepted, is-accepted, judgement}
 use Rattle.auction.specs.Canonical.{word, say-by, word-by, hear-by, after-hearing}
-use Rattle.auction.proofs.Closed.{at-party, polynomials, Stage, fresh-stage, record-at, sheets-at, seat}
+use Rattle.auction.proofs.Closed.{at-party, polynomials, full-roll, Stage, fresh-stage, record-at, sheets-at, seat}
 use Rattle.auction.proofs.Totals.{each-imp, polynomials-length}
 use Rattle.auction.proofs.Sheets.{flat-length, flat-at, sheet-length, mask-word, getD-amounts, amount-below, byte-below, sheet-bytes-below}
 use Rattle.auction.proofs.Comparing.{demand-shared, supply-shared, index-least, index-most}
@@ -86,7 +86,7 @@ fresh-sane a b m apart inside few ended =
 
 module _ (a : Auction) (c : Coins) (A : IsAuction a) (σ : Stage) (N : Sane a σ) (j : ℕ) (j1 : 1 ≤ j) (jn : j ≤ a .n) where
   facts-at : Sound (record-at a c σ j)
-  unfolding record-at
+  unfolding record-at full-roll
   facts-at =
       record {
         listed =
@@ -98,7 +98,6 @@ module _ (a : Auction) (c : Coins) (A : IsAuction a) (σ : Stage) (N : Sane a σ
               prices-least = A .k-least;
               prices-most = A .k-most;
             };
-        bids = A .few;
         apart = N .apart;
         inside = N .inside;
         round-least = N .round-least;
@@ -107,19 +106,14 @@ module _ (a : Auction) (c : Coins) (A : IsAuction a) (σ : Stage) (N : Sane a σ
         carry = omega (arith, byte-below j (omega (arith, A .n-most)) (σ .carry) (N .carry));
         probes = N .probes;
         ended = N .ended;
+        roll = entered-proper (bidders a) (A .bidders);
+        bids = refl;
       }
 
   pub sound-at : sound (record-at a c σ j) ≡ true
   sound-at = sound-of (record-at a c σ j) facts-at
 
 -- ---- what is lent
-
--- one of a list of words
-getD-words : (w : ℕ → ℕ) (a m i : ℕ) → i < m → getD (map w (from a m)) i 0 ≡ w (a + i)
-unfolding from
-getD-words w a zero i h = absurd (omega arith)
-getD-words w a (suc m) zero h = ap w (omega arith)
-getD-words w a (suc m) (suc i) h = getD-words w (suc a) m i (omega arith) ∙ ap w (omega arith)
 
 words-length : (w : ℕ → ℕ) (n : ℕ) → length (map w (points n)) ≡ n
 words-length w n = length-map (points n) w ∙ length-from 1 n
@@ -220,7 +214,7 @@ module _ (a : Auction) (c : Coins) (A : IsAuction a) (C : InRange a c) where
           (opens : heard (a .n) (σ .round) (map w (points (a .n))) ≡ o)
           (straight : unopened o ≡ false) (tame : sum-outside o ≡ false) (whole : verdict-outside o ≡ false) where
         own-word : getD (map w (points (a .n))) (j - 1) 0 ≡ w j
-        own-word = getD-words w 1 (a .n) (j - 1) (omega arith) ∙ ap w (omega arith)
+        own-word = map-from w 1 (a .n) (j - 1) (omega arith) ∙ ap w (omega arith)
 
         hear-ok : hear-judgement (record-at a c σ j) totals (sheets-at a c j) (map w (points (a .n))) ≡ Accepted
         unfolding record-at

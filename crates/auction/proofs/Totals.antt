@@ -7,7 +7,7 @@ use native.Mathlib.Nat.{mod-eq-of-lt, le-of-suc-le-suc, suc-inj}
 use native.Mathlib.Decide.{decLe}
 use native.Mathlib.Omega.{arith}
 use lib.Dec.{leb, lit<}
-use lib.ListN.{length, replicate, take, drop, getD, length-replicate, length-drop, getD-replicate}
+use lib.ListN.{length, replicate, take, drop, getD, length-map, length-replicate, length-drop, getD-replicate}
 use lib.Seq.{length-take-le, getD-take, getD-drop}
 use borrow.Author.Tests.{leb-true}
 use Rattle.fields.specs.Amount.{p, amounts}
@@ -24,8 +24,9 @@ use Rattle.comparison.proofs.Values.{Shared}
 use Rattle.comparison.proofs.Dealt.{each-at, shared-cons}
 use Rattle.ranges.specs.Steps.{steps}
 use Rattle.bid.specs.Table.{most, monotone}
-use Rattle.auction.specs.Auction.{Auction, GoodTable, IsAuction, sum, demand, supply}
-use Rattle.auction.specs.Coins.{Coins, InRange}
+use Rattle.roll.proofs.Entry.{bidders-few}
+use Rattle.auction.specs.Auction.{Auction, Bid, bidders, GoodTable, IsAuction, sum, demand, supply}
+use Rattle.auction.specs.Coins.{Coins, DrawnBid, InRange}
 use Rattle.auction.proofs.Closed.{entries, added-polynomials, totals-after, no-totals, polynomials}
 
 -- ---- lists
@@ -128,13 +129,17 @@ module _ (k : ℕ) (table : List ℕ) (G : GoodTable k table) where
 -- ---- all tables
 
 module _ {a : Auction} (A : IsAuction a) where
-  total-small : (i : ℕ) → sum (map (λ table. getD table i 0) (a .bids)) < 2 ^ 32
+  -- "a list of 0 to 1,000 bids"
+  pub few-bids : length (a .bids) ≤ 1000
+  few-bids = omega (arith, bidders-few (bidders a) (A .bidders), length-map (a .bids) (λ b. b .bidder))
+
+  total-small : (i : ℕ) → sum (map (λ b. getD (b .table) i 0) (a .bids)) < 2 ^ 32
   total-small i =
       omega (
         arith,
-        A .few,
-        sum-most (λ table. getD table i 0) most (a .bids)
-            (each-imp (GoodTable (a .k)) (λ table. getD table i 0 ≤ most) (a .bids) (λ table G. amount-most (a .k) table G i) (A .tables)),
+        few-bids,
+        sum-most (λ b. getD (b .table) i 0) most (a .bids)
+            (each-imp (λ b. GoodTable (a .k) (b .table)) (λ b. getD (b .table) i 0 ≤ most) (a .bids) (λ b G. amount-most (a .k) (b .table) G i) (A .tables)),
       )
 
   -- "At most 1,000 bids are held, so totals stay below 2^32."
@@ -151,30 +156,30 @@ module _ {a : Auction} (A : IsAuction a) where
   totals-monotone =
       record {
         demand-falls = λ i j one le most.
-            sum-rises (λ table. getD table (j - 1) 0) (λ table. getD table (i - 1) 0) (a .bids)
-            (each-imp (GoodTable (a .k)) (λ table. getD table (j - 1) 0 ≤ getD table (i - 1) 0) (a .bids)
-            (λ table G. demand-sinks (a .k) table G (i - 1) (j - 1) (omega arith) (omega arith)) (A .tables));
+            sum-rises (λ b. getD (b .table) (j - 1) 0) (λ b. getD (b .table) (i - 1) 0) (a .bids)
+            (each-imp (λ b. GoodTable (a .k) (b .table)) (λ b. getD (b .table) (j - 1) 0 ≤ getD (b .table) (i - 1) 0) (a .bids)
+            (λ b G. demand-sinks (a .k) (b .table) G (i - 1) (j - 1) (omega arith) (omega arith)) (A .tables));
         supply-rises = λ i j one le most.
-            sum-rises (λ table. getD table (a .k + i - 1) 0) (λ table. getD table (a .k + j - 1) 0) (a .bids)
-            (each-imp (GoodTable (a .k)) (λ table. getD table (a .k + i - 1) 0 ≤ getD table (a .k + j - 1) 0) (a .bids)
-            (λ table G. let d : a .k + i - 1 ≡ a .k + (i - 1) = omega arith in let e : a .k + j - 1 ≡ a .k + (j - 1) = omega arith in
-            rw (d, e) (supply-climbs (a .k) table G (i - 1) (j - 1) (omega arith) (omega arith))) (A .tables));
+            sum-rises (λ b. getD (b .table) (a .k + i - 1) 0) (λ b. getD (b .table) (a .k + j - 1) 0) (a .bids)
+            (each-imp (λ b. GoodTable (a .k) (b .table)) (λ b. getD (b .table) (a .k + i - 1) 0 ≤ getD (b .table) (a .k + j - 1) 0) (a .bids)
+            (λ b G. let d : a .k + i - 1 ≡ a .k + (i - 1) = omega arith in let e : a .k + j - 1 ≡ a .k + (j - 1) = omega arith in
+            rw (d, e) (supply-climbs (a .k) (b .table) G (i - 1) (j - 1) (omega arith) (omega arith))) (A .tables));
       }
 
 -- ---- a bid with its coins
 
-pub record GoodBid (k t : ℕ) (b : List ℕ × List (List ℕ)) : Type 0 where
-  pub table : GoodTable k (b .0)
+pub record GoodBid (k t : ℕ) (b : DrawnBid) : Type 0 where
+  pub table : GoodTable k (b .0 .table)
   pub many : length (b .1) ≡ 2 * k
   pub groups : Each (Group p t) (b .1)
 
-bids-good : (k t : ℕ) (tables : List (List ℕ)) (coins : List (List (List ℕ))) → Each (GoodTable k) tables
-    → Each (λ groups. (length groups ≡ 2 * k) × Each (Group p t) groups) coins → Each (GoodBid k t) (zip tables coins)
+pub bids-good : (k t : ℕ) (bids : List Bid) (coins : List (List (List ℕ))) → Each (λ b. GoodTable k (b .table)) bids
+    → Each (λ groups. (length groups ≡ 2 * k) × Each (Group p t) groups) coins → Each (GoodBid k t) (zip bids coins)
 unfolding zip zipWith
 bids-good k t [] coins h g = tt
-bids-good k t (x ∷ tables) [] h g = tt
-bids-good k t (x ∷ tables) (y ∷ coins) h g =
-    (record { table = h .0; many = g .0 .0; groups = g .0 .1 }, bids-good k t tables coins (h .1) (g .1))
+bids-good k t (x ∷ bids) [] h g = tt
+bids-good k t (x ∷ bids) (y ∷ coins) h g =
+    (record { table = h .0; many = g .0 .0; groups = g .0 .1 }, bids-good k t bids coins (h .1) (g .1))
 
 -- ---- the polynomials of a bid, and of sums
 
@@ -238,11 +243,11 @@ module _ (k t : ℕ) where
     pub many : length fs ≡ 2 * k
     pub shared : Each (Shared p t) fs
 
-  pub entries-held : (b : List ℕ × List (List ℕ)) → GoodBid k t b → Held (entries (b .0) (b .1))
+  pub entries-held : (b : DrawnBid) → GoodBid k t b → Held (entries (b .0 .table) (b .1))
   entries-held b B =
       record {
-        many = length-entries (b .0) (b .1) (B .many ∙ sym (B .table .long)) ∙ B .table .long;
-        shared = entries-shared t (b .0) (b .1) (B .table .small) (B .groups);
+        many = length-entries (b .0 .table) (b .1) (B .many ∙ sym (B .table .long)) ∙ B .table .long;
+        shared = entries-shared t (b .0 .table) (b .1) (B .table .small) (B .groups);
       }
 
   pub added-held : (fs gs : List (List ℕ)) → Held fs → Held gs → Held (added-polynomials fs gs)
@@ -261,31 +266,31 @@ module _ (k t : ℕ) where
             (length-replicate (suc t) 0, zeros-below p (suc t) (lit< tt));
       }
 
-  pub totals-held : (bs : List (List ℕ × List (List ℕ))) (fs : List (List ℕ)) → Each (GoodBid k t) bs → Held fs → Held (totals-after bs fs)
+  pub totals-held : (bs : List DrawnBid) (fs : List (List ℕ)) → Each (GoodBid k t) bs → Held fs → Held (totals-after bs fs)
   unfolding totals-after
   totals-held [] fs B F = F
   totals-held (b ∷ bs) fs B F =
-      totals-held bs (added-polynomials fs (entries (b .0) (b .1))) (B .1) (added-held fs (entries (b .0) (b .1)) F (entries-held b (B .0)))
+      totals-held bs (added-polynomials fs (entries (b .0 .table) (b .1))) (B .1) (added-held fs (entries (b .0 .table) (b .1)) F (entries-held b (B .0)))
 
   -- one bid more
-  secret-more : (b : List ℕ × List (List ℕ)) (fs : List (List ℕ)) (i : ℕ) → GoodBid k t b → Held fs → i < 2 * k → secret (getD fs i []) + most < p
-      → secret (getD (added-polynomials fs (entries (b .0) (b .1))) i []) ≡ secret (getD fs i []) + getD (b .0) i 0
+  secret-more : (b : DrawnBid) (fs : List (List ℕ)) (i : ℕ) → GoodBid k t b → Held fs → i < 2 * k → secret (getD fs i []) + most < p
+      → secret (getD (added-polynomials fs (entries (b .0 .table) (b .1))) i []) ≡ secret (getD fs i []) + getD (b .0 .table) i 0
   secret-more b fs i B F l h =
-      let E : Held (entries (b .0) (b .1)) = entries-held b B in
-      secret-added t fs (entries (b .0) (b .1)) i (F .shared) (E .shared) (E .many ∙ sym (F .many)) (omega (arith, F .many))
-      ∙ ap (λ (z : ℕ). (secret (getD fs i []) + z) % p) (secret-entries (b .0) (b .1) i (B .many ∙ sym (B .table .long)))
-      ∙ mod-eq-of-lt (omega (arith, amount-most k (b .0) (B .table) i))
+      let E : Held (entries (b .0 .table) (b .1)) = entries-held b B in
+      secret-added t fs (entries (b .0 .table) (b .1)) i (F .shared) (E .shared) (E .many ∙ sym (F .many)) (omega (arith, F .many))
+      ∙ ap (λ (z : ℕ). (secret (getD fs i []) + z) % p) (secret-entries (b .0 .table) (b .1) i (B .many ∙ sym (B .table .long)))
+      ∙ mod-eq-of-lt (omega (arith, amount-most k (b .0 .table) (B .table) i))
 
-  secret-totals : (bs : List (List ℕ × List (List ℕ))) (fs : List (List ℕ)) (i : ℕ) → Each (GoodBid k t) bs → Held fs → i < 2 * k
+  secret-totals : (bs : List DrawnBid) (fs : List (List ℕ)) (i : ℕ) → Each (GoodBid k t) bs → Held fs → i < 2 * k
       → secret (getD fs i []) + length bs * most < p
-      → secret (getD (totals-after bs fs) i []) ≡ secret (getD fs i []) + sum (map (λ b. getD (b .0) i 0) bs)
+      → secret (getD (totals-after bs fs) i []) ≡ secret (getD fs i []) + sum (map (λ b. getD (b .0 .table) i 0) bs)
   unfolding totals-after sum
   secret-totals [] fs i B F l h = omega arith
   secret-totals (b ∷ bs) fs i B F l h =
-      let e : secret (getD (added-polynomials fs (entries (b .0) (b .1))) i []) ≡ secret (getD fs i []) + getD (b .0) i 0 =
+      let e : secret (getD (added-polynomials fs (entries (b .0 .table) (b .1))) i []) ≡ secret (getD fs i []) + getD (b .0 .table) i 0 =
       secret-more b fs i (B .0) F l (omega arith) in
-      secret-totals bs (added-polynomials fs (entries (b .0) (b .1))) i (B .1) (added-held fs (entries (b .0) (b .1)) F (entries-held b (B .0))) l
-      (omega (arith, amount-most k (b .0) (B .0 .table) i))
+      secret-totals bs (added-polynomials fs (entries (b .0 .table) (b .1))) i (B .1) (added-held fs (entries (b .0 .table) (b .1)) F (entries-held b (B .0))) l
+      (omega (arith, amount-most k (b .0 .table) (B .0 .table) i))
       ∙ omega arith
 
 module _ {a : Auction} {c : Coins} (A : IsAuction a) (C : InRange a c) where
@@ -304,13 +309,13 @@ module _ {a : Auction} {c : Coins} (A : IsAuction a) (C : InRange a c) where
   polynomial-shared i l =
       each-at (Shared p (threshold (a .n))) (polynomials a c) i [] (polynomials-held .shared) (omega (arith, polynomials-length))
 
-  secret-at : (i : ℕ) → i < 2 * a .k → secret (getD (polynomials a c) i []) ≡ sum (map (λ table. getD table i 0) (a .bids))
+  secret-at : (i : ℕ) → i < 2 * a .k → secret (getD (polynomials a c) i []) ≡ sum (map (λ b. getD (b .table) i 0) (a .bids))
   unfolding polynomials
   secret-at i l =
       let e : secret (getD (no-totals a) i []) ≡ 0 = ap secret (getD-replicate (2 * a .k) i (replicate (suc (threshold (a .n))) 0) [] l) in
       secret-totals (a .k) (threshold (a .n)) (zip (a .bids) (c .bids)) (no-totals a) i all-good (no-totals-held (a .k) (threshold (a .n))) l
-      (omega (arith, A .few, length-zip (a .bids) (c .bids) (C .bids-many)))
-      ∙ ap₂ _+_ e (sum-zip (λ table. getD table i 0) (a .bids) (c .bids) (C .bids-many))
+      (omega (arith, few-bids A, length-zip (a .bids) (c .bids) (C .bids-many)))
+      ∙ ap₂ _+_ e (sum-zip (λ b. getD (b .table) i 0) (a .bids) (c .bids) (C .bids-many))
       ∙ omega arith
 
   -- the totals are the bids' amounts, "added in tenths unrounded"

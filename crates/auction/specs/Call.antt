@@ -18,7 +18,7 @@ pub data Call : Type 0 where
   open-call : (n own k : ℕ) (totals : List ℕ) → Call
   split-call : (n own k : ℕ) (table coins shares : List ℕ) → Call
   deal-call : (n own : ℕ) (words drawn sheet : List ℕ) → Call
-  add-call : (q : Party) (totals shares : List ℕ) → Call
+  add-call : (q : Party) (totals : List ℕ) (bidder : ℕ) (shares : List ℕ) → Call
   say-call : (q : Party) (totals sheets : List ℕ) → Call
   hear-call : (q : Party) (totals sheets messages : List ℕ) → Call
   answer-call : (q : Party) → Call
@@ -27,7 +27,7 @@ unfoldable pub judgement : Call → Judgement
 judgement (open-call n own k totals) = open-judgement n own k totals
 judgement (split-call n own k table coins shares) = split-judgement n own k table coins shares
 judgement (deal-call n own words drawn sheet) = deal-judgement n own words drawn sheet
-judgement (add-call q totals shares) = add-judgement q totals shares
+judgement (add-call q totals bidder shares) = add-judgement q totals bidder shares
 judgement (say-call q totals sheets) = say-judgement q totals sheets
 judgement (hear-call q totals sheets messages) = hear-judgement q totals sheets messages
 judgement (answer-call q) = answer-judgement q
@@ -48,7 +48,7 @@ unfoldable pub whose : Call → Whose
 whose (open-call n own k totals) = party own
 whose (split-call n own k table coins shares) = service
 whose (deal-call n own words drawn sheet) = service
-whose (add-call q totals shares) = party (q .own)
+whose (add-call q totals bidder shares) = party (q .own)
 whose (say-call q totals sheets) = party (q .own)
 whose (hear-call q totals sheets messages) = party (q .own)
 whose (answer-call q) = party (q .own)
@@ -66,7 +66,7 @@ unfoldable pub given : Call → Call
 given (open-call n own k totals) = open-call n own k []
 given (split-call n own k table coins shares) = split-call n own k table coins []
 given (deal-call n own words drawn sheet) = deal-call n own words drawn []
-given (add-call q totals shares) = add-call q totals shares
+given (add-call q totals bidder shares) = add-call q totals bidder shares
 given (say-call q totals sheets) = say-call q totals sheets
 given (hear-call q totals sheets messages) = hear-call q totals sheets messages
 given (answer-call q) = answer-call q

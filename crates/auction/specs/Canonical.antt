@@ -19,7 +19,7 @@ use Rattle.session.specs.Add.{add-reply, add-left}
 use Rattle.saying.specs.Say.{say-reply, said-word}
 use Rattle.hearing.specs.Hear.{hear-reply}
 use Rattle.auction.specs.Auction.{Auction}
-use Rattle.auction.specs.Coins.{Coins, flat, coin-words, coin-bytes}
+use Rattle.auction.specs.Coins.{Coins, DrawnBid, flat, coin-words, coin-bytes}
 use Rattle.auction.specs.Call.{Call, open-call, split-call, deal-call, add-call, say-call, hear-call, answer-call}
 
 -- what a party said
@@ -55,20 +55,20 @@ module _ (a : Auction) (c : Coins) where
       }
 
   -- "For each bid in turn the desk writes every keeper's bundle from the same draws, and each keeper adds its own."
-  unfoldable pub shares-for : List ℕ × List (List ℕ) → Seat → List ℕ
-  shares-for b s = split-left (a .n) (s .party .own) (a .k) (b .0) (flat (b .1)) zeros
+  unfoldable pub shares-for : DrawnBid → Seat → List ℕ
+  shares-for b s = split-left (a .n) (s .party .own) (a .k) (b .0 .table) (flat (b .1)) zeros
 
-  unfoldable pub split-for : List ℕ × List (List ℕ) → Seat → Call
-  split-for b s = split-call (a .n) (s .party .own) (a .k) (b .0) (flat (b .1)) zeros
+  unfoldable pub split-for : DrawnBid → Seat → Call
+  split-for b s = split-call (a .n) (s .party .own) (a .k) (b .0 .table) (flat (b .1)) zeros
 
-  unfoldable pub add-by : List ℕ × List (List ℕ) → Seat → Call
-  add-by b s = add-call (s .party) (s .totals) (shares-for b s)
+  unfoldable pub add-by : DrawnBid → Seat → Call
+  add-by b s = add-call (s .party) (s .totals) (b .0 .bidder) (shares-for b s)
 
-  unfoldable pub after-adding : List ℕ × List (List ℕ) → Seat → Seat
+  unfoldable pub after-adding : DrawnBid → Seat → Seat
   after-adding b s =
       record {
-        party = add-reply (s .party) (s .totals) (shares-for b s) .party;
-        totals = add-left (s .party) (s .totals) (shares-for b s);
+        party = add-reply (s .party) (s .totals) (b .0 .bidder) (shares-for b s) .party;
+        totals = add-left (s .party) (s .totals) (b .0 .bidder) (shares-for b s);
         sheets = s .sheets;
       }
 
@@ -117,7 +117,7 @@ module _ (a : Auction) (c : Coins) where
   deals [] = []
   deals (s ∷ ss) = map (deal-for s) (c .sheets) ++ deals ss
 
-  unfoldable pub from-bids : List (List ℕ × List (List ℕ)) → List Seat → List Call
+  unfoldable pub from-bids : List DrawnBid → List Seat → List Call
   from-bids [] ss = deals ss ++ from-rounds (enough-rounds a) (map after-dealing ss)
   from-bids (b ∷ bs) ss = map (split-for b) ss ++ (map (add-by b) ss ++ from-bids bs (map (after-adding b) ss))
 

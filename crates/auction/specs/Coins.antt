@@ -7,12 +7,16 @@ use Rattle.fields.specs.Amount.{p}
 use Rattle.sharing.specs.Scheme.{threshold}
 use Rattle.search.specs.Limit.{limit}
 use Rattle.comparison.specs.Probe.{SheetCoins, SheetInRange, Group, Each, TripleCoins}
-use Rattle.auction.specs.Auction.{Auction}
+use Rattle.auction.specs.Auction.{Auction, Bid}
 
 -- for each bid a group of t coins for each of its 2k amounts; for each lent sheet what the dealer draws
 pub record Coins : Type 0 where
   pub bids : List (List (List ℕ))
   pub sheets : List SheetCoins
+
+-- a bid, with the coins that are drawn for it
+abbrev pub DrawnBid : Type 0
+DrawnBid = Bid × List (List ℕ)
 
 -- "all within their ranges"
 pub record InRange (a : Auction) (c : Coins) : Type 0 where

@@ -1,24 +1,26 @@
 -- Demands 2 and 3 of whole auctions, as statements about every run. Assumes nothing.
 use mathlib.Core.Path.{_≡_}
-use mathlib.Core.Bool.{Bool, true, cond, not, _&&_}
+use mathlib.Core.Bool.{Bool, true, not, _&&_}
 use mathlib.Core.List.{List, [], _∷_, map, zip, List·Memᴰ}
-use Prim.Native.Nat.{ℕ, zero, suc, _+_, _-_, _^_, _≤_}
+use Prim.Native.Nat.{ℕ, suc, _+_, _-_, _^_, _≤_}
 use lib.Dec.{leb, ltb}
 use lib.ListN.{length, replicate}
 use Rattle.verdict.specs.Verdict.{verdict}
 use Rattle.sharing.specs.Scheme.{threshold}
-use Rattle.sharing.specs.Parties.{Parties}
+use Rattle.ranges.specs.Distinct.{Distinct}
+use Rattle.ranges.specs.Lists.{member, count}
+use Rattle.roll.specs.Marks.{marked}
 use Rattle.search.specs.Bracket.{start}
 use Rattle.search.specs.Limit.{limit}
 use Rattle.search.specs.Search.{promise, trail}
 use Rattle.comparison.specs.Probe.{Each}
 use Rattle.session.specs.declared.reply.Answer.the-variants.{Cleared}
-use Rattle.auction.specs.Auction.{Auction, IsAuction, demand, supply, clearing-answer}
+use Rattle.auction.specs.Auction.{Auction, IsAuction, bidders, demand, supply, clearing-answer}
 use Rattle.auction.specs.Coins.{Coins, InRange}
 use Rattle.auction.specs.Call.{Call, accepted}
 use Rattle.auction.specs.Canonical.{canonical}
 use Rattle.auction.specs.Run.{Run}
-use Rattle.auction.specs.Received.{received-shares, sheets, messages, verdicts, indices, answers, unused}
+use Rattle.auction.specs.Received.{received-bids, sheets, messages, verdicts, indices, askings, answers, unused}
 
 unfoldable pub all-accepted : List Call → Bool
 all-accepted [] = true
@@ -35,6 +37,8 @@ pub record Outcome (a : Auction) (l : List Call) (j : ℕ) : Type 0 where
   pub cleared : answers j l ≡ replicate (suc asked) (Cleared (clearing-answer a) (length (verdicts j l)))
   -- "at most P"
   pub few : length (verdicts j l) ≤ limit (a .k)
+  -- its roll then marks the bidders of the run, and nobody else
+  pub rolled : Each (λ q. (b : ℕ) → marked (q .roll) b ≡ member b (bidders a)) (askings j l)
 
 pub record Demand2 (a : Auction) (c : Coins) : Type 0 where
   -- no call of the run is refused, but those that stand between
@@ -43,16 +47,17 @@ pub record Demand2 (a : Auction) (c : Coins) : Type 0 where
 
 -- ---- demand 3
 
--- "two whole auctions that agree in number of keepers, number of listed prices, number of bids and clearing answer"
+-- "two whole auctions that agree in number of keepers, number of listed prices, .. and clearing answer"; "Equal number of bids becomes
+-- equal rolls, in order of entry"
 pub record Alike (a b : Auction) : Type 0 where
   pub parties : b .n ≡ a .n
   pub prices : b .k ≡ a .k
-  pub bids : length (b .bids) ≡ length (a .bids)
+  pub bidders : bidders b ≡ bidders a
   pub answer : clearing-answer b ≡ clearing-answer a
 
 -- "any t keepers"
 pub record Pool (n : ℕ) (pool : List ℕ) : Type 0 where
-  pub parties : Parties n pool
+  pub parties : Distinct n pool
   pub many : length pool ≡ threshold n
 
 -- the indices that the price search probes (by demand 2, those of every run)
@@ -72,7 +77,7 @@ Stay a b c = Each (λ s. stays a b (s .0) (s .1 .mask) ≡ true) (zip (probed a)
 -- what the two lists have in common: "the same shares, .. the same unused sheets, .. the same words from all n keepers, round by round,
 -- the same verdicts and the same number of probes"
 pub record Same (n : ℕ) (pool : List ℕ) (l m : List Call) : Type 0 where
-  pub pool-bids : (j : ℕ) → List·Memᴰ j pool → received-shares j m ≡ received-shares j l
+  pub pool-bids : (j : ℕ) → List·Memᴰ j pool → received-bids j m ≡ received-bids j l
   pub pool-sheets : (j : ℕ) → List·Memᴰ j pool → sheets j m ≡ sheets j l
   pub left : (j : ℕ) → 1 ≤ j → j ≤ n → unused j m ≡ unused j l
   pub words : (j : ℕ) → 1 ≤ j → j ≤ n → messages j m ≡ messages j l
@@ -86,11 +91,6 @@ pub record Matched (a b : Auction) (pool : List ℕ) (c : Coins) : Type 0 where
   pub ranged : InRange b coins
   pub same : (l m : List Call) → Run a c l → Run b coins m → Same (a .n) pool l m
   pub only : (other : Coins) → InRange b other → (l m : List Call) → Run a c l → Run b other m → Same (a .n) pool l m → other ≡ coins
-
--- how many numbers below m pass a test
-unfoldable pub count : (ℕ → Bool) → ℕ → ℕ
-count test zero = 0
-count test (suc m) = cond (test m) (suc (count test m)) (count test m)
 
 pub record Demand3 : Type 0 where
   pub matched : (a b : Auction) → IsAuction a → IsAuction b → Alike a b → (pool : List ℕ) → Pool (a .n) pool

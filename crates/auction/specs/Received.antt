@@ -20,14 +20,15 @@ unfoldable pub collect : {A B : Type 0} → (A → Option B) → List A → List
 collect f [] = []
 collect f (x ∷ xs) = elim (f x) [ none ↦ collect f xs | some y ↦ y ∷ collect f xs ]
 
-unfoldable pub bid-shares-in : Call → Option (List ℕ)
-bid-shares-in (open-call n own k totals) = none
-bid-shares-in (split-call n own k table coins shares) = none
-bid-shares-in (deal-call n own words drawn sheet) = none
-bid-shares-in (add-call q totals shares) = some shares
-bid-shares-in (say-call q totals sheets) = none
-bid-shares-in (hear-call q totals sheets messages) = none
-bid-shares-in (answer-call q) = none
+-- a bid that is added: its bidder, and the party's shares
+unfoldable pub bid-in : Call → Option (ℕ × List ℕ)
+bid-in (open-call n own k totals) = none
+bid-in (split-call n own k table coins shares) = none
+bid-in (deal-call n own words drawn sheet) = none
+bid-in (add-call q totals bidder shares) = some (bidder, shares)
+bid-in (say-call q totals sheets) = none
+bid-in (hear-call q totals sheets messages) = none
+bid-in (answer-call q) = none
 
 -- a hearing: the record it was given, the sheets it was lent, the n messages
 pub record Hearing : Type 0 where
@@ -39,29 +40,33 @@ unfoldable pub hearing-in : Call → Option Hearing
 hearing-in (open-call n own k totals) = none
 hearing-in (split-call n own k table coins shares) = none
 hearing-in (deal-call n own words drawn sheet) = none
-hearing-in (add-call q totals shares) = none
+hearing-in (add-call q totals bidder shares) = none
 hearing-in (say-call q totals sheets) = none
 hearing-in (hear-call q totals sheets messages) = some (record { party = q; sheets = sheets; messages = messages })
 hearing-in (answer-call q) = none
 
-unfoldable pub answer-in : Call → Option Answer
-answer-in (open-call n own k totals) = none
-answer-in (split-call n own k table coins shares) = none
-answer-in (deal-call n own words drawn sheet) = none
-answer-in (add-call q totals shares) = none
-answer-in (say-call q totals sheets) = none
-answer-in (hear-call q totals sheets messages) = none
-answer-in (answer-call q) = some (answer-reply q)
+-- the record with which the answer is asked for
+unfoldable pub asking-in : Call → Option Party
+asking-in (open-call n own k totals) = none
+asking-in (split-call n own k table coins shares) = none
+asking-in (deal-call n own words drawn sheet) = none
+asking-in (add-call q totals bidder shares) = none
+asking-in (say-call q totals sheets) = none
+asking-in (hear-call q totals sheets messages) = none
+asking-in (answer-call q) = some q
 
--- the bid shares that party j received, in order
-abbrev pub received-shares : ℕ → List Call → List (List ℕ)
-received-shares j l = collect bid-shares-in (own j l)
+-- the bids that party j received, in order
+abbrev pub received-bids : ℕ → List Call → List (ℕ × List ℕ)
+received-bids j l = collect bid-in (own j l)
 
 abbrev pub hearings : ℕ → List Call → List Hearing
 hearings j l = collect hearing-in (own j l)
 
+abbrev pub askings : ℕ → List Call → List Party
+askings j l = collect asking-in (own j l)
+
 abbrev pub answers : ℕ → List Call → List Answer
-answers j l = collect answer-in (own j l)
+answers j l = map answer-reply (askings j l)
 
 -- the messages of all n parties, round by round, as party j heard them
 abbrev pub messages : ℕ → List Call → List (List ℕ)

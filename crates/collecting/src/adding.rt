@@ -31,10 +31,11 @@ pub struct Added {
     pub state: u64,
 }
 
-// Reads the next bid, draws its coins, and adds it for all parties.
+// Reads the next bid, draws its coins, and adds it for all parties under its bidder's number.
 fn add_next(
     n: u64,
     k: u64,
+    bidder: u64,
     input: &[u8],
     at: usize,
     state: u64,
@@ -43,8 +44,8 @@ fn add_next(
 ) -> Added
     requires { ⌜ (3 ≤ n) × (n ≤ 9) × (k ≤ 256) × (length (now totals) ≡ n * (2 * k)) ⌝ }
     ensures { λ r. ⌜ (r .at ≡ at + bytes-of (2 * k) (drop at (now (input .entry)))) × (r .state ≡ later next-coin (2 * k * threshold n) state)
-        × All n (λ i. (getD (r .parties) i blank ≡ party-added n k (numbers (2 * k) (drop at (now (input .entry)))) (drawn-coins (2 * k * threshold n) state) parties (now (totals .entry)) i)
-        × (part (2 * k) i (now (totals .exit)) ≡ totals-added n k (numbers (2 * k) (drop at (now (input .entry)))) (drawn-coins (2 * k * threshold n) state) parties (now (totals .entry)) i)) ⌝ }
+        × All n (λ i. (getD (r .parties) i blank ≡ party-added n k bidder (numbers (2 * k) (drop at (now (input .entry)))) (drawn-coins (2 * k * threshold n) state) parties (now (totals .entry)) i)
+        × (part (2 * k) i (now (totals .exit)) ≡ totals-added n k bidder (numbers (2 * k) (drop at (now (input .entry)))) (drawn-coins (2 * k * threshold n) state) parties (now (totals .entry)) i)) ⌝ }
 {
     let width = 2 * k as usize;
     let drawn = width * threshold(n) as usize;
@@ -52,7 +53,15 @@ fn add_next(
     let mut coins = no_coins();
     let next = read_table(input, at, &mut table[..width]);
     let last = draw_coins(state, &mut coins[..drawn]);
-    let after = add_all(n, k, &table[..width], &coins[..drawn], parties, totals);
+    let after = add_all(
+        n,
+        k,
+        bidder,
+        &table[..width],
+        &coins[..drawn],
+        parties,
+        totals,
+    );
     Added {
         parties: after,
         at: next,
@@ -60,7 +69,7 @@ fn add_next(
     }
 }
 
-// All bids, one after another.
+// All bids, one after another. Bidders are numbered in the order of their bids.
 pub(crate) fn add_bids(
     n: u64,
     k: u64,
@@ -81,7 +90,7 @@ pub(crate) fn add_bids(
         let place = so_far.at;
         let drawn = so_far.state;
         let records = so_far.parties;
-        let next = add_next(n, k, input, place, drawn, records, totals);
+        let next = add_next(n, k, i + 1, input, place, drawn, records, totals);
         so_far = next;
         i += 1;
     }

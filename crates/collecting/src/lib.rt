@@ -4,7 +4,7 @@ ghost use Prim.Native.Nat.{_*_, _≤_};
 ghost use lib.ListN.{length, drop};
 ghost use Rattle.sharing.specs.Scheme.{threshold};
 ghost use Rattle.auction.specs.Auction.{IsAuction};
-ghost use Rattle.auction.proofs.Closed.{polynomials};
+ghost use Rattle.auction.proofs.Closed.{polynomials, full-roll};
 ghost use Rattle.draws.specs.Draws.{first-state, after-bids, auction-coins};
 ghost use Rattle.standing.proofs.Standing.{auction-of, Holds};
 
@@ -27,7 +27,7 @@ pub fn collect(
 ) -> Added
     requires { ⌜ (k ≤ 256) × (bids ≤ 1000) × IsAuction (auction-of n k bids (drop at (now input))) × (length (now totals) ≡ n * (2 * k)) ⌝ }
     ensures { λ r. ⌜ (r .state ≡ after-bids (threshold n) k bids (first-state seed))
-        × Holds (auction-of n k bids (drop at (now (input .entry)))) bids
+        × Holds (auction-of n k bids (drop at (now (input .entry)))) (full-roll (auction-of n k bids (drop at (now (input .entry)))))
         (polynomials (auction-of n k bids (drop at (now (input .entry)))) (auction-coins n k bids seed)) (r .parties) (now (totals .exit)) ⌝ }
 {
     let parties = open_all(n, k, totals);

@@ -10,7 +10,7 @@ use Rattle.fields.specs.Amount.{p, amounts}
 use Rattle.fields.specs.Byte.{bytes}
 use Rattle.fields.proofs.Fields.{amount-field, byte-field}
 use Rattle.sharing.specs.Polynomial.{value, shares}
-use Rattle.sharing.specs.Parties.{Parties}
+use Rattle.ranges.specs.Distinct.{Distinct}
 use Rattle.sharing.proofs.Points.{Different, with-zero}
 use Rattle.sharing.proofs.Laws.{recolour}
 use Rattle.verdict.specs.Verdict.{verdict}
@@ -31,7 +31,7 @@ use Rattle.comparison.proofs.Only.{coefficients-only, bits-only, triple
 pub record Other (n t : ℕ) (xs : List ℕ) (demand supply : ℕ) (c : SheetCoins) (q : Probe) (demand′ supply′ : ℕ) (d′ s′ : List ℕ) : Type 0 where
   pub at-most : n ≤ 9
   pub more : t < n
-  pub pool : Parties n xs
+  pub pool : Distinct n xs
   pub pooled : length xs ≡ t
   pub first : Compares t demand supply c q
   pub demand-shared : Shared p t d′
@@ -362,7 +362,7 @@ hides n t xs demand supply c q demand′ supply′ d′ s′ A =
     (subst (λ (z : Probe). Other n t xs demand supply c z demand′ supply′ d′ s′) e A))
 
 -- Of its own totals a probe's own coins are the matched ones: what is supposed of other totals holds of these.
-pub itself : (n t : ℕ) (xs : List ℕ) (demand supply : ℕ) (c : SheetCoins) (q : Probe) → n ≤ 9 → t < n → Parties n xs → length xs ≡ t
+pub itself : (n t : ℕ) (xs : List ℕ) (demand supply : ℕ) (c : SheetCoins) (q : Probe) → n ≤ 9 → t < n → Distinct n xs → length xs ≡ t
     → Compares t demand supply c q → c ≡ matched xs (opened-sum q) (moved (c .mask) demand supply demand supply) c
 itself n t xs demand supply c q h9 hn ps l h =
     let A : Other n t xs demand supply c q demand supply (q .demand) (q .supply) =

@@ -1,13 +1,13 @@
 -- Laws of dealing. Assumes nothing.
-use mathlib.Core.Path.{_≡_, refl, ap, ap₂, _∙_}
-use mathlib.Core.List.{List, _∷_, map}
+use mathlib.Core.Path.{_≡_, refl, ap₂, _∙_}
+use mathlib.Core.List.{List, _∷_}
 use Prim.Native.Nat.{ℕ, zero, suc, _+_, _*_, _^_, _<_}
 use native.Mathlib.Omega.{arith}
 use lib.ListN.{length, take, drop, getD, length-append}
 use borrow.Author.Tests.{ltb-true, lt-ltb, eqb-true, eq-eqb, not-false}
 use Rattle.ranges.specs.Below.{AllBelow}
 use Rattle.ranges.specs.Lists.{from}
-use Rattle.ranges.proofs.Loops.{and-true}
+use Rattle.ranges.proofs.Loops.{and-true, map-from}
 use Rattle.ranges.proofs.Ranges.{IsParty, a-party, is-party, all-below, is-below}
 use Rattle.refusal.specs.Judging.{judged}
 use Rattle.refusal.specs.declared.Judgement.the-variants.{Accepted}
@@ -31,12 +31,6 @@ module _ (t own : ℕ) where
   share-at = each-at bytes t own
 
 -- the bits of a mask
-map-from : (f : ℕ → ℕ) (a m i : ℕ) → i < m → getD (map f (from a m)) i 0 ≡ f (a + i)
-unfolding from
-map-from f a zero i h = absurd (omega arith)
-map-from f a (suc m) zero h = ap f (omega arith)
-map-from f a (suc m) (suc i) h = map-from f (suc a) m i (omega arith) ∙ ap f (omega arith)
-
 pub length-bits : (b : ℕ) → length (mask-bits b) ≡ 33
 unfolding from
 length-bits b = refl

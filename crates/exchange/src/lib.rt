@@ -1,5 +1,5 @@
 // The calls, exported for C. Each answers 0, or the refusal's number, and writes what it gives into
-// what it is lent; a refused call changes nothing that is lent. A record is lent as its ten words.
+// what it is lent; a refused call changes nothing that is lent. A record is lent as its 26 words.
 ghost use mathlib.Core.Path.{_≡_};
 ghost use Rattle.bid.specs.Split.{split-left};
 ghost use Rattle.dealer.specs.Deal.{deal-left};
@@ -75,15 +75,20 @@ pub extern "C" fn clockivy_deal(
 
 // Without a record nothing else can be judged, so here and below its length comes first.
 #[no_mangle]
-pub extern "C" fn clockivy_add(words: &mut [u64], totals: &mut [u64], shares: &[u64]) -> u64
-    ensures { λ r. ⌜ (r ≡ add-code (now (words .entry)) (now (totals .entry)) (now (shares .entry)))
-        × (now (words .exit) ≡ add-record (now (words .entry)) (now (totals .entry)) (now (shares .entry)))
-        × (now (totals .exit) ≡ add-totals (now (words .entry)) (now (totals .entry)) (now (shares .entry))) ⌝ }
+pub extern "C" fn clockivy_add(
+    words: &mut [u64],
+    totals: &mut [u64],
+    bidder: u64,
+    shares: &[u64],
+) -> u64
+    ensures { λ r. ⌜ (r ≡ add-code (now (words .entry)) (now (totals .entry)) bidder (now (shares .entry)))
+        × (now (words .exit) ≡ add-record (now (words .entry)) (now (totals .entry)) bidder (now (shares .entry)))
+        × (now (totals .exit) ≡ add-totals (now (words .entry)) (now (totals .entry)) bidder (now (shares .entry))) ⌝ }
 {
     if !is_record(&words[..]) {
         return number(Refusal::WrongLength);
     }
-    store(add(read(&words[..]), totals, shares), words)
+    store(add(read(&words[..]), totals, bidder, shares), words)
 }
 
 // The message of the round. The record is only read.

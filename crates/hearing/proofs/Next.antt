@@ -25,7 +25,7 @@ use Rattle.round.specs.Round.{heard, Possible}
 use Rattle.hearing.specs.Hear.{after}
 use Rattle.record.specs.Updates.{in-round, decided}
 use Rattle.record.proofs.Soundness.{Sound, probing}
-use Rattle.record.proofs.Updates.{Same, in-round-same, in-round-probes, in-round-sound, decided-same, decided-probes, decided-sound, Narrow, narrow-in-round, narrow-decided}
+use Rattle.record.proofs.Updates.{Same, in-round-same, in-round-roll, in-round-probes, in-round-sound, decided-same, decided-roll, decided-probes, decided-sound, Narrow, narrow-in-round, narrow-decided}
 use Rattle.ranges.proofs.Ranges.{is-below}
 use Rattle.saying.proofs.Sheets.{byte-at, current-long}
 use Rattle.round.proofs.Opened.{heard-possible}
@@ -71,6 +71,15 @@ after-same q sheet (Sum v) = in-round-same q _ _ _
 after-same q sheet (Factors d e) = in-round-same q _ _ _
 after-same q sheet (Verdict v) = decided-same q (step (bracket q) v)
 after-same q sheet Unopened = record { n = refl; own = refl; k = refl }
+
+-- ---- and so does the roll
+
+pub roll-after : (q : Party) (sheet : List ℕ) (h : Heard) → after q sheet h .roll ≡ q .roll
+unfolding after
+roll-after q sheet (Sum v) = in-round-roll q _ _ _
+roll-after q sheet (Factors d e) = in-round-roll q _ _ _
+roll-after q sheet (Verdict v) = decided-roll q (step (bracket q) v)
+roll-after q sheet Unopened = refl
 
 -- ---- the carry's share is a byte
 

@@ -1,6 +1,6 @@
 -- Parts of a flat list, and lists that a loop over all parties fills. Assumes nothing.
 use mathlib.Core.Path.{_≡_, refl, sym, ap, ap₂, _∙_}
-use mathlib.Core.List.{List, _∷_, _++_, map}
+use mathlib.Core.List.{List, [], _∷_, _++_, map}
 use mathlib.Core.Logic.{⊎-elim}
 use Prim.Native.Nat.{ℕ, zero, suc, _+_, _-_, _*_, _≤_, _<_}
 use native.Mathlib.Nat.{mul-le-mul-right, eq-or-lt-of-le}
@@ -10,7 +10,7 @@ use lib.ListN.{length, take, drop, set, getD, replicate, length-drop, length-set
 use lib.Seq.{length-take-le, take-append-le, drop-append-le, take-at, drop-at, drop-drop, getD-set-same, getD-set-other, ext-getD}
 use borrow.Rule.Slice.PartMut.{putMid, same-len-mid, drop-put}
 use Rattle.ranges.specs.Lists.{from}
-use Rattle.ranges.proofs.Loops.{length-from}
+use Rattle.ranges.proofs.Loops.{length-from, map-from}
 use Rattle.search.specs.Limit.{limit}
 use Rattle.search.proofs.Logarithm.{limit-least}
 use Rattle.panel.specs.Parties.{part}
@@ -109,7 +109,13 @@ pub lent : (w n : ℕ) (f : ℕ → List ℕ) (old xs : List ℕ) (j at k : ℕ)
 unfolding part
 lent w n f old xs j at k S h ea ek = ap₂ (λ (u v : ℕ). take u (drop v xs)) ek ea ∙ S .left j (omega arith) h
 
--- ---- a loop that writes element after element
+-- ---- a loop that reads and writes element after element
+
+-- an element that is there, whatever stands past the end
+pub getD-there : {A : Type 0} (xs : List A) (i : ℕ) (d e : A) → i < length xs → getD xs i d ≡ getD xs i e
+getD-there [] i d e h = absurd (omega arith)
+getD-there (x ∷ xs) zero d e h = refl
+getD-there (x ∷ xs) (suc i) d e h = getD-there xs i d e (omega arith)
 
 pub record Rowed {A : Type 0} (d : A) (n : ℕ) (f : ℕ → A) (old xs : List A) (j : ℕ) : Type 0 where
   pub long : length xs ≡ length old
@@ -138,17 +144,11 @@ unfolding part
 part-read w i at k xs ea ek = ap₂ (λ (u v : ℕ). take u (drop v xs)) ek ea
 
 -- all places of a list are written
-getD-from : (f : ℕ → ℕ) (a m i : ℕ) → i < m → getD (map f (from a m)) i 0 ≡ f (a + i)
-unfolding from
-getD-from f a zero i h = absurd (omega arith)
-getD-from f a (suc m) zero h = ap f (omega arith)
-getD-from f a (suc m) (suc i) h = getD-from f (suc a) m i (omega arith) ∙ ap f (omega arith)
-
 pub rowed-all : (n : ℕ) (f : ℕ → ℕ) (old xs : List ℕ) (j : ℕ) → Rowed 0 n f old xs j → length old ≡ n → n ≤ j → xs ≡ map f (from 0 n)
 rowed-all n f old xs j R l h =
     let long : length xs ≡ n = R .long ∙ l in
     ext-getD 0 xs (map f (from 0 n)) (long ∙ sym (length-map (from 0 n) f ∙ length-from 0 n))
-    (λ i m. R .done i (omega arith) ∙ sym (getD-from f 0 n i (omega arith) ∙ ap f (omega arith)))
+    (λ i m. R .done i (omega arith) ∙ sym (map-from f 0 n i (omega arith) ∙ ap f (omega arith)))
 
 pub limit-nine : (k : ℕ) → k ≤ 256 → limit k ≤ 9
 limit-nine k h = limit-least k 9 (omega arith)

@@ -23,13 +23,13 @@ unfoldable pub shares-of : (n k own : ℕ) (table coins : List ℕ) → List ℕ
 shares-of n k own table coins = split-left n own k table coins (replicate (2 * k) 0)
 
 -- the record and the totals of the party after i others, once it has added them
-unfoldable pub party-added : (n k : ℕ) (table coins : List ℕ) → List Party → List ℕ → ℕ → Party
-party-added n k table coins parties totals i =
-    add-reply (getD parties i blank) (part (2 * k) i totals) (shares-of n k (i + 1) table coins) .party
+unfoldable pub party-added : (n k bidder : ℕ) (table coins : List ℕ) → List Party → List ℕ → ℕ → Party
+party-added n k bidder table coins parties totals i =
+    add-reply (getD parties i blank) (part (2 * k) i totals) bidder (shares-of n k (i + 1) table coins) .party
 
-unfoldable pub totals-added : (n k : ℕ) (table coins : List ℕ) → List Party → List ℕ → ℕ → List ℕ
-totals-added n k table coins parties totals i =
-    add-left (getD parties i blank) (part (2 * k) i totals) (shares-of n k (i + 1) table coins)
+unfoldable pub totals-added : (n k bidder : ℕ) (table coins : List ℕ) → List Party → List ℕ → ℕ → List ℕ
+totals-added n k bidder table coins parties totals i =
+    add-left (getD parties i blank) (part (2 * k) i totals) bidder (shares-of n k (i + 1) table coins)
 
 -- ---- a sheet
 

@@ -22,19 +22,20 @@ fn add_one(
     n: u64,
     k: u64,
     own: u64,
+    bidder: u64,
     table: &[u64],
     coins: &[u64],
     q: Party,
     totals: &mut [u64],
 ) -> Party
     requires { ⌜ k ≤ 256 ⌝ }
-    ensures { λ r. ⌜ (r ≡ add-reply q (now (totals .entry)) (shares-of n k own (now (table .entry)) (now (coins .entry))) .party)
-        × (now (totals .exit) ≡ add-left q (now (totals .entry)) (shares-of n k own (now (table .entry)) (now (coins .entry)))) ⌝ }
+    ensures { λ r. ⌜ (r ≡ add-reply q (now (totals .entry)) bidder (shares-of n k own (now (table .entry)) (now (coins .entry))) .party)
+        × (now (totals .exit) ≡ add-left q (now (totals .entry)) bidder (shares-of n k own (now (table .entry)) (now (coins .entry)))) ⌝ }
 {
     let width = 2 * k as usize;
     let mut shares = zeros();
     split(n, own, k, table, coins, &mut shares[..width]);
-    let reply = add(q, totals, &shares[..width]);
+    let reply = add(q, totals, bidder, &shares[..width]);
     returned(reply)
 }
 
@@ -42,14 +43,15 @@ fn add_one(
 pub fn add_all(
     n: u64,
     k: u64,
+    bidder: u64,
     table: &[u64],
     coins: &[u64],
     parties: [Party; 9],
     totals: &mut [u64],
 ) -> [Party; 9]
     requires { ⌜ (n ≤ 9) × (k ≤ 256) × (length (now totals) ≡ n * (2 * k)) ⌝ }
-    ensures { λ r. ⌜ All n (λ i. (getD r i blank ≡ party-added n k (now (table .entry)) (now (coins .entry)) parties (now (totals .entry)) i)
-        × (part (2 * k) i (now (totals .exit)) ≡ totals-added n k (now (table .entry)) (now (coins .entry)) parties (now (totals .entry)) i)) ⌝ }
+    ensures { λ r. ⌜ All n (λ i. (getD r i blank ≡ party-added n k bidder (now (table .entry)) (now (coins .entry)) parties (now (totals .entry)) i)
+        × (part (2 * k) i (now (totals .exit)) ≡ totals-added n k bidder (now (table .entry)) (now (coins .entry)) parties (now (totals .entry)) i)) ⌝ }
 {
     let width = 2 * k as usize;
     let last = n as usize;
@@ -59,7 +61,16 @@ pub fn add_all(
     while i < last {
         let next = at + width;
         let q = parties[i];
-        after[i] = add_one(n, k, i as u64 + 1, table, coins, q, &mut totals[at..next]);
+        after[i] = add_one(
+            n,
+            k,
+            i as u64 + 1,
+            bidder,
+            table,
+            coins,
+            q,
+            &mut totals[at..next],
+        );
         at = next;
         i += 1;
     }

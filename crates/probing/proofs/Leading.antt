@@ -27,7 +27,7 @@ use Rattle.session.specs.Answer.{answer-judgement, answered, answer-reply}
 use Rattle.refusal.specs.Judging.{judged}
 use Rattle.refusal.specs.declared.Judgement.{Judgement}
 use Rattle.refusal.specs.declared.Judgement.the-variants.{Accepted}
-use Rattle.auction.specs.Auction.{Auction, IsAuction, demand, supply, clearing-answer}
+use Rattle.auction.specs.Auction.{Auction, Bid, IsAuction, demand, supply, clearing-answer}
 use Rattle.auction.specs.Coins.{Coins, InRange}
 use Rattle.auction.specs.Canonical.{Seat}
 use Rattle.auction.proofs.Closed.{fresh-stage, record-at, seat}
@@ -77,7 +77,7 @@ pub record Led (a : Auction) (c : Coins) (now : List Party) (totals sheets index
   pub noted : course-trail index marks done ++ trail (promise (demand a) (supply a)) (limit (a .k) - done) at
       ≡ trail (promise (demand a) (supply a)) (limit (a .k)) (start (a .k))
 
-module _ (n k : ℕ) (bids : List (List ℕ)) (c : Coins) where
+module _ (n k : ℕ) (bids : List Bid) (c : Coins) where
   abbrev a : Auction
   a = record { n = n; k = k; bids = bids }
 

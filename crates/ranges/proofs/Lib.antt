@@ -1,4 +1,6 @@
 -- Laws of lists and ranges that other crates cite.
 pub mod Loops
 pub mod Bends
+pub mod Counting
+pub mod Distinct
 pub mod Ranges

@@ -1,7 +1,7 @@
 -- Lists of numbers that a loop tests from the left or fills. Assumes nothing.
 use mathlib.Core.Path.{_≡_, refl, sym, ap, ap₂, _∙_}
 use mathlib.Core.Bool.{Bool, true, false, _&&_}
-use mathlib.Core.List.{List, [], _∷_, _++_}
+use mathlib.Core.List.{List, [], _∷_, _++_, map}
 use Prim.Native.Nat.{ℕ, zero, suc, _+_, _<_}
 use native.Mathlib.Nat.{add-zero}
 use native.Mathlib.Numerals.{add-one}
@@ -51,6 +51,13 @@ unfolding from
 getD-from a zero i h = absurd (omega arith)
 getD-from a (suc m) zero h = omega arith
 getD-from a (suc m) (suc i) h = getD-from (suc a) m i (omega arith) ∙ omega arith
+
+-- what is made of numbers in a row
+pub map-from : (f : ℕ → ℕ) (a m i : ℕ) → i < m → getD (map f (from a m)) i 0 ≡ f (a + i)
+unfolding from
+map-from f a zero i h = absurd (omega arith)
+map-from f a (suc m) zero h = ap f (omega arith)
+map-from f a (suc m) (suc i) h = map-from f (suc a) m i (omega arith) ∙ ap f (omega arith)
 
 -- every number of a list is tested from the left
 pub every-more : (test : ℕ → Bool) (xs : List ℕ) (i : ℕ) → i < length xs → test (getD xs i 0) ≡ true → every test (drop i xs) ≡ every test (drop (i + 1) xs)

@@ -1,7 +1,7 @@
 -- What each update leaves of a record, and when the record stays sound. What is above goes by these laws, so that a field more changes
 -- them and nothing else. Assumes nothing.
 use mathlib.Core.Path.{_≡_, refl, sym}
-use mathlib.Core.Bool.{false}
+use mathlib.Core.Bool.{true, false}
 use Prim.Native.Nat.{ℕ, _+_, _-_, _*_, _^_, _≤_, _<_}
 use native.Mathlib.Nat.{mul-le-mul-right}
 use native.Mathlib.Decide.{decLe}
@@ -12,7 +12,9 @@ use Rattle.search.specs.Limit.{limit}
 use Rattle.search.proofs.Logarithm.{limit-law}
 use Rattle.record.specs.declared.Party.{Party}
 use Rattle.record.specs.Record.{bracket, sound, blank}
-use Rattle.record.specs.Updates.{counted, in-round, decided, fresh}
+use Rattle.record.specs.Updates.{fresh, entered, in-round, decided}
+use Rattle.roll.specs.Marks.{marked}
+use Rattle.roll.proofs.Laws.{Free, marked-self, marked-other, marks-mark, proper-mark, proper-empty, marks-empty}
 use Rattle.ranges.proofs.Ranges.{OnList}
 use Rattle.record.proofs.Soundness.{Sound}
 
@@ -44,7 +46,6 @@ module _ (n own k : ℕ) where
   fresh-sound h =
       record {
         listed = h;
-        bids = omega arith;
         apart = omega arith;
         inside = omega arith;
         round-least = omega arith;
@@ -53,6 +54,8 @@ module _ (n own k : ℕ) where
         carry = omega arith;
         probes = omega arith;
         ended = λ e. rw (sym e) at (limit-law k);
+        roll = proper-empty;
+        bids = sym marks-empty;
       }
 
   pub narrow-fresh : Narrow (fresh n own k)
@@ -64,55 +67,66 @@ pub blank-unsound : sound blank ≡ false
 unfolding sound party
 blank-unsound = refl
 
--- ---- one bid more: the search stands where it did
+-- ---- one bid more: its bidder is in, and the search stands where it did
 
-module _ (q : Party) where
-  pub counted-same : Same q (counted q)
-  unfolding counted
-  counted-same = record { n = refl; own = refl; k = refl }
+module _ (q : Party) (bidder : ℕ) where
+  pub entered-same : Same q (entered q bidder)
+  unfolding entered
+  entered-same = record { n = refl; own = refl; k = refl }
 
-  pub counted-bracket : bracket (counted q) ≡ bracket q
-  unfolding counted
-  counted-bracket = refl
+  pub entered-bracket : bracket (entered q bidder) ≡ bracket q
+  unfolding entered
+  entered-bracket = refl
 
-  pub counted-probes : counted q .probes ≡ q .probes
-  unfolding counted
-  counted-probes = refl
+  pub entered-probes : entered q bidder .probes ≡ q .probes
+  unfolding entered
+  entered-probes = refl
 
-  pub counted-round : counted q .round ≡ q .round
-  unfolding counted
-  counted-round = refl
+  pub entered-round : entered q bidder .round ≡ q .round
+  unfolding entered
+  entered-round = refl
 
-  pub counted-sound : Sound q → q .bids < 1000 → Sound (counted q)
-  unfolding counted
-  counted-sound s room =
-      record {
-        listed = s .listed;
-        bids = omega (arith, room);
-        apart = s .apart;
-        inside = s .inside;
-        round-least = s .round-least;
-        round-most = s .round-most;
-        sum = s .sum;
-        carry = s .carry;
-        probes = s .probes;
-        ended = s .ended;
-      }
+  pub narrow-entered : Narrow q → Narrow (entered q bidder)
+  unfolding entered
+  narrow-entered h = h
 
-  pub narrow-counted : Narrow q → Narrow (counted q)
-  unfolding counted
-  narrow-counted h = h
+  module _ (s : Sound q) (free : Free (q .roll) bidder) where
+    pub bidder-marked : marked (entered q bidder .roll) bidder ≡ true
+    unfolding entered
+    bidder-marked = marked-self (q .roll) (s .roll) bidder free
 
--- ---- a round more: bids and the search stay
+    -- and no other mark changed
+    pub others-kept : (c : ℕ) → (c ≡ bidder → ⊥) → marked (entered q bidder .roll) c ≡ marked (q .roll) c
+    unfolding entered
+    others-kept = marked-other (q .roll) (s .roll) bidder free
+
+    pub entered-sound : Sound (entered q bidder)
+    unfolding entered
+    entered-sound =
+        record {
+          listed = s .listed;
+          apart = s .apart;
+          inside = s .inside;
+          round-least = s .round-least;
+          round-most = s .round-most;
+          sum = s .sum;
+          carry = s .carry;
+          probes = s .probes;
+          ended = s .ended;
+          roll = proper-mark (q .roll) (s .roll) bidder free;
+          bids = omega (arith, s .bids, marks-mark (q .roll) (s .roll) bidder free);
+        }
+
+-- ---- a round more: the roll and the search stay
 
 module _ (q : Party) (round sum carry : ℕ) where
   pub in-round-same : Same q (in-round q round sum carry)
   unfolding in-round
   in-round-same = record { n = refl; own = refl; k = refl }
 
-  pub in-round-bids : in-round q round sum carry .bids ≡ q .bids
+  pub in-round-roll : in-round q round sum carry .roll ≡ q .roll
   unfolding in-round
-  in-round-bids = refl
+  in-round-roll = refl
 
   pub in-round-bracket : bracket (in-round q round sum carry) ≡ bracket q
   unfolding in-round
@@ -127,7 +141,6 @@ module _ (q : Party) (round sum carry : ℕ) where
   in-round-sound s least most summed carried =
       record {
         listed = s .listed;
-        bids = s .bids;
         apart = s .apart;
         inside = s .inside;
         round-least = least;
@@ -136,6 +149,8 @@ module _ (q : Party) (round sum carry : ℕ) where
         carry = carried;
         probes = s .probes;
         ended = s .ended;
+        roll = s .roll;
+        bids = s .bids;
       }
 
   pub narrow-in-round : Narrow q → Narrow (in-round q round sum carry)
@@ -149,9 +164,9 @@ module _ (q : Party) (b : Bracket) where
   unfolding decided
   decided-same = record { n = refl; own = refl; k = refl }
 
-  pub decided-bids : decided q b .bids ≡ q .bids
+  pub decided-roll : decided q b .roll ≡ q .roll
   unfolding decided
-  decided-bids = refl
+  decided-roll = refl
 
   pub decided-bracket : bracket (decided q b) ≡ b
   unfolding decided
@@ -171,7 +186,6 @@ module _ (q : Party) (b : Bracket) where
   decided-sound s apart inside left narrow =
       record {
         listed = s .listed;
-        bids = s .bids;
         apart = apart;
         inside = inside;
         round-least = omega arith;
@@ -180,6 +194,8 @@ module _ (q : Party) (b : Bracket) where
         carry = omega arith;
         probes = omega (arith, left);
         ended = λ e. omega (arith, narrow-ended (q .probes + 1) _ (q .k) narrow e);
+        roll = s .roll;
+        bids = s .bids;
       }
 
   pub narrow-decided : (b .hi - b .lo - 1) * 2 ^ (q .probes + 1) ≤ q .k → Narrow (decided q b)

@@ -4,6 +4,7 @@ ghost use Rattle.record.specs.Record.{bracket, sound, blank};
 use ranges::on_list;
 use refusal::Judgement;
 use refusal::Refusal;
+use roll::Roll;
 use search::Bracket;
 use search::limit;
 
@@ -25,6 +26,8 @@ pub struct Party {
     pub sum: u64,
     // the share of the carry
     pub carry: u64,
+    // whose bids are held
+    pub roll: Roll,
 }
 
 // How a call was judged, and the record afterwards: as it was, where the call is refused.
@@ -40,14 +43,15 @@ pub fn bracket(q: Party) -> Bracket
     Bracket { lo: q.lo, hi: q.hi }
 }
 
-// Every field is in its range. k + 1 and hi - lo are computed only of a k and an order that allow it.
+// Every field is in its range, and as many bids are held as the roll has marks. k + 1 and hi - lo are computed only of a k and an order that allow it.
 pub fn sound(q: Party) -> bool
     ensures { λ r. ⌜ r ≡ sound q ⌝ }
 {
-    if !(on_list(q.n, q.own, q.k) & (q.bids <= 1000) & (q.lo < q.hi)) {
+    if !(on_list(q.n, q.own, q.k) & (q.lo < q.hi)) {
         return false;
     }
     let most = limit(q.k);
+    let roll = q.roll;
     (q.hi <= q.k + 1)
         & (1 <= q.round)
         & (q.round <= 33)
@@ -55,6 +59,8 @@ pub fn sound(q: Party) -> bool
         & (q.carry <= 255)
         & (q.probes <= most)
         & !((q.probes == most) & (1 < q.hi - q.lo))
+        & roll.proper()
+        & (q.bids == roll.marks())
 }
 
 // Where no session is opened: a record of zeros, which is not sound.
@@ -72,6 +78,7 @@ pub fn blank() -> Party
         round: 0,
         sum: 0,
         carry: 0,
+        roll: Roll::empty(),
     }
 }
 

@@ -1,22 +1,25 @@
--- A record in a lent slice: "n, own number, k, bids, lo, hi, probes done, round, T, carry share", a word each. Assumes nothing.
+-- A record in a lent slice: "n, own number, k, bids, lo, hi, probes done, round, T, carry share", a word each, and then "a roll of who is
+-- in", 16 words. Assumes nothing.
 use mathlib.Core.Bool.{not}
-use mathlib.Core.List.{List, [], _∷_}
+use mathlib.Core.List.{List, [], _∷_, map}
 use Prim.Native.Nat.{ℕ}
 use lib.ListN.{getD}
 use Rattle.refusal.specs.Refusal.{numberOf}
 use Rattle.refusal.specs.Judging.{_⇒_, judged, kept}
 use Rattle.refusal.specs.declared.Judgement.{Judgement}
 use Rattle.refusal.specs.declared.Refusal.the-variants.{WrongLength}
+use Rattle.ranges.specs.Lists.{from}
 use Rattle.ranges.specs.Sizes.{long}
 use Rattle.record.specs.declared.Party.{Party}
 use Rattle.record.specs.declared.Reply.{Reply}
 
 abbrev pub record-size : ℕ
-record-size = 10
+record-size = 26
 
 unfoldable pub words-of : Party → List ℕ
-words-of q = q .n ∷ q .own ∷ q .k ∷ q .bids ∷ q .lo ∷ q .hi ∷ q .probes ∷ q .round ∷ q .sum ∷ q .carry ∷ []
+words-of q = q .n ∷ q .own ∷ q .k ∷ q .bids ∷ q .lo ∷ q .hi ∷ q .probes ∷ q .round ∷ q .sum ∷ q .carry ∷ q .roll .words
 
+-- any words are read, and what is not there is 0
 unfoldable pub party-of : List ℕ → Party
 party-of words =
     record {
@@ -30,6 +33,7 @@ party-of words =
       round = getD words 7 0;
       sum = getD words 8 0;
       carry = getD words 9 0;
+      roll = record { words = map (λ i. getD words i 0) (from 10 16) };
     }
 
 -- a slice of any other length is no record

@@ -1,6 +1,8 @@
-// A party's record as the host holds it: ten words, in the order of the fields.
+// A party's record as the host holds it: 26 words, ten numbers in the order of the fields, then the
+// roll's 16.
 ghost use mathlib.Core.Path.{_≡_};
-ghost use lib.ListN.{length, getD};
+ghost use mathlib.Core.List.{_++_};
+ghost use lib.ListN.{length, take, drop, getD};
 ghost use Rattle.refusal.specs.Refusal.{codeOf};
 ghost use Rattle.ranges.specs.Sizes.{long};
 ghost use Rattle.record_words.specs.Words.{record-size, words-of, party-of, number-on, on-record, stored};
@@ -9,8 +11,9 @@ use record::Reply;
 use refusal::Judgement;
 use refusal::Refusal;
 use refusal::number;
+use roll::Roll;
 
-const WORDS: usize = 10;
+const WORDS: usize = 26;
 
 pub fn is_record(words: &[u64]) -> bool
     ensures { λ r. ⌜ r ≡ long record-size (now (words .entry)) ⌝ }
@@ -33,6 +36,7 @@ pub fn read(words: &[u64]) -> Party
         round: word(words, 7),
         sum: word(words, 8),
         carry: word(words, 9),
+        roll: read_roll(words),
     }
 }
 
@@ -40,6 +44,20 @@ fn word(words: &[u64], at: usize) -> u64
     ensures { λ r. ⌜ r ≡ getD (now (words .entry)) at 0 ⌝ }
 {
     if at < words.len() { words[at] } else { 0 }
+}
+
+// A mark that the words do not reach stays 0. The loop asks for their end, where `word` would ask for
+// each: so `read` is small enough to be inlined, and a call that knows the length copies nothing.
+fn read_roll(words: &[u64]) -> Roll
+    ensures { λ r. ⌜ r ≡ party-of (now (words .entry)) .roll ⌝ }
+{
+    let mut marks = [0; 16];
+    let mut i = 0;
+    while (i < 16) & (10 + i < words.len()) {
+        marks[i] = words[10 + i];
+        i += 1;
+    }
+    Roll { words: marks }
 }
 
 // The record that a call gives is written over the one it was lent, unless the call was refused.
@@ -65,6 +83,14 @@ fn write(q: Party, words: &mut [u64])
     requires { ⌜ length (now words) ≡ record-size ⌝ }
     ensures { λ _. ⌜ now (words .exit) ≡ words-of q ⌝ }
 {
+    write_numbers(q, words);
+    write_roll(q.roll, words);
+}
+
+fn write_numbers(q: Party, words: &mut [u64])
+    requires { ⌜ length (now words) ≡ record-size ⌝ }
+    ensures { λ _. ⌜ now (words .exit) ≡ take 10 (words-of q) ++ drop 10 (now (words .entry)) ⌝ }
+{
     words[0] = q.n;
     words[1] = q.own;
     words[2] = q.k;
@@ -75,4 +101,16 @@ fn write(q: Party, words: &mut [u64])
     words[7] = q.round;
     words[8] = q.sum;
     words[9] = q.carry;
+}
+
+fn write_roll(roll: Roll, words: &mut [u64])
+    requires { ⌜ length (now words) ≡ record-size ⌝ }
+    ensures { λ _. ⌜ now (words .exit) ≡ take 10 (now (words .entry)) ++ roll .words ⌝ }
+{
+    let marks = roll.words;
+    let mut i = 0;
+    while i < 16 {
+        words[10 + i] = marks[i];
+        i += 1;
+    }
 }

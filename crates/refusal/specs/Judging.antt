@@ -10,7 +10,8 @@ infix 30 _⇒_
 pub data Test : Type 0 where
   _⇒_ : Bool → Refusal → Test
 
--- "The lowest number that applies is given": the first fault of the list that is there
+-- The first fault of the list that is there. "The lowest number that applies is given", but where a request says when a number is
+-- judged, as 14 "just after 3", the list has it there.
 unfoldable pub judged : List Test → Judgement
 judged [] = Accepted
 judged ((fault ⇒ why) ∷ tests) = cond fault (Refused why) (judged tests)

@@ -1,7 +1,7 @@
 -- "The refusal list": each refusal's number, with the paper's word for it. Assumes nothing.
 use Prim.Native.Nat.{ℕ}
 use Rattle.refusal.specs.declared.Refusal.{Refusal}
-use Rattle.refusal.specs.declared.Refusal.the-variants.{OutOfRange, WrongLength, OutOfTurn, TooManyBids, CoinOutOfRange, AmountTooLarge, NotMonotone, ShareOutOfRange, OwnMessageDiffers, Inconsistent, SumOutOfRange, VerdictNotBit, Malformed}
+use Rattle.refusal.specs.declared.Refusal.the-variants.{OutOfRange, WrongLength, OutOfTurn, TooManyBids, CoinOutOfRange, AmountTooLarge, NotMonotone, ShareOutOfRange, OwnMessageDiffers, Inconsistent, SumOutOfRange, VerdictNotBit, Malformed, AlreadyEntered}
 use Rattle.refusal.specs.declared.Judgement.{Judgement}
 use Rattle.refusal.specs.declared.Judgement.the-variants.{Accepted, Refused}
 
@@ -12,7 +12,7 @@ numberOf OutOfRange = 1
 numberOf WrongLength = 2
 -- out of turn
 numberOf OutOfTurn = 3
--- full house
+-- full house: the rehearsal's alone, since a roll with 1,000 marks has every bidder
 numberOf TooManyBids = 4
 -- worn draw
 numberOf CoinOutOfRange = 5
@@ -30,8 +30,10 @@ numberOf Inconsistent = 10
 numberOf SumOutOfRange = 11
 -- split verdict
 numberOf VerdictNotBit = 12
--- torn file
+-- torn file: the rehearsal's alone
 numberOf Malformed = 13
+-- already in
+numberOf AlreadyEntered = 14
 
 -- 0 for a call that was accepted
 abbrev pub codeOf : Judgement → ℕ

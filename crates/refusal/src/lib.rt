@@ -17,6 +17,7 @@ pub enum Refusal {
     SumOutOfRange,
     VerdictNotBit,
     Malformed,
+    AlreadyEntered,
 }
 
 // What judging a call finds, and the reply of a call that only writes to what it is lent.
@@ -43,6 +44,7 @@ pub fn number(r: Refusal) -> u64
         Refusal::SumOutOfRange => 11,
         Refusal::VerdictNotBit => 12,
         Refusal::Malformed => 13,
+        Refusal::AlreadyEntered => 14,
     }
 }
 

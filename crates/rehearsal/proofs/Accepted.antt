@@ -12,7 +12,13 @@ use borrow.Author.Tests.{leb-true, leb-false, eqb-true, eqb-false}
 use Rattle.ranges.proofs.Loops.{and-left, and-right}
 use Rattle.search.specs.Limit.{limit}
 use Rattle.search.proofs.Clearing.{clearing-within}
-use Rattle.auction.specs.Auction.{Auction, GoodTable, IsAuction, demand, supply, clearing-answer}
+use Rattle.auction.specs.Auction.{Auction, bidders, GoodTable, IsAuction, demand, supply, clearing-answer}
+use Rattle.auction.proofs.Totals.{few-bids}
+use Rattle.comparison.specs.Probe.{Each}
+use Rattle.ranges.specs.Lists.{from}
+use Rattle.ranges.proofs.Distinct.{distinct-from}
+use Rattle.standing.specs.Numbered.{numbered}
+use Rattle.standing.proofs.Holding.{length-numbered, numbered-bidders}
 use Rattle.sections.specs.declared.table.Fault.{Fault}
 use Rattle.sections.specs.declared.table.Fault.the-variants.{None, At}
 use Rattle.plan.specs.declared.judging.Shape.{Shape}
@@ -147,21 +153,25 @@ good-table k line bytes e =
     apart : {f : Fault} {number at : ℕ} → f ≡ At number at → f ≡ None → _≡_ {A = ℕ} 0 1
     apart e g = cc
 
-good-auction : (n k m line : ℕ) (bytes : List ℕ) → 3 ≤ n → n ≤ 9 → 1 ≤ k → k ≤ 256 → m ≤ 1000 → bids-fault k m line bytes ≡ None
-    → IsAuction (record { n = n; k = k; bids = tables k m bytes })
-unfolding bids-fault tables
-good-auction n k zero line bytes a b c d f e =
-    record { n-least = a; n-most = b; k-least = c; k-most = omega arith; few = omega arith; tables = tt }
-good-auction n k (suc m) line bytes a b c d f e =
+-- and the bids have bidders of their own
+good-bids : (k m line b : ℕ) (bytes : List ℕ) → bids-fault k m line bytes ≡ None → Each (λ x. GoodTable k (x .table)) (numbered b (tables k m bytes))
+unfolding bids-fault tables numbered
+good-bids k zero line b bytes e = tt
+good-bids k (suc m) line b bytes e =
     let g = both-none (bid-fault k line bytes) (bids-fault k m (line + 2 * k) (past (2 * k) bytes)) e in
-    let h = good-auction n k m (line + 2 * k) (past (2 * k) bytes) a b c d (omega arith) (g .1) in
+    (good-table k line bytes (g .0), good-bids k m (line + 2 * k) (suc b) (past (2 * k) bytes) (g .1))
+
+good-auction : (n k m line : ℕ) (bytes : List ℕ) → 3 ≤ n → n ≤ 9 → 1 ≤ k → k ≤ 256 → m ≤ 1000 → bids-fault k m line bytes ≡ None
+    → IsAuction (auction-of n k m bytes)
+good-auction n k m line bytes a b c d f e =
+    let bs : bidders (auction-of n k m bytes) ≡ from 1 m = numbered-bidders 1 (tables k m bytes) ∙ ap (from 1) (length-tables k m bytes) in
     record {
       n-least = a;
       n-most = b;
       k-least = c;
       k-most = omega arith;
-      few = omega (arith, length-tables k m (past (2 * k) bytes));
-      tables = (good-table k line bytes (g .0), h .tables);
+      bidders = rw bs (distinct-from 1000 1 m (omega arith) (omega arith));
+      tables = good-bids k m line 1 bytes e;
     }
 
 -- ---- an accepted plan
@@ -230,13 +240,13 @@ good-runs bytes shape e =
     let p = j .0 in
     let A = accepted-plan bytes p (j .1) in
     let same : auction p ≡ auction-of (p .n) (p .k) (length (p .bids)) (past (p .n + p .k + 3) bytes) =
-    ap (λ (ts : List (List ℕ)). record { n = p .n; k = p .k; bids = ts }) (A .bids) in
+    ap (λ (ts : List (List ℕ)). record { n = p .n; k = p .k; bids = numbered 1 ts }) (A .bids) in
     let h : p .n * (2 * p .k) ≤ 9 * (2 * p .k) = mul-le-mul-right (2 * p .k) (A .an-auction .n-most) in
     let l : p .n * (127 * limit (p .k)) ≤ 9 * (127 * limit (p .k)) = mul-le-mul-right (127 * limit (p .k)) (A .an-auction .n-most) in
     subst (Runs bytes) (sym (j .2))
     (record {
       few-prices = A .few-prices;
-      few-bids = A .an-auction .few;
+      few-bids = omega (arith, few-bids (A .an-auction), length-numbered 1 (p .bids));
       an-auction = subst IsAuction same (A .an-auction);
       held = omega (arith, h, A .few-prices);
       lent = omega (arith, l, limit-nine (p .k) (A .few-prices));

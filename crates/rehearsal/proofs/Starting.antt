@@ -1,5 +1,5 @@
 -- From the start of the auction of an input to what is noted of it. Assumes nothing.
-use mathlib.Core.Path.{_≡_, sym, ap, ap₂, subst, _∙_}
+use mathlib.Core.Path.{_≡_, ap, ap₂, subst, _∙_}
 use mathlib.Core.List.{List}
 use Prim.Native.Nat.{ℕ, _+_, _*_}
 use lib.ListN.{length}
@@ -10,11 +10,13 @@ use Rattle.search.specs.Limit.{limit}
 use Rattle.record.specs.declared.Party.{Party}
 use Rattle.auction.specs.Auction.{Auction, IsAuction}
 use Rattle.auction.specs.Coins.{Coins, InRange}
-use Rattle.auction.proofs.Closed.{at-party, polynomials, fresh-stage, record-at, sheets-at, seat}
+use Rattle.auction.proofs.Closed.{at-party, polynomials, full-roll, fresh-stage, record-at, sheets-at, seat}
 use Rattle.auction.proofs.Bidding.{holding}
 use Rattle.draws.specs.Draws.{first-state, after-bids, all-sheets, auction-coins}
 use Rattle.sections.specs.Sections.{tables}
 use Rattle.panel.specs.Parties.{All, part}
+use Rattle.standing.specs.Numbered.{numbered}
+use Rattle.standing.proofs.Holding.{length-numbered}
 use Rattle.standing.proofs.Standing.{Stands, FromStart, Holds, auction-of}
 use Rattle.drawn_sheets.specs.Dealt.{sheets-of}
 use Rattle.listing.specs.declared.course.Course.{Course}
@@ -23,13 +25,13 @@ use Rattle.sections.proofs.Bids.{length-tables}
 use Rattle.draws.proofs.Drawn.{Word, coins-in-range-of}
 
 -- all bids are held and all sheets dealt: the search can start
-pub start-stands : (a : Auction) (c : Coins) (parties : List Party) (totals sheets : List ℕ) → Holds a (length (a .bids)) (polynomials a c) parties totals
+pub start-stands : (a : Auction) (c : Coins) (parties : List Party) (totals sheets : List ℕ) → Holds a (full-roll a) (polynomials a c) parties totals
     → All (a .n) (λ i. part (127 * limit (a .k)) i sheets ≡ sheets-of (i + 1) (c .sheets))
     → Stands a c (fresh-stage (start (a .k)) 0) parties totals sheets
 unfolding seat record-at sheets-at sheets-of holding start value
 start-stands a c parties totals sheets H D i h =
     ap₂ (λ (q : Party) (x : List ℕ). record { party = q; totals = x; sheets = part (127 * limit (a .k)) i sheets }) (H i h .0) (H i h .1)
-    ∙ ap (λ (x : List ℕ). record { party = holding (a .n) (a .k) (length (a .bids)) (i + 1); totals = at-party (i + 1) (polynomials a c); sheets = x }) (D i h)
+    ∙ ap (λ (x : List ℕ). record { party = holding (a .n) (a .k) (full-roll a) (i + 1); totals = at-party (i + 1) (polynomials a c); sheets = x }) (D i h)
 
 module _ (n k bids seed : ℕ) (bytes : List ℕ) where
   abbrev a : Auction
@@ -40,12 +42,12 @@ module _ (n k bids seed : ℕ) (bytes : List ℕ) where
 
   -- what `hold` notes
   pub held-follows : Word seed → (parties : List Party) (totals sheets : List ℕ) (state : ℕ) (r : Course) → IsAuction a
-      → Holds a bids (polynomials a coins) parties totals → state ≡ after-bids (threshold n) k bids (first-state seed)
+      → Holds a (full-roll a) (polynomials a coins) parties totals → state ≡ after-bids (threshold n) k bids (first-state seed)
       → All n (λ i. part (127 * limit k) i sheets ≡ sheets-of (i + 1) (all-sheets (threshold n) (limit k) state))
       → FromStart n k parties totals sheets (λ a. Follows a r) → Follows a r
   unfolding auction-coins
   held-follows w parties totals sheets state r A H e D S =
-      let l : length (tables k bids bytes) ≡ bids = length-tables k bids bytes in
-      S (tables k bids bytes) coins A (subst (λ (m : ℕ). InRange a (auction-coins n k m seed)) l (coins-in-range-of a seed w))
-      (start-stands a coins parties totals sheets (subst (λ (m : ℕ). Holds a m (polynomials a coins) parties totals) (sym l) H)
+      let l : length (a .bids) ≡ bids = length-numbered 1 (tables k bids bytes) ∙ length-tables k bids bytes in
+      S (numbered 1 (tables k bids bytes)) coins A (subst (λ (m : ℕ). InRange a (auction-coins n k m seed)) l (coins-in-range-of a seed w))
+      (start-stands a coins parties totals sheets H
       (λ i h. D i h ∙ ap (λ (x : ℕ). sheets-of (i + 1) (all-sheets (threshold n) (limit k) x)) e))

@@ -6,13 +6,14 @@ use Rattle.search.specs.Bracket.{start}
 use Rattle.search.specs.Limit.{limit}
 use Rattle.search.specs.Search.{promise, trail}
 use Rattle.auction.specs.Auction.{Auction, demand, supply, clearing-answer}
+use Rattle.standing.specs.Numbered.{numbered}
 use Rattle.lines.specs.Lines.{lines}
 use Rattle.plan.specs.Plan.{Plan, Reading, faulty, accepted, read}
 use Rattle.listing.specs.Lines.{refused-line, search-lines}
 
 -- the auction of a plan, which no seed changes
 abbrev pub auction : Plan → Auction
-auction p = record { n = p .n; k = p .k; bids = p .bids }
+auction p = record { n = p .n; k = p .k; bids = numbered 1 (p .bids) }
 
 -- the probes of the search on the plan's totals, each probed index with its verdict
 abbrev pub plan-trail : Plan → List (ℕ × ℕ)

@@ -2,14 +2,15 @@
 use mathlib.Core.Path.{_≡_, refl}
 use mathlib.Core.Bool.{Bool, true, false, _||_}
 use mathlib.Core.List.{List}
-use Prim.Native.Nat.{ℕ, _*_, _<_}
+use Prim.Native.Nat.{ℕ, _*_}
 use native.Mathlib.Omega.{arith}
 use lib.ListN.{length}
-use borrow.Author.Tests.{ltb-false, leb-false, eqb-true, not-false, le-ltb, lt-leb, eq-eqb}
+use borrow.Author.Tests.{ltb-false, leb-true, eqb-true, not-false, le-ltb, le-leb, eq-eqb}
 use Rattle.fields.specs.Amount.{p}
 use Rattle.ranges.specs.Below.{AllBelow}
 use Rattle.refusal.specs.Judging.{judged}
 use Rattle.refusal.specs.declared.Judgement.the-variants.{Accepted}
+use Rattle.roll.proofs.Laws.{Free}
 use Rattle.record.specs.declared.Party.{Party}
 use Rattle.record.specs.Record.{sound}
 use Rattle.session.specs.Open.{open-judgement}
@@ -39,14 +40,14 @@ module _ (n own k : ℕ) (totals : List ℕ) where
 
 -- ---- adding
 
-pub record Adds (q : Party) (totals shares : List ℕ) : Type 0 where
+pub record Adds (q : Party) (totals : List ℕ) (number : ℕ) (shares : List ℕ) : Type 0 where
   pub sound : Sound q
+  pub free : Free (q .roll) number
   pub totals-long : length totals ≡ 2 * q .k
   pub shares-long : length shares ≡ 2 * q .k
   -- before the first heard round
   pub no-probes : q .probes ≡ 0
   pub first-round : q .round ≡ 1
-  pub room : q .bids < 1000
   pub totals-below : AllBelow p totals
   pub shares-below : AllBelow p shares
 
@@ -54,40 +55,44 @@ or-false : (a b : Bool) → a || b ≡ false → (a ≡ false) × (b ≡ false)
 or-false true b e = (e, cc)
 or-false false b e = (refl, e)
 
-module _ (q : Party) (totals shares : List ℕ) where
-  pub adds : add-judgement q totals shares ≡ Accepted → Adds q totals shares
+module _ (q : Party) (totals : List ℕ) (number : ℕ) (shares : List ℕ) where
+  pub adds : add-judgement q totals number shares ≡ Accepted → Adds q totals number shares
   unfolding add-judgement
   adds e =
       let whole = passed _ _ _ e in
       let size = passed _ _ _ (whole .1) in
       let turn = passed _ _ _ (size .1) in
-      let many = passed _ _ _ (turn .1) in
-      let field = passed _ _ _ (many .1) in
-      let s = sound-facts q (not-false _ (whole .0)) in
+      let entry = passed _ _ _ (turn .1) in
+      let field = passed _ _ _ (entry .1) in
+      let w = and-true _ _ (not-false _ (whole .0)) in
+      let s = sound-facts q (w .0) in
+      let b = and-true _ _ (w .1) in
       let l = and-true _ _ (not-false _ (size .0)) in
       let t = or-false _ _ (turn .0) in
       let f = and-true _ _ (not-false _ (field .0)) in
       record {
         sound = s;
+        free = record { least = leb-true _ _ (b .0); most = leb-true _ _ (b .1); new = entry .0 };
         totals-long = eqb-true _ _ (l .0);
         shares-long = eqb-true _ _ (l .1);
         no-probes = omega (arith, ltb-false 0 (q .probes) (t .0));
         first-round = omega (arith, ltb-false 1 (q .round) (t .1), s .round-least);
-        room = leb-false 1000 (q .bids) (many .0);
         totals-below = all-below p totals (f .0);
         shares-below = all-below p shares (f .1);
       }
 
-  pub add-accepted : Adds q totals shares → add-judgement q totals shares ≡ Accepted
+  pub add-accepted : Adds q totals number shares → add-judgement q totals number shares ≡ Accepted
   unfolding add-judgement judged
   add-accepted h =
       rw (
         sound-of q (h .sound),
+        le-leb 1 number (h .free .least),
+        le-leb number 1000 (h .free .most),
         eq-eqb (length totals) (2 * q .k) (h .totals-long),
         eq-eqb (length shares) (2 * q .k) (h .shares-long),
         le-ltb 0 (q .probes) (omega (arith, h .no-probes)),
         le-ltb 1 (q .round) (omega (arith, h .first-round)),
-        lt-leb 1000 (q .bids) (h .room),
+        h .free .new,
         is-below p totals (h .totals-below),
         is-below p shares (h .shares-below),
       )

@@ -1,19 +1,20 @@
--- "Adding a bundle adds it to the book modulo p, word by word." Assumes nothing.
+-- "Adding a bundle adds it to the book modulo p, word by word." "Each bid shall carry a bidder number". Assumes nothing.
 use mathlib.Core.Bool.{Bool, not, _&&_, _||_}
 use mathlib.Core.List.{List, [], _∷_}
 use Prim.Native.Nat.{ℕ, _*_}
-use lib.Dec.{leb, ltb}
+use lib.Dec.{ltb}
 use Rattle.fields.specs.Amount.{p, amounts}
 use Rattle.refusal.specs.Judging.{_⇒_, judged, kept}
 use Rattle.refusal.specs.declared.Judgement.{Judgement}
-use Rattle.refusal.specs.declared.Refusal.the-variants.{OutOfRange, WrongLength, OutOfTurn, TooManyBids, ShareOutOfRange}
+use Rattle.refusal.specs.declared.Refusal.the-variants.{OutOfRange, WrongLength, OutOfTurn, AlreadyEntered, ShareOutOfRange}
 use Rattle.ranges.specs.Lists.{every}
 use Rattle.sharing.specs.Linear.{sums}
 use Rattle.ranges.specs.Sizes.{long}
+use Rattle.roll.specs.Marks.{bidder, marked}
 use Rattle.record.specs.declared.Party.{Party}
 use Rattle.record.specs.declared.Reply.{Reply}
 use Rattle.record.specs.Record.{sound, replied}
-use Rattle.record.specs.Updates.{counted}
+use Rattle.record.specs.Updates.{entered}
 
 -- "after the first heard round (probes done above 0 or round above 1)"
 abbrev pub begun : Party → Bool
@@ -22,18 +23,19 @@ begun q = ltb 0 (q .probes) || ltb 1 (q .round)
 abbrev pub amounts-below : List ℕ → Bool
 amounts-below words = every (λ w. ltb w p) words
 
-unfoldable pub add-judgement : (q : Party) (totals shares : List ℕ) → Judgement
-add-judgement q totals shares =
+-- "A bidder number outside 1 to 1,000 is 1"; "14 Already in, when the number is marked, judged just after 3"
+unfoldable pub add-judgement : (q : Party) (totals : List ℕ) (number : ℕ) (shares : List ℕ) → Judgement
+add-judgement q totals number shares =
     judged
-    ((not (sound q) ⇒ OutOfRange)
+    ((not (sound q && bidder number) ⇒ OutOfRange)
     ∷ (not (long (2 * q .k) totals && long (2 * q .k) shares) ⇒ WrongLength)
     ∷ (begun q ⇒ OutOfTurn)
-    ∷ (leb 1000 (q .bids) ⇒ TooManyBids)
+    ∷ (marked (q .roll) number ⇒ AlreadyEntered)
     ∷ (not (amounts-below totals && amounts-below shares) ⇒ ShareOutOfRange)
     ∷ [])
 
-abbrev pub add-reply : (q : Party) (totals shares : List ℕ) → Reply
-add-reply q totals shares = replied (add-judgement q totals shares) (counted q) q
+abbrev pub add-reply : (q : Party) (totals : List ℕ) (number : ℕ) (shares : List ℕ) → Reply
+add-reply q totals number shares = replied (add-judgement q totals number shares) (entered q number) q
 
-abbrev pub add-left : (q : Party) (totals shares : List ℕ) → List ℕ
-add-left q totals shares = kept (add-judgement q totals shares) (sums amounts totals shares) totals
+abbrev pub add-left : (q : Party) (totals : List ℕ) (number : ℕ) (shares : List ℕ) → List ℕ
+add-left q totals number shares = kept (add-judgement q totals number shares) (sums amounts totals shares) totals

@@ -9,6 +9,7 @@ use record::accepted;
 use record::blank;
 use record::refused;
 use refusal::Refusal;
+use roll::Roll;
 
 // Zeroes the totals and gives the record that the session starts with.
 pub fn open(n: u64, own: u64, k: u64, totals: &mut [u64]) -> Reply
@@ -34,6 +35,7 @@ pub fn open(n: u64, own: u64, k: u64, totals: &mut [u64]) -> Reply
         round: 1,
         sum: 0,
         carry: 0,
+        roll: Roll::empty(),
     })
 }
 

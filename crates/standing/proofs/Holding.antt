@@ -1,28 +1,36 @@
 -- Opening the sessions and adding a bid, for all parties: the records and totals of an auction's run. Assumes nothing.
 use mathlib.Core.Path.{_≡_, refl, sym, ap, ap₂, _∙_}
-use mathlib.Core.List.{List, _∷_, zip, zipWith}
-use Prim.Native.Nat.{ℕ, suc, _+_, _-_, _*_, _^_, _≤_, _<_}
+use mathlib.Core.List.{List, [], _∷_, map, zip, zipWith}
+use Prim.Native.Nat.{ℕ, suc, _+_, _-_, _*_, _^_, _<_}
 use native.Mathlib.Nat.{sub-zero}
+use native.Mathlib.Numerals.{add-one}
 use native.Mathlib.Omega.{arith}
-use lib.ListN.{length, drop, getD, replicate}
+use lib.ListN.{length, drop, getD, replicate, length-map}
 use lib.Seq.{drop-drop}
-use Rattle.fields.specs.Amount.{p}
+use Rattle.ranges.specs.Lists.{from}
+use Rattle.ranges.proofs.Loops.{length-from}
 use Rattle.sharing.specs.Scheme.{threshold}
 use Rattle.comparison.specs.Probe.{Each}
 use Rattle.record.specs.declared.Party.{Party}
 use Rattle.session.specs.Add.{add-reply, add-left}
-use Rattle.auction.specs.Auction.{Auction, GoodTable, IsAuction}
-use Rattle.auction.specs.Coins.{Coins, flat}
+use Rattle.roll.specs.declared.Roll.{Roll}
+use Rattle.roll.specs.Marks.{empty, mark}
+use Rattle.roll.proofs.Laws.{Proper, Free}
+use Rattle.auction.specs.Auction.{Auction, Bid, IsAuction}
+use Rattle.auction.specs.Coins.{Coins, DrawnBid, flat}
 use Rattle.auction.specs.Canonical.{Seat, shares-for, after-adding}
-use Rattle.auction.proofs.Closed.{entries, added-polynomials, totals-after, at-party, no-totals, polynomials}
+use Rattle.auction.proofs.Closed.{entries, added-polynomials, totals-after, at-party, no-totals, polynomials, full-roll}
 use Rattle.auction.proofs.Judging.{kept-new, replied-next}
-use Rattle.auction.proofs.Totals.{GoodBid, Held, entries-held, added-held, no-totals-held}
-use Rattle.auction.proofs.Bidding.{opening-accepted, holding, holding-seat, at-party-zeros, added-holding}
+use Rattle.auction.proofs.Totals.{GoodBid, bids-good, Held, entries-held, added-held, no-totals-held}
+use Rattle.auction.proofs.Bidding.{opening-accepted, holding, fresh-holding, holding-seat, at-party-zeros, added-holding}
+use Rattle.auction.proofs.Setup.{Entering, entering-more, all-entered, entering-all}
 use Rattle.draws.specs.Draws.{first-state, next-coin, later, drawn-coins, groups, bid-coins, after-bids, auction-coins}
 use Rattle.lines.specs.Lines.{numbers, bytes-of, past}
 use Rattle.sections.specs.Sections.{tables}
+use Rattle.standing.specs.Numbered.{numbered}
 use Rattle.standing.proofs.Standing.{auction-of, Holds, Adds}
-use Rattle.draws.proofs.Drawn.{Word, groups-length, groups-flat, groups-below, next-coin-below, coin-below}
+use Rattle.sections.proofs.Bids.{length-tables}
+use Rattle.draws.proofs.Drawn.{Word, groups-flat, bid-coins-length, bid-coins-in-range}
 use Rattle.record.specs.Record.{blank}
 use Rattle.record.specs.Updates.{fresh}
 use Rattle.session.specs.Open.{open-reply, open-left}
@@ -35,118 +43,144 @@ module _ {a : Auction} (A : IsAuction a) where
       → All (a .n)
       (λ i. (getD parties i blank ≡ open-reply (a .n) (i + 1) (a .k) (part (2 * a .k) i old) .party)
       × (part (2 * a .k) i totals ≡ open-left (a .n) (i + 1) (a .k) (part (2 * a .k) i old)))
-      → Holds a 0 (no-totals a) parties totals
-  unfolding fresh holding
+      → Holds a empty (no-totals a) parties totals
   opened-holds old totals parties l e i h =
       let ok = opening-accepted A (i + 1) (omega arith) (omega arith) (part (2 * a .k) i old) (part-length (2 * a .k) (a .n) i old l h) in (
-        e i h .0 ∙ replied-next _ ok (fresh (a .n) (i + 1) (a .k)) blank,
+        e i h .0 ∙ replied-next _ ok (fresh (a .n) (i + 1) (a .k)) blank ∙ fresh-holding (a .n) (a .k) (i + 1),
         e i h .1 ∙ kept-new _ ok (replicate (2 * a .k) 0) (part (2 * a .k) i old) ∙ sym (at-party-zeros (threshold (a .n)) (i + 1) (2 * a .k)),
       )
 
   -- what `add_all` leaves
-  pub added-holds : (c : Coins) (b : List ℕ × List (List ℕ)) → GoodBid (a .k) (threshold (a .n)) b → (m : ℕ) (fs : List (List ℕ))
-      → Held (a .k) (threshold (a .n)) fs → m < 1000 → (parties after : List Party) (totals new : List ℕ) → Holds a m fs parties totals
+  pub added-holds : (c : Coins) (b : DrawnBid) → GoodBid (a .k) (threshold (a .n)) b → (roll : Roll) (fs : List (List ℕ))
+      → Held (a .k) (threshold (a .n)) fs → Proper roll → Free roll (b .0 .bidder)
+      → (parties after : List Party) (totals new : List ℕ) → Holds a roll fs parties totals
       → All (a .n)
-      (λ i. (getD after i blank ≡ party-added (a .n) (a .k) (b .0) (flat (b .1)) parties totals i)
-      × (part (2 * a .k) i new ≡ totals-added (a .n) (a .k) (b .0) (flat (b .1)) parties totals i))
-      → Holds a (m + 1) (added-polynomials fs (entries (b .0) (b .1))) after new
+      (λ i. (getD after i blank ≡ party-added (a .n) (a .k) (b .0 .bidder) (b .0 .table) (flat (b .1)) parties totals i)
+      × (part (2 * a .k) i new ≡ totals-added (a .n) (a .k) (b .0 .bidder) (b .0 .table) (flat (b .1)) parties totals i))
+      → Holds a (mark roll (b .0 .bidder)) (added-polynomials fs (entries (b .0 .table) (b .1))) after new
   unfolding party-added totals-added shares-of after-adding shares-for holding-seat holding
-  added-holds c b B m fs F hm parties after totals new H e i h =
-      let w : List ℕ = shares-of (a .n) (a .k) (i + 1) (b .0) (flat (b .1)) in
-      let s = added-holding c A (i + 1) (omega arith) (omega arith) b B m fs F hm in (
-        e i h .0 ∙ ap₂ (λ (q : Party) (x : List ℕ). add-reply q x w .party) (H i h .0) (H i h .1) ∙ ap (λ (s : Seat). s .party) s,
-        e i h .1 ∙ ap₂ (λ (q : Party) (x : List ℕ). add-left q x w) (H i h .0) (H i h .1) ∙ ap (λ (s : Seat). s .totals) s,
+  added-holds c b B roll fs F P free parties after totals new H e i h =
+      let w : List ℕ = shares-of (a .n) (a .k) (i + 1) (b .0 .table) (flat (b .1)) in
+      let s = added-holding c A (i + 1) (omega arith) (omega arith) b B roll fs F P free in (
+        e i h .0 ∙ ap₂ (λ (q : Party) (x : List ℕ). add-reply q x (b .0 .bidder) w .party) (H i h .0) (H i h .1) ∙ ap (λ (s : Seat). s .party) s,
+        e i h .1 ∙ ap₂ (λ (q : Party) (x : List ℕ). add-left q x (b .0 .bidder) w) (H i h .0) (H i h .1) ∙ ap (λ (s : Seat). s .totals) s,
       )
 
 -- ---- bid after bid
 
--- a table with the coins that are drawn for it
-pub drawn-bid : (k t : ℕ) (table : List ℕ) (x : ℕ) → GoodTable k table → Word x → GoodBid k t (table, groups next-coin (2 ^ 61) t (2 * k) x)
-drawn-bid k t table x G h =
-    record {
-      table = G;
-      many = groups-length next-coin (2 ^ 61) t (2 * k) x;
-      groups = groups-below next-coin (2 ^ 61) Word p next-coin-below coin-below t (2 * k) x h;
-    }
+-- a bid with the coins that are drawn for it
+abbrev drawn : (k t x : ℕ) → Bid → DrawnBid
+drawn k t x b = (b, groups next-coin (2 ^ 61) t (2 * k) x)
 
 -- as the program draws them
-pub drawn-flat : (k t x : ℕ) → flat (groups next-coin (2 ^ 61) t (2 * k) x) ≡ drawn-coins (2 * k * t) x
+drawn-flat : (k t x : ℕ) → flat (groups next-coin (2 ^ 61) t (2 * k) x) ≡ drawn-coins (2 * k * t) x
 drawn-flat k t x = groups-flat next-coin (2 ^ 61) t (2 * k) x
-
--- the first bid, and those after it
-pub one-bid : (k t m x : ℕ) (table : List ℕ) (tables fs : List (List ℕ))
-    → totals-after (zip (table ∷ tables) (bid-coins t k (suc m) x)) fs
-    ≡ totals-after (zip tables (bid-coins t k m (later next-coin (2 * k * t) x)))
-    (added-polynomials fs (entries table (groups next-coin (2 ^ 61) t (2 * k) x)))
-unfolding zip zipWith bid-coins totals-after
-one-bid k t m x table tables fs = refl
 
 -- ---- the bids of an input
 
+-- their bidders, and their number
+pub numbered-bidders : (b : ℕ) (tables : List (List ℕ)) → map (λ x. x .bidder) (numbered b tables) ≡ from b (length tables)
+unfolding numbered from
+numbered-bidders b [] = refl
+numbered-bidders b (t ∷ tables) = ap (λ (bs : List ℕ). b ∷ bs) (numbered-bidders (suc b) tables)
+
+pub length-numbered : (b : ℕ) (tables : List (List ℕ)) → length (numbered b tables) ≡ length tables
+length-numbered b tables =
+    sym (length-map (numbered b tables) (λ x. x .bidder)) ∙ ap length (numbered-bidders b tables) ∙ length-from b (length tables)
+
+-- m of them from `at`, whose bidders are b and those after it, with coins drawn from `last` on
+unfoldable pub still : (k t m b : ℕ) (input : List ℕ) (at last : ℕ) → List DrawnBid
+still k t m b input at last = zip (numbered b (tables k m (drop at input))) (bid-coins t k m last)
+
+-- the first of them, and the others
+still-more : (k t m b : ℕ) (input : List ℕ) (at last new-at new-last : ℕ) → new-at ≡ at + bytes-of (2 * k) (drop at input)
+    → new-last ≡ later next-coin (2 * k * t) last
+    → still k t (suc m) b input at last
+    ≡ drawn k t last (record { bidder = b; table = numbers (2 * k) (drop at input) }) ∷ still k t m (suc b) input new-at new-last
+unfolding still tables numbered bid-coins zip zipWith
+still-more k t m b input at last new-at new-last ea el =
+    let first : DrawnBid = drawn k t last (record { bidder = b; table = numbers (2 * k) (drop at input) }) in
+    let d : past (2 * k) (drop at input) ≡ drop new-at input = drop-drop (bytes-of (2 * k) (drop at input)) at input ∙ ap (λ (z : ℕ). drop z input) (sym ea) in
+    ap₂ (λ (x : List ℕ) (y : ℕ). first ∷ zip (numbered (suc b) (tables k m x)) (bid-coins t k m y)) d (sym el)
+
 -- i of them are added, and the others are still to be read from `at` and drawn from `last` on
 pub record Bidding (a : Auction) (bids : ℕ) (input : List ℕ) (whole : List (List ℕ)) (parties : List Party) (totals : List ℕ) (at last i : ℕ) : Type 0 where
+  pub roll : Roll
   pub behind : List (List ℕ)
   pub held : Held (a .k) (threshold (a .n)) behind
-  pub holds : Holds a i behind parties totals
-  pub good : Each (GoodTable (a .k)) (tables (a .k) (bids - i) (drop at input))
-  pub rest : totals-after (zip (tables (a .k) (bids - i) (drop at input)) (bid-coins (threshold (a .n)) (a .k) (bids - i) last)) behind ≡ whole
+  pub holds : Holds a roll behind parties totals
+  pub entering : Entering a roll (still (a .k) (threshold (a .n)) (bids - i) (i + 1) input at last)
+  pub good : Each (GoodBid (a .k) (threshold (a .n))) (still (a .k) (threshold (a .n)) (bids - i) (i + 1) input at last)
+  pub rest : totals-after (still (a .k) (threshold (a .n)) (bids - i) (i + 1) input at last) behind ≡ whole
 
 module _ {a : Auction} (A : IsAuction a) (c : Coins) (bids : ℕ) (input : List ℕ) (whole : List (List ℕ)) where
   pub bidding-more : (parties new-parties : List Party) (totals new-totals : List ℕ) (at last i : ℕ) → Bidding a bids input whole parties totals at last i
-      → i < bids → bids ≤ 1000 → Word last → (new-at new-last : ℕ) → new-at ≡ at + bytes-of (2 * a .k) (drop at input)
+      → i < bids → (new-at new-last : ℕ) → new-at ≡ at + bytes-of (2 * a .k) (drop at input)
       → new-last ≡ later next-coin (2 * a .k * threshold (a .n)) last
       → All (a .n)
       (λ j. (getD new-parties j blank
-      ≡ party-added (a .n) (a .k) (numbers (2 * a .k) (drop at input)) (drawn-coins (2 * a .k * threshold (a .n)) last) parties totals j)
+      ≡ party-added (a .n) (a .k) (i + 1) (numbers (2 * a .k) (drop at input)) (drawn-coins (2 * a .k * threshold (a .n)) last) parties totals j)
       × (part (2 * a .k) j new-totals
-      ≡ totals-added (a .n) (a .k) (numbers (2 * a .k) (drop at input)) (drawn-coins (2 * a .k * threshold (a .n)) last) parties totals j))
+      ≡ totals-added (a .n) (a .k) (i + 1) (numbers (2 * a .k) (drop at input)) (drawn-coins (2 * a .k * threshold (a .n)) last) parties totals j))
       → Bidding a bids input whole new-parties new-totals new-at new-last (i + 1)
-  unfolding tables
-  bidding-more parties new-parties totals new-totals at last i B h few w new-at new-last ea el added =
+  unfolding totals-after
+  bidding-more parties new-parties totals new-totals at last i B h new-at new-last ea el added =
       let k = a .k in
       let t = threshold (a .n) in
-      let table : List ℕ = numbers (2 * k) (drop at input) in
-      let gs : List (List ℕ) = groups next-coin (2 ^ 61) t (2 * k) last in
-      let n : bids - i ≡ suc (bids - (i + 1)) = omega arith in
-      let d : past (2 * k) (drop at input) ≡ drop new-at input = drop-drop (bytes-of (2 * k) (drop at input)) at input ∙ ap (λ (z : ℕ). drop z input) (sym ea) in
-      let G : Each (GoodTable k) (table ∷ tables k (bids - (i + 1)) (past (2 * k) (drop at input))) = rw n at (B .good) in
-      let b : GoodBid k t (table, gs) = drawn-bid k t table last (G .0) w in
+      let b : DrawnBid = drawn k t last (record { bidder = i + 1; table = numbers (2 * k) (drop at input) }) in
+      let others : List DrawnBid = still k t (bids - (i + 1)) (i + 1 + 1) input new-at new-last in
+      let m : bids - i ≡ suc (bids - (i + 1)) = omega arith in
+      let e : still k t (bids - i) (i + 1) input at last ≡ b ∷ others =
+      ap (λ (z : ℕ). still k t z (i + 1) input at last) m
+      ∙ still-more k t (bids - (i + 1)) (i + 1) input at last new-at new-last ea el
+      ∙ ap (λ (z : ℕ). b ∷ still k t (bids - (i + 1)) z input new-at new-last) (sym (add-one (i + 1))) in
+      let I : Entering a (B .roll) (b ∷ others) = rw e at (B .entering) in
+      let G : Each (GoodBid k t) (b ∷ others) = rw e at (B .good) in
+      let R : totals-after (b ∷ others) (B .behind) ≡ whole = rw e at (B .rest) in
       record {
-        behind = added-polynomials (B .behind) (entries table gs);
-        held = added-held k t (B .behind) (entries table gs) (B .held) (entries-held k t (table, gs) b);
+        roll = mark (B .roll) (i + 1);
+        behind = added-polynomials (B .behind) (entries (b .0 .table) (b .1));
+        held = added-held k t (B .behind) (entries (b .0 .table) (b .1)) (B .held) (entries-held k t b (G .0));
         holds =
-            added-holds A c (table, gs) b i (B .behind) (B .held) (omega arith) parties new-parties totals new-totals (B .holds)
+            added-holds A c b (G .0) (B .roll) (B .behind) (B .held) (I .proper) (I .enters .0) parties new-parties totals new-totals (B .holds)
             (rw (drawn-flat k t last) added);
-        good = rw d at (G .1);
-        rest =
-            rw (sym d, el)
-            (sym (one-bid k t (bids - (i + 1)) last table (tables k (bids - (i + 1)) (past (2 * k) (drop at input))) (B .behind))
-            ∙ ap (λ (z : ℕ). totals-after (zip (tables k z (drop at input)) (bid-coins t k z last)) (B .behind)) (sym n)
-            ∙ B .rest);
+        entering = entering-more a (B .roll) b others I;
+        good = G .1;
+        rest = R;
       }
 
   -- all are added
   pub bidding-end : (parties : List Party) (totals : List ℕ) (at last i : ℕ) → Bidding a bids input whole parties totals at last i → i ≡ bids
-      → Holds a bids whole parties totals
-  unfolding tables bid-coins zip zipWith totals-after
+      → Holds a (full-roll a) whole parties totals
+  unfolding still tables numbered bid-coins zip zipWith totals-after
   bidding-end parties totals at last i B e j h =
       let z : bids - i ≡ 0 = omega arith in
-      let r : B .behind ≡ whole =
-      ap (λ (m : ℕ). totals-after (zip (tables (a .k) m (drop at input)) (bid-coins (threshold (a .n)) (a .k) m last)) (B .behind)) (sym z) ∙ B .rest in
-      (B .holds j h .0 ∙ ap (λ (m : ℕ). holding (a .n) (a .k) m (j + 1)) e, B .holds j h .1 ∙ ap (at-party (j + 1)) r)
+      let none : still (a .k) (threshold (a .n)) (bids - i) (i + 1) input at last ≡ [] =
+      ap (λ (m : ℕ). still (a .k) (threshold (a .n)) m (i + 1) input at last) z in
+      let full : B .roll ≡ full-roll a = all-entered a (B .roll) (rw none at (B .entering)) in
+      let r : B .behind ≡ whole = rw none at (B .rest) in
+      (B .holds j h .0 ∙ ap (λ (x : Roll). holding (a .n) (a .k) x (j + 1)) full, B .holds j h .1 ∙ ap (at-party (j + 1)) r)
 
--- blank is
-pub bidding-start : (n k bids : ℕ) (input : List ℕ) (at state : ℕ) (parties : List Party) (totals : List ℕ) → IsAuction (auction-of n k bids (drop at input))
-    → Holds (auction-of n k bids (drop at input)) 0 (no-totals (auction-of n k bids (drop at input))) parties totals
+-- none is
+pub bidding-start : (n k bids : ℕ) (input : List ℕ) (at state : ℕ) → Word state → (parties : List Party) (totals : List ℕ) → IsAuction (auction-of n k bids (drop at input))
+    → Holds (auction-of n k bids (drop at input)) empty (no-totals (auction-of n k bids (drop at input))) parties totals
     → Bidding (auction-of n k bids (drop at input)) bids input
-    (totals-after (zip (tables k bids (drop at input)) (bid-coins (threshold n) k bids state)) (no-totals (auction-of n k bids (drop at input)))) parties totals
+    (totals-after (zip (numbered 1 (tables k bids (drop at input))) (bid-coins (threshold n) k bids state)) (no-totals (auction-of n k bids (drop at input)))) parties totals
     at state 0
-bidding-start n k bids input at state parties totals A H =
+unfolding still
+bidding-start n k bids input at state w parties totals A H =
+    let many : length (bid-coins (threshold n) k bids state) ≡ length (numbered 1 (tables k bids (drop at input))) =
+    bid-coins-length (threshold n) k bids state ∙ sym (length-numbered 1 (tables k bids (drop at input)) ∙ length-tables k bids (drop at input)) in
     record {
+      roll = empty;
       behind = no-totals (auction-of n k bids (drop at input));
       held = no-totals-held k (threshold n);
       holds = H;
-      good = rw (sub-zero bids) (A .tables);
+      entering = rw (sub-zero bids) (entering-all A (bid-coins (threshold n) k bids state) many);
+      good =
+          rw (sub-zero bids)
+          (bids-good k (threshold n) (numbered 1 (tables k bids (drop at input))) (bid-coins (threshold n) k bids state) (A .tables)
+          (bid-coins-in-range (threshold n) k bids state w));
       rest = rw (sub-zero bids);
     }
 
@@ -174,11 +208,11 @@ module _ (n k bids seed : ℕ) (bytes : List ℕ) where
 
   -- what `collect` leaves
   pub collected-holds : (state : ℕ) → state ≡ first-state seed → (opened parties : List Party) (fresh totals : List ℕ) → IsAuction a
-      → Adds n k bids bytes state opened fresh parties totals → Holds a 0 (no-totals a) opened fresh → Holds a bids (polynomials a coins) parties totals
+      → Adds n k bids bytes state opened fresh parties totals → Holds a empty (no-totals a) opened fresh → Holds a (full-roll a) (polynomials a coins) parties totals
   unfolding polynomials auction-coins
   collected-holds state e opened parties fresh totals A D H i h =
       let g = D A H i h in (
         g .0,
         g .1
-            ∙ ap (λ (x : ℕ). at-party (i + 1) (totals-after (zip (tables k bids bytes) (bid-coins (threshold n) k bids x)) (no-totals a))) e,
+            ∙ ap (λ (x : ℕ). at-party (i + 1) (totals-after (zip (numbered 1 (tables k bids bytes)) (bid-coins (threshold n) k bids x)) (no-totals a))) e,
       )

@@ -9,16 +9,19 @@ use Rattle.search.specs.declared.Bracket.{Bracket}
 use Rattle.search.specs.Bracket.{start, middle, step}
 use Rattle.comparison.specs.Probe.{SheetCoins, secret, last-polynomial}
 use Rattle.record.specs.declared.Party.{Party}
-use Rattle.auction.specs.Auction.{Auction, IsAuction}
+use Rattle.roll.specs.declared.Roll.{Roll}
+use Rattle.roll.specs.Marks.{empty}
+use Rattle.auction.specs.Auction.{Auction, Bid, IsAuction}
 use Rattle.auction.specs.Coins.{Coins, InRange}
 use Rattle.auction.specs.Canonical.{Seat}
-use Rattle.auction.proofs.Closed.{totals-after, at-party, no-totals, polynomials, probe-at, Stage, fresh-stage, seat}
+use Rattle.auction.proofs.Closed.{totals-after, at-party, no-totals, polynomials, full-roll, probe-at, Stage, fresh-stage, seat}
 use Rattle.auction.proofs.Bidding.{holding}
 use Rattle.auction.proofs.Round.{Ready}
 use Rattle.draws.specs.Draws.{bid-coins}
 use Rattle.sections.specs.Sections.{tables}
 use Rattle.record.specs.Record.{blank}
 use Rattle.panel.specs.Parties.{All, part}
+use Rattle.standing.specs.Numbered.{numbered}
 
 -- what the party after i others has
 abbrev pub seat-of : (k : ℕ) → List Party → (totals sheets : List ℕ) → ℕ → Seat
@@ -36,7 +39,7 @@ verdict-at a c b s = secret (last-polynomial (probe-at a (polynomials a c) (midd
 -- 33 rounds are a probe of every auction in which the parties may stand
 abbrev pub Probes : (n k : ℕ) → List Party → (totals sheets : List ℕ) → List Party → Type 0
 Probes n k parties totals sheets after =
-    (bids : List (List ℕ)) (c : Coins) → IsAuction (record { n = n; k = k; bids = bids }) → InRange (record { n = n; k = k; bids = bids }) c
+    (bids : List Bid) (c : Coins) → IsAuction (record { n = n; k = k; bids = bids }) → InRange (record { n = n; k = k; bids = bids }) c
     → (b : Bracket) (m : ℕ) (s : SheetCoins) (ss : List SheetCoins) → Ready (record { n = n; k = k; bids = bids }) c b m s ss
     → Stands (record { n = n; k = k; bids = bids }) c (fresh-stage b m) parties totals sheets
     → Stands (record { n = n; k = k; bids = bids }) c
@@ -45,23 +48,23 @@ Probes n k parties totals sheets after =
 -- what holds of every auction in which the parties may stand at the start
 abbrev pub FromStart : (n k : ℕ) → List Party → (totals sheets : List ℕ) → (Auction → Type 0) → Type 0
 FromStart n k parties totals sheets P =
-    (bids : List (List ℕ)) (c : Coins) → IsAuction (record { n = n; k = k; bids = bids }) → InRange (record { n = n; k = k; bids = bids }) c
+    (bids : List Bid) (c : Coins) → IsAuction (record { n = n; k = k; bids = bids }) → InRange (record { n = n; k = k; bids = bids }) c
     → Stands (record { n = n; k = k; bids = bids }) c (fresh-stage (start k) 0) parties totals sheets → P (record { n = n; k = k; bids = bids })
 
 -- ---- the bids
 
--- m bids are held, with the polynomials fs behind the totals
-abbrev pub Holds : (a : Auction) (m : ℕ) → List (List ℕ) → List Party → List ℕ → Type 0
-Holds a m fs parties totals =
-    All (a .n) (λ i. (getD parties i blank ≡ holding (a .n) (a .k) m (i + 1)) × (part (2 * a .k) i totals ≡ at-party (i + 1) fs))
+-- the bids of these on the roll are held, with the polynomials fs behind the totals
+abbrev pub Holds : (a : Auction) (roll : Roll) → List (List ℕ) → List Party → List ℕ → Type 0
+Holds a roll fs parties totals =
+    All (a .n) (λ i. (getD parties i blank ≡ holding (a .n) (a .k) roll (i + 1)) × (part (2 * a .k) i totals ≡ at-party (i + 1) fs))
 
 -- the auction of an input
 abbrev pub auction-of : (n k bids : ℕ) → List ℕ → Auction
-auction-of n k bids bytes = record { n = n; k = k; bids = tables k bids bytes }
+auction-of n k bids bytes = record { n = n; k = k; bids = numbered 1 (tables k bids bytes) }
 
 -- where the tables are good, all bids are added
 abbrev pub Adds : (n k bids : ℕ) (bytes : List ℕ) (state : ℕ) → List Party → List ℕ → List Party → List ℕ → Type 0
 Adds n k bids bytes state parties totals new-parties new-totals =
-    IsAuction (auction-of n k bids bytes) → Holds (auction-of n k bids bytes) 0 (no-totals (auction-of n k bids bytes)) parties totals
-    → Holds (auction-of n k bids bytes) bids
-    (totals-after (zip (tables k bids bytes) (bid-coins (threshold n) k bids state)) (no-totals (auction-of n k bids bytes))) new-parties new-totals
+    IsAuction (auction-of n k bids bytes) → Holds (auction-of n k bids bytes) empty (no-totals (auction-of n k bids bytes)) parties totals
+    → Holds (auction-of n k bids bytes) (full-roll (auction-of n k bids bytes))
+    (totals-after (zip (numbered 1 (tables k bids bytes)) (bid-coins (threshold n) k bids state)) (no-totals (auction-of n k bids bytes))) new-parties new-totals

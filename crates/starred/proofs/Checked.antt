@@ -1,6 +1,6 @@
 -- THE STARRED LINES of document 01, gathered as one list. Assumes nothing.
 use mathlib.Core.Path.{_≡_, refl, ap, _∙_}
-use mathlib.Core.Bool.{true, false, not}
+use mathlib.Core.Bool.{true, false, not, _&&_}
 use mathlib.Core.List.{List, [], _∷_}
 use Prim.Native.Nat.{ℕ, _+_, _-_, _^_, _<_}
 use native.Mathlib.Omega.{arith}
@@ -28,7 +28,9 @@ use Rattle.comparison.proofs.Promise.{sum-law, promised}
 use Rattle.refusal.specs.declared.Judgement.the-variants.{Accepted}
 use Rattle.record.specs.declared.Party.{Party}
 use Rattle.saying.specs.declared.Said.the-variants.{Message}
-use Rattle.record.specs.Record.{sound}
+use Rattle.ranges.proofs.Ranges.{on-list}
+use Rattle.record.proofs.Soundness.{sound-of}
+use Rattle.record.proofs.Updates.{fresh-sound}
 use Rattle.record.specs.Updates.{fresh}
 use Rattle.saying.specs.Say as saying
 use Rattle.saying.specs.Say.{current, in-field, message, turn-judgement, say-judgement, say-reply}
@@ -56,9 +58,13 @@ refused q totals sheets n-is round-is e =
     let crooks : unopened (heard (q .n) (q .round) with-73) ≡ true = rw (n-is, round-is, inconsistent) in
     ap codeOf (by-messages q totals sheets with-73 turn ∙ passes _ _ _ own ∙ refuses _ _ _ crooks)
 
+listed-one : party 5 1 && listed 1 ≡ true
+unfolding party listed
+listed-one = refl
+
 said : say-reply (fresh 5 1 1) (0 ∷ 0 ∷ []) ((offset - 12) ∷ replicate 126 0) ≡ Message 12
-unfolding turn-judgement judged saying.said fresh sound party listed limit digits over middle current in-field every message masked
-said = refl
+unfolding turn-judgement judged saying.said fresh limit digits over middle current in-field every message masked
+said = rw (sound-of (fresh 5 1 1) (fresh-sound 5 1 1 (on-list 5 1 1 listed-one)))
 
 -- ---- comparisons
 

@@ -1,10 +1,11 @@
-// Hearing: the second of three parties in a session of one bid, demand 5 and supply 3, and one
-// price, with a mask of 7. Three calls are accepted, those of rounds 1, 2 and 33, and every other one
-// changes one of them. A call prints its refusal's number, or 0.
+// Hearing: the second of three parties in a session of one bid, bidder 1,000's, with demand 5 and
+// supply 3, and one price, with a mask of 7. Three calls are accepted, those of rounds 1, 2 and 33,
+// and every other one changes one of them. A call prints its refusal's number, or 0.
 ghost use Prim.Native.Nat.{_<_};
 use crate::line;
 use fields::P;
 use record::Party;
+use roll::Roll;
 use worked_party::code;
 use worked_party::record;
 use worked_shares::fill;
@@ -22,6 +23,7 @@ const WORDS_33: [u64; 3] = [17, 33, 49];
 pub(crate) fn print() {
     accepted();
     records();
+    rolls();
     lengths();
     shares();
     own_words();
@@ -54,6 +56,7 @@ fn at_round(round: u64, sum: u64, carry: u64) -> Party {
         round,
         sum,
         carry,
+        roll: Roll::empty().mark(1000),
     }
 }
 
@@ -82,6 +85,27 @@ fn records() {
     q.probes = 1;
     hears(q, &WORDS_1);
     line::end();
+}
+
+// As many bids as marks, one more, one fewer; and marks of nobody.
+fn rolls() {
+    line::title(b"hear rolls:");
+    let mut q = first();
+    hears(q, &WORDS_1);
+    q.bids = 2;
+    hears(q, &WORDS_1);
+    q.bids = 0;
+    hears(q, &WORDS_1);
+    enrolled(Roll::empty().mark(0));
+    enrolled(Roll::empty().mark(1001));
+    line::end();
+}
+
+// One bid is held.
+fn enrolled(roll: Roll) {
+    let mut q = first();
+    q.roll = roll;
+    hears(q, &WORDS_1);
 }
 
 fn lengths() {

@@ -1,7 +1,10 @@
 // Lines of a party's calls, all but hearing.
 mod line;
+mod of_adding;
+mod of_bidders;
 mod of_party;
+mod records;
 
-pub use of_party::code;
 pub use of_party::print;
-pub use of_party::record;
+pub use records::code;
+pub use records::record;

@@ -2,47 +2,30 @@
 // one place, and worked answers. A call prints its refusal's number, or 0.
 ghost use Prim.Native.Nat.{_≤_, _<_};
 use crate::line;
+use crate::of_adding;
+use crate::of_bidders;
+use crate::records::code;
+use crate::records::fresh;
+use crate::records::holding;
+use crate::records::record;
+use crate::records::two;
 use fields::P;
 use record::Party;
-use record::Reply;
-use refusal::Judgement;
+use roll::Roll;
 use saying::Said;
 use session::Answer;
-
-// The sums that a record may hold are below it.
-const SUMS: u64 = (1 << 59) + (1 << 33);
 
 pub fn print() {
     open_accepted();
     open_ranges();
     open_lengths();
-    add_accepted();
-    add_records();
-    add_lengths();
-    add_turns();
-    add_bids();
-    add_words();
+    of_adding::print();
+    of_bidders::print();
     say_words();
     say_refusals();
     say_sheets();
     say_totals();
     answers();
-}
-
-// The first of three parties, for one price, with nothing heard.
-fn fresh() -> Party {
-    Party {
-        n: 3,
-        own: 1,
-        k: 1,
-        bids: 0,
-        lo: 0,
-        hi: 2,
-        probes: 0,
-        round: 1,
-        sum: 0,
-        carry: 0,
-    }
 }
 
 fn open_accepted() {
@@ -85,118 +68,6 @@ fn opens(n: u64, own: u64, k: u64, count: usize)
     line::number(code(session::open(n, own, k, &mut totals[..count])));
 }
 
-fn add_accepted() {
-    line::title(b"added:");
-    let mut totals = [5, P - 1];
-    record(session::add(fresh(), &mut totals, &[6, 1]));
-    line::numbers(&totals);
-    line::end();
-}
-
-// A record with one field out of its range. The first has none, and the last two hold the greatest
-// sum and the greatest carry.
-fn add_records() {
-    line::title(b"add records:");
-    adds(fresh());
-    let mut q = fresh();
-    q.n = 2;
-    adds(q);
-    q = fresh();
-    q.own = 4;
-    adds(q);
-    q = fresh();
-    q.k = 1025;
-    adds(q);
-    q = fresh();
-    q.bids = 1001;
-    adds(q);
-    q = fresh();
-    q.lo = 2;
-    adds(q);
-    q = fresh();
-    q.hi = 3;
-    adds(q);
-    q = fresh();
-    q.round = 0;
-    adds(q);
-    q = fresh();
-    q.round = 34;
-    adds(q);
-    q = fresh();
-    q.sum = SUMS;
-    adds(q);
-    q = fresh();
-    q.carry = 256;
-    adds(q);
-    q = fresh();
-    q.probes = 2;
-    adds(q);
-    q = fresh();
-    q.probes = 1;
-    adds(q);
-    q = fresh();
-    q.sum = SUMS - 1;
-    adds(q);
-    q = fresh();
-    q.carry = 255;
-    adds(q);
-    line::end();
-}
-
-fn add_lengths() {
-    line::title(b"add lengths:");
-    add_to(fresh(), &mut [5, 1], &[6]);
-    add_to(fresh(), &mut [5, 1], &[6, 1, 0]);
-    add_to(fresh(), &mut [5], &[6, 1]);
-    add_to(fresh(), &mut [5, 1, 0], &[6, 1]);
-    line::end();
-}
-
-// A bid comes before the first heard round, be it heard in this probe or in an earlier one.
-fn add_turns() {
-    line::title(b"add turns:");
-    let mut q = fresh();
-    q.round = 2;
-    adds(q);
-    q = fresh();
-    q.lo = 1;
-    adds(q);
-    q.probes = 1;
-    adds(q);
-    line::end();
-}
-
-// Bid 1,000 and bid 1,001.
-fn add_bids() {
-    line::title(b"add bids:");
-    let mut q = fresh();
-    q.bids = 999;
-    adds(q);
-    q.bids = 1000;
-    adds(q);
-    line::end();
-}
-
-// Shares and totals are below p. A refused call leaves the totals.
-fn add_words() {
-    line::title(b"add words, totals left:");
-    add_to(fresh(), &mut [5, P - 1], &[P - 1, 1]);
-    add_to(fresh(), &mut [5, P], &[6, 1]);
-    let mut totals = [5, P - 1];
-    add_to(fresh(), &mut totals, &[6, P]);
-    line::numbers(&totals);
-    line::end();
-}
-
-fn adds(q: Party) {
-    let mut totals = [5, P - 1];
-    add_to(q, &mut totals, &[6, 1]);
-}
-
-fn add_to(q: Party, totals: &mut [u64], shares: &[u64]) {
-    line::number(code(session::add(q, totals, shares)));
-}
-
 // The words of rounds 1, 2 and 33, then of a second probe's round 1, which takes the second sheet.
 fn say_words() {
     line::title(b"said:");
@@ -231,19 +102,22 @@ fn say_words() {
     line::end();
 }
 
-// A record out of its range, lengths, and a session that is over.
+// A record out of its range, a bid more than there are marks, a bid fewer, lengths, and a session
+// that is over.
 fn say_refusals() {
     line::title(b"say refusals:");
     let mut q = fresh();
     q.round = 34;
-    says(q, &[5, 3], 127);
-    says(fresh(), &[5], 127);
-    says(fresh(), &[5, 3, 0], 127);
-    says(fresh(), &[5, 3], 126);
-    says(fresh(), &[5, 3], 128);
+    says(q, 2, 127);
+    says(holding(1, Roll::empty()), 2, 127);
+    says(holding(1, two()), 2, 127);
+    says(fresh(), 1, 127);
+    says(fresh(), 3, 127);
+    says(fresh(), 2, 126);
+    says(fresh(), 2, 128);
     q = fresh();
     q.lo = 1;
-    says(q, &[5, 3], 127);
+    says(q, 2, 127);
     line::end();
 }
 
@@ -262,13 +136,19 @@ fn say_sheets() {
 // Only round 1 uses the totals.
 fn say_totals() {
     line::title(b"say totals:");
-    says(fresh(), &[P - 1, P - 1], 127);
-    says(fresh(), &[P, 3], 127);
-    says(fresh(), &[5, P], 127);
+    says_totals(fresh(), P - 1, P - 1);
+    says_totals(fresh(), P, 3);
+    says_totals(fresh(), 5, P);
     let mut q = fresh();
     q.round = 2;
-    says(q, &[P, P], 127);
+    says_totals(q, P, P);
     line::end();
+}
+
+// Totals with a sheet of 0.
+fn says_totals(q: Party, demand: u64, supply: u64) {
+    let sheet = [0u64; 127];
+    said_code(q, &[demand, supply], &sheet);
 }
 
 // A sheet that is 0 but for one word.
@@ -280,12 +160,13 @@ fn says_with(at: usize, word: u64)
     said_code(fresh(), &[5, 3], &sheet);
 }
 
-// So many words of 0 as sheets.
-fn says(q: Party, totals: &[u64], count: usize)
-    requires { ⌜ count ≤ 128 ⌝ }
+// So many words of totals, and so many words of 0 as sheets.
+fn says(q: Party, held: usize, lent: usize)
+    requires { ⌜ (held ≤ 3) × (lent ≤ 128) ⌝ }
 {
+    let totals = [5, 3, 0];
     let sheets = [0u64; 128];
-    said_code(q, totals, &sheets[..count]);
+    said_code(q, &totals[..held], &sheets[..lent]);
 }
 
 fn said_code(q: Party, totals: &[u64], sheets: &[u64]) {
@@ -303,6 +184,7 @@ fn said(q: Party, totals: &[u64], sheets: &[u64]) {
 }
 
 // A record out of its range, one that is not over, and then two that are: the index and the probes.
+// The last one has two bids and two marks; with a bid more or fewer it is refused.
 fn answers() {
     line::title(b"answers:");
     let mut q = fresh();
@@ -313,9 +195,13 @@ fn answers() {
     q.hi = 1;
     q.probes = 1;
     answer(q);
-    q = fresh();
+    q = holding(2, two());
     q.lo = 1;
     q.probes = 1;
+    answer(q);
+    q.bids = 3;
+    answer(q);
+    q.bids = 1;
     answer(q);
     line::end();
 }
@@ -330,31 +216,5 @@ fn answer(q: Party) {
             line::word(b"refused");
             line::number(refusal::number(why));
         }
-    }
-}
-
-pub fn code(reply: Reply) -> u64 {
-    let judgement = reply.judgement;
-    refusal::code(judgement)
-}
-
-// Its ten numbers.
-pub fn record(reply: Reply) {
-    let judgement = reply.judgement;
-    let q = reply.party;
-    match judgement {
-        Judgement::Accepted => {
-            line::number(q.n);
-            line::number(q.own);
-            line::number(q.k);
-            line::number(q.bids);
-            line::number(q.lo);
-            line::number(q.hi);
-            line::number(q.probes);
-            line::number(q.round);
-            line::number(q.sum);
-            line::number(q.carry);
-        }
-        Judgement::Refused(_) => line::word(b"refused"),
     }
 }

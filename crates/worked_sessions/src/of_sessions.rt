@@ -1,7 +1,8 @@
-// Whole sessions over four prices, through every call and every round. A line has the index and the
-// verdict of each probe, the answer with its probes, and a digest of all that was said: the words
-// depend on the draws, and the verdicts do not. `differ` stands where the parties do not agree, and
-// `refused` where the first gives no answer.
+// Whole sessions over four prices, through every call and every round. A line has the number that a
+// first bidder gets who comes again, the index and the verdict of each probe, the answer with its
+// probes, the bidders on the roll, and a digest of all that was said: the words depend on the draws,
+// and the verdicts do not. `differ` stands where the parties do not agree, and `refused` where the
+// first gives no answer.
 //
 // An array that a call gives is bound before it is stored: the checker has no rule for both at once.
 ghost use mathlib.Core.Path.{_≡_};
@@ -16,24 +17,60 @@ use panel::open_all;
 use panel_rounds::hear_all;
 use panel_rounds::say_all;
 use record::Party;
+use roll::Roll;
 use search::Bracket;
 use session::Answer;
 use sharing::threshold;
 
+struct Bid {
+    bidder: u64,
+    table: [u64; 8],
+}
+
 // A table has 8 amounts, and so has a party's book of totals. Four prices take at most 3 probes, so a
 // party has 3 sheets of 127 words, 381 in all. There is room for nine parties.
 pub fn print() {
-    let sample = [30, 20, 15, 0, 0, 0, 0, 0, 0, 0, 0, 0, 5, 15, 18, 40];
     report::title(b"session of 3:");
-    session(3, &sample, 2);
+    session(3, sample(7, 1000, 64), 2);
     report::title(b"session of 5:");
-    session(5, &sample, 2);
+    session(5, sample(1000, 7, 64), 2);
     report::title(b"session of 9:");
-    session(9, &sample, 2);
+    session(9, sample(64, 63, 1), 2);
+    report::title(b"session of three bids:");
+    session(6, sample(7, 1000, 64), 3);
     report::title(b"session with no bids:");
-    session(4, &sample, 0);
+    session(4, sample(7, 1000, 64), 0);
     report::title(b"session with no price:");
-    session(3, &[0, 0, 0, 0, 1, 1, 1, 1, 0, 0, 0, 0, 0, 0, 0, 0], 2);
+    session(3, unsold(), 2);
+}
+
+// With the first of these bids counted twice, a session of two or three would clear at 3.
+fn sample(first: u64, second: u64, third: u64) -> [Bid; 3] {
+    let buys = Bid {
+        bidder: first,
+        table: [30, 20, 15, 0, 0, 0, 0, 0],
+    };
+    let sells = Bid {
+        bidder: second,
+        table: [0, 0, 0, 0, 5, 15, 18, 40],
+    };
+    let both = Bid {
+        bidder: third,
+        table: [2, 2, 2, 2, 0, 10, 10, 10],
+    };
+    [buys, sells, both]
+}
+
+fn unsold() -> [Bid; 3] {
+    let sells = Bid {
+        bidder: 2,
+        table: [0, 0, 0, 0, 1, 1, 1, 1],
+    };
+    let nothing = Bid {
+        bidder: 1,
+        table: [0; 8],
+    };
+    [sells, nothing, nothing]
 }
 
 // Room for the totals of nine parties. Opening is what zeroes them.
@@ -46,9 +83,9 @@ fn no_sheets() -> [u64; 3429] {
     [0u64; 3429]
 }
 
-// The first `count` tables of `bids`.
-fn session(n: u64, bids: &[u64], count: usize)
-    requires { ⌜ (3 ≤ n) × (n ≤ 9) × (count ≤ 2) × (length (now bids) ≡ 16) ⌝ }
+// The first `count` of the bids.
+fn session(n: u64, bids: [Bid; 3], count: usize)
+    requires { ⌜ (3 ≤ n) × (n ≤ 9) × (count ≤ 3) ⌝ }
 {
     let mut totals = old_totals();
     let mut sheets = no_sheets();
@@ -57,8 +94,8 @@ fn session(n: u64, bids: &[u64], count: usize)
     hold(n, bids, count, &mut totals[..held], &mut sheets[..lent]);
 }
 
-fn hold(n: u64, bids: &[u64], count: usize, totals: &mut [u64], sheets: &mut [u64])
-    requires { ⌜ (3 ≤ n) × (n ≤ 9) × (count ≤ 2) × (length (now bids) ≡ 16) × (length (now totals) ≡ n * 8) × (length (now sheets) ≡ n * 381) ⌝ }
+fn hold(n: u64, bids: [Bid; 3], count: usize, totals: &mut [u64], sheets: &mut [u64])
+    requires { ⌜ (3 ≤ n) × (n ≤ 9) × (count ≤ 3) × (length (now totals) ≡ n * 8) × (length (now sheets) ≡ n * 381) ⌝ }
 {
     let opened = open_all(n, 4, totals);
     let ready = add_bids(n, opened, totals, bids, count);
@@ -66,40 +103,52 @@ fn hold(n: u64, bids: &[u64], count: usize, totals: &mut [u64], sheets: &mut [u6
     let mut digest = 0;
     let done = probe_all(n, ready, &totals[..], &sheets[..], &mut digest);
     answer_all(n as usize, done);
-    report::word(b"words");
-    report::number(digest);
-    report::end();
+    end(done[0], digest);
 }
 
+// After each bid the first one comes again, as from a desk whose line has dropped. A party that added
+// it twice would differ from the others in its bids and its words.
 fn add_bids(
     n: u64,
     parties: [Party; 9],
     totals: &mut [u64],
-    bids: &[u64],
+    bids: [Bid; 3],
     count: usize,
 ) -> [Party; 9]
-    requires { ⌜ (3 ≤ n) × (n ≤ 9) × (count ≤ 2) × (length (now totals) ≡ n * 8) × (length (now bids) ≡ 16) ⌝ }
+    requires { ⌜ (3 ≤ n) × (n ≤ 9) × (count ≤ 3) × (length (now totals) ≡ n * 8) ⌝ }
 {
+    let first = bids[0];
     let mut now = parties;
     let mut bid = 0;
     while bid < count {
-        let from = 8 * bid;
-        let to = from + 8;
-        let added = add_bid(n, now, totals, &bids[from..to], bid as u64 + 1);
-        now = added;
+        let added = add_bid(n, now, totals, bids[bid], bid as u64 + 1);
+        again(added[0], first.bidder);
+        let left = add_bid(n, added, totals, first, 1);
+        now = left;
         bid += 1;
     }
     now
 }
 
 // Every party adds its shares of the table, all of them made with the same coins.
-fn add_bid(n: u64, parties: [Party; 9], totals: &mut [u64], table: &[u64], seed: u64) -> [Party; 9]
+fn add_bid(n: u64, parties: [Party; 9], totals: &mut [u64], bid: Bid, seed: u64) -> [Party; 9]
     requires { ⌜ (3 ≤ n) × (n ≤ 9) × (length (now totals) ≡ n * 8) ⌝ }
 {
+    let table = bid.table;
     let mut coins = [0u64; 32];
     draw_coins(seed, &mut coins);
     let drawn = 8 * threshold(n) as usize;
-    add_all(n, 4, table, &coins[..drawn], parties, totals)
+    add_all(n, 4, bid.bidder, &table, &coins[..drawn], parties, totals)
+}
+
+// The number that a party has for another bid of the bidder, by a call with totals of its own: that
+// of the panel's call is not given back.
+fn again(q: Party, bidder: u64) {
+    let mut totals = [0u64; 8];
+    let reply = session::add(q, &mut totals, bidder, &[1; 8]);
+    let judgement = reply.judgement;
+    report::word(b"again");
+    report::number(refusal::code(judgement));
 }
 
 // Every probe has a sheet from draws of its own.
@@ -193,7 +242,24 @@ fn all_at(n: usize, parties: [Party; 9], q: Party) -> bool
 }
 
 fn stands(p: Party, q: Party) -> bool {
-    (p.lo == q.lo) & (p.hi == q.hi) & (p.probes == q.probes) & (p.round == 1)
+    (p.lo == q.lo)
+        & (p.hi == q.hi)
+        & (p.probes == q.probes)
+        & (p.round == 1)
+        & (p.bids == q.bids)
+        & same_roll(p.roll, q.roll)
+}
+
+fn same_roll(r: Roll, s: Roll) -> bool {
+    let a = r.words;
+    let b = s.words;
+    let mut same = true;
+    let mut i = 0;
+    while i < 16 {
+        same = same & (a[i] == b[i]);
+        i += 1;
+    }
+    same
 }
 
 // A probe's 33 rounds.
@@ -287,4 +353,20 @@ fn cleared(q: Party, index: u64, probes: u64) -> bool {
         Answer::Cleared(at, made) => (at == index) & (made == probes),
         Answer::Refused(_) => false,
     }
+}
+
+// The end of the line: who is in, and the digest.
+fn end(q: Party, digest: u64) {
+    report::word(b"bidders");
+    let roll = q.roll;
+    let mut bidder = 0;
+    while bidder < 1000 {
+        bidder += 1;
+        if roll.marked(bidder) {
+            report::number(bidder);
+        }
+    }
+    report::word(b"words");
+    report::number(digest);
+    report::end();
 }

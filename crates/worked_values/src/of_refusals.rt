@@ -18,6 +18,7 @@ pub(crate) fn print() {
     code(Refusal::SumOutOfRange);
     code(Refusal::VerdictNotBit);
     code(Refusal::Malformed);
+    code(Refusal::AlreadyEntered);
     report::end();
 }
 

@@ -1,13 +1,22 @@
 //! Whole auctions: every call is compared, each verdict and the answer are
-//! checked against the totals of the bids, and damaged calls stand in between.
+//! checked against the totals of the bids, and damaged calls and bids that are
+//! sent again stand in between.
 
-use clockivy_reference::{probe_limit, threshold, LAST_ROUND, RECORD, SHEET};
+use clockivy_reference::{probe_limit, threshold, LAST_ROUND, MAX_BIDS, RECORD, SHEET};
 
 use crate::call::Call;
 use crate::damage::damage;
 use crate::differential::{Difference, Tally};
-use crate::record::{index, CARRY, HI, LO, PROBES};
+use crate::record::{index, mark, BIDS, CARRY, HI, LO, OWN, PROBES, ROLL};
 use crate::rng::Rng;
+
+const ALREADY_ENTERED: u64 = 14;
+
+/// A bid.
+struct Bid {
+    bidder: u64,
+    table: Vec<u64>,
+}
 
 /// What one party keeps.
 struct Seat {
@@ -21,11 +30,11 @@ struct Auction<'a> {
     tally: &'a mut Tally,
     n: u64,
     k: u64,
-    tables: Vec<Vec<u64>>,
+    bids: Vec<Bid>,
     seats: Vec<Seat>,
 }
 
-/// Runs one auction of `bids` random bids.
+/// Runs one auction of `bids` random bids, at most 1,000, of as many bidders.
 pub fn whole(
     rng: &mut Rng,
     n: u64,
@@ -33,13 +42,19 @@ pub fn whole(
     bids: u64,
     tally: &mut Tally,
 ) -> Result<(), Difference> {
-    let tables = (0..bids).map(|_| rng.table(k as usize)).collect();
+    let bids = bidders(rng, bids)
+        .into_iter()
+        .map(|bidder| Bid {
+            bidder,
+            table: rng.table(k as usize),
+        })
+        .collect();
     let mut auction = Auction {
         rng,
         tally,
         n,
         k,
-        tables,
+        bids,
         seats: Vec::new(),
     };
     auction.open()?;
@@ -53,6 +68,17 @@ pub fn whole(
     auction.ask(verdicts)?;
     auction.tally.count_auction();
     Ok(())
+}
+
+/// So many bidders, at most 1,000, all different and in any order.
+fn bidders(rng: &mut Rng, count: u64) -> Vec<u64> {
+    let mut numbers: Vec<u64> = (1..=MAX_BIDS).collect();
+    for place in 0..count as usize {
+        let other = place + rng.place(numbers.len() - place);
+        numbers.swap(place, other);
+    }
+    numbers.truncate(count as usize);
+    numbers
 }
 
 impl Auction<'_> {
@@ -73,23 +99,52 @@ impl Auction<'_> {
 
     fn bid(&mut self) -> Result<(), Difference> {
         let length = 2 * self.k as usize;
-        for table in self.tables.clone() {
+        let mut expected = self.seats[0].record.clone();
+        for place in 0..self.bids.len() {
             let coins = self
                 .rng
                 .words(length * threshold(self.n), Rng::amount_share);
+            let bidder = self.bids[place].bidder;
             for own in 1..=self.n {
                 let shares = self.rng.words(length, Rng::word);
-                let call = Call::split(self.n, own, self.k, &table, &coins, &shares);
+                let table = &self.bids[place].table;
+                let call = Call::split(self.n, own, self.k, table, &coins, &shares);
                 let shares = self.accepted(call)?.words[2].to_vec();
                 let seat = &self.seats[own as usize - 1];
-                let call = Call::add(&seat.record, &seat.totals, &shares);
+                let call = Call::add(&seat.record, &seat.totals, bidder, &shares);
                 let left = self.accepted(call)?;
                 let seat = &mut self.seats[own as usize - 1];
                 seat.record = left.words[0].to_vec();
                 seat.totals = left.words[1].to_vec();
+                if self.rng.once_in(2) {
+                    self.send_again(own, bidder, &shares)?;
+                }
+                if self.rng.once_in(2) {
+                    let earlier = self.bids[self.rng.place(place + 1)].bidder;
+                    let shares = self.rng.words(length, Rng::word);
+                    self.send_again(own, earlier, &shares)?;
+                }
             }
+            mark(&mut expected, bidder);
+            expected[BIDS] += 1;
+        }
+        for (own, seat) in (1..).zip(&self.seats) {
+            expected[OWN] = own;
+            self.holds(seat.record == expected, "a roll is not that of the bids")?;
         }
         Ok(())
+    }
+
+    /// A bid of someone who is in, the same as before or any other, is refused.
+    /// That it changes nothing is part of the comparison.
+    fn send_again(&mut self, own: u64, bidder: u64, shares: &[u64]) -> Result<(), Difference> {
+        let seat = &self.seats[own as usize - 1];
+        let call = Call::add(&seat.record, &seat.totals, bidder, shares);
+        let (reply, _) = self.tally.compare(&call)?;
+        self.holds(
+            reply == ALREADY_ENTERED,
+            &format!("reply {reply} to a bid sent again,\n{call}\n"),
+        )
     }
 
     fn deal(&mut self) -> Result<(), Difference> {
@@ -139,7 +194,9 @@ impl Auction<'_> {
             let left = self.accepted(call)?;
             self.seats[own].record = left.words[0].to_vec();
         }
-        let public = |seat: &Seat| [&seat.record[..1], &seat.record[2..CARRY]].concat();
+        let public = |Seat { record, .. }: &Seat| {
+            [&record[..1], &record[2..CARRY], &record[ROLL..]].concat()
+        };
         let agree = self
             .seats
             .iter()
@@ -171,7 +228,7 @@ impl Auction<'_> {
     fn clears(&self, index: u64) -> bool {
         let demand = index as usize - 1;
         let supply = demand + self.k as usize;
-        let total = |place: usize| -> u64 { self.tables.iter().map(|table| table[place]).sum() };
+        let total = |place: usize| -> u64 { self.bids.iter().map(|bid| bid.table[place]).sum() };
         total(demand) >= total(supply)
     }
 
@@ -199,10 +256,15 @@ impl Auction<'_> {
         }
         let seat = &self.seats[self.rng.place(self.seats.len())];
         let shares = vec![1; seat.totals.len()];
+        let bidder = if self.bids.is_empty() || self.rng.once_in(2) {
+            self.rng.between(1, MAX_BIDS)
+        } else {
+            self.bids[self.rng.place(self.bids.len())].bidder
+        };
         let messages = self.rng.words(self.n as usize, |rng| rng.below(256));
         let calls = [
             Call::answer(&seat.record, self.rng.word(), self.rng.word()),
-            Call::add(&seat.record, &seat.totals, &shares),
+            Call::add(&seat.record, &seat.totals, bidder, &shares),
             Call::hear(&seat.record, &seat.totals, &seat.sheets, &messages),
         ];
         for call in &calls {
@@ -219,7 +281,7 @@ impl Auction<'_> {
             "{otherwise}, in an auction of {} parties, {} prices, {} bids",
             self.n,
             self.k,
-            self.tables.len()
+            self.bids.len()
         )))
     }
 }

@@ -4,6 +4,8 @@
 use std::fmt;
 use std::ops::{Deref, DerefMut};
 
+use clockivy_reference::RECORD;
+
 use crate::engine::Engine;
 
 /// The seven calls, in the order of the tables.
@@ -56,7 +58,7 @@ impl Kind {
             Kind::Open => &[0, 1, 2],
             Kind::Split => &[0, 1, 2, 5, 6, 7],
             Kind::Deal => &[0, 1, 2, 5],
-            Kind::Add => &[0, 1, 2, 3, 4, 8],
+            Kind::Add => &[0, 1, 2, 3, 8, 14],
             Kind::Say => &[0, 1, 2, 3, 8],
             Kind::Hear => &[0, 1, 2, 3, 8, 9, 10, 11, 12],
             Kind::Answer => &[0, 1, 2, 3],
@@ -142,6 +144,8 @@ pub struct Call {
     pub kind: Kind,
     /// n, own and k; 0 where the call is not given them.
     pub numbers: [u64; 3],
+    /// The bidder that [`Kind::Add`] is given, else 0.
+    pub bidder: u64,
     /// The slices of words, and then the single words, in the order of the C
     /// declaration.
     pub words: Vec<Lent<u64>>,
@@ -155,6 +159,7 @@ impl Call {
         Call {
             kind,
             numbers,
+            bidder: 0,
             words: words.iter().map(|contents| Lent::new(contents)).collect(),
             bytes: Lent::new(&[]),
         }
@@ -179,8 +184,11 @@ impl Call {
     }
 
     /// Adds a bid.
-    pub fn add(record: &[u64], totals: &[u64], shares: &[u64]) -> Call {
-        Call::new(Kind::Add, [0; 3], &[record, totals, shares])
+    pub fn add(record: &[u64], totals: &[u64], bidder: u64, shares: &[u64]) -> Call {
+        Call {
+            bidder,
+            ..Call::new(Kind::Add, [0; 3], &[record, totals, shares])
+        }
     }
 
     /// Says a message, into a word that holds `message`.
@@ -205,7 +213,7 @@ impl Call {
             (Kind::Open, [totals, record]) => E::open(n, own, k, totals, record),
             (Kind::Split, [table, coins, shares]) => E::split(n, own, k, table, coins, shares),
             (Kind::Deal, [words, sheet]) => E::deal(n, own, words, &self.bytes, sheet),
-            (Kind::Add, [record, totals, shares]) => E::add(record, totals, shares),
+            (Kind::Add, [record, totals, shares]) => E::add(record, totals, self.bidder, shares),
             (Kind::Say, [record, totals, sheets, message]) => {
                 E::say(record, totals, sheets, &mut message[0])
             }
@@ -223,19 +231,29 @@ impl Call {
 impl fmt::Display for Call {
     fn fmt(&self, f: &mut fmt::Formatter<'_>) -> fmt::Result {
         write!(f, "{} {:?}", self.kind.name(), self.numbers)?;
-        for words in &self.words {
-            write!(f, "\n  {} words: {}", words.len(), start(words))?;
+        if self.kind == Kind::Add {
+            write!(f, " bidder {}", self.bidder)?;
+        }
+        for (place, words) in self.words.iter().enumerate() {
+            // A record is shown whole.
+            let is_record = self.kind.record() == Some(place);
+            let most = if is_record { RECORD } else { SHOWN };
+            write!(f, "\n  {} words: {}", words.len(), start(words, most))?;
         }
         if self.kind == Kind::Deal {
-            write!(f, "\n  {} bytes: {}", self.bytes.len(), start(&self.bytes))?;
+            let bytes = start(&self.bytes, SHOWN);
+            write!(f, "\n  {} bytes: {bytes}", self.bytes.len())?;
         }
         Ok(())
     }
 }
 
-/// The first elements of a slice.
-fn start<T: fmt::Display>(slice: &[T]) -> String {
-    let shown: Vec<String> = slice.iter().take(12).map(T::to_string).collect();
+/// How many elements of a slice are shown.
+const SHOWN: usize = 12;
+
+/// The first elements of a slice, so many at most.
+fn start<T: fmt::Display>(slice: &[T], most: usize) -> String {
+    let shown: Vec<String> = slice.iter().take(most).map(T::to_string).collect();
     let dots = if slice.len() > shown.len() { " .." } else { "" };
     shown.join(" ") + dots
 }

@@ -1,6 +1,6 @@
-//! Damage to a call: a number, a length, a field of the record or a word is
-//! changed, mostly to a value at or next to a limit. Some damage leaves the
-//! call acceptable; that is for the comparison to find out.
+//! Damage to a call: a number, a length, a field of the record, its roll or a
+//! word is changed, mostly to a value at or next to a limit. Some damage leaves
+//! the call acceptable; that is for the comparison to find out.
 
 use clockivy_reference::field::amount::P;
 use clockivy_reference::{
@@ -8,7 +8,9 @@ use clockivy_reference::{
 };
 
 use crate::call::{Call, Kind};
-use crate::record::{BIDS, HI, K, LO, N, OWN, PROBES, ROUND, SUM};
+use crate::record::{
+    has_bid, mark, marks, unmark, BIDS, HI, K, LO, N, NOBODY, OWN, PROBES, ROLL, ROUND, SUM,
+};
 use crate::rng::Rng;
 
 /// Values at which one test or another turns.
@@ -43,7 +45,8 @@ const EDGES: [u64; 24] = [
 pub fn damage(rng: &mut Rng, call: &mut Call) {
     match rng.below(8) {
         0..=1 if call.kind.numbers() > 0 => number(rng, call),
-        0..=2 if call.kind.record().is_some() => record_field(rng, call),
+        0 if call.kind == Kind::Add => bidder(rng, call),
+        0..=2 if call.kind.record().is_some() => record(rng, call),
         3..=4 => length(rng, call),
         5 if call.kind == Kind::Hear => swap(rng, call),
         _ => word(rng, call),
@@ -60,6 +63,12 @@ fn number(rng: &mut Rng, call: &mut Call) {
         _ => [0, 1, k.wrapping_add(1), MAX_PRICES, MAX_PRICES + 1],
     };
     call.numbers[place] = value(rng, call.numbers[place], &near);
+}
+
+/// Changes the bidder.
+fn bidder(rng: &mut Rng, call: &mut Call) {
+    let near = [0, 1, MAX_BIDS, MAX_BIDS + 1, rng.between(1, MAX_BIDS)];
+    call.bidder = value(rng, call.bidder, &near);
 }
 
 /// Makes a slice longer or shorter.
@@ -87,22 +96,65 @@ fn other_length(rng: &mut Rng, length: usize) -> usize {
     }
 }
 
-/// Changes a field of the record.
-fn record_field(rng: &mut Rng, call: &mut Call) {
+/// Changes the record.
+fn record(rng: &mut Rng, call: &mut Call) {
     let record = match call.kind.record() {
         Some(place) if call.words[place].len() == RECORD => &mut call.words[place],
         _ => return,
     };
-    let field = rng.place(RECORD);
-    let [n, own, k, _, lo, hi, probes, ..] = record[..] else {
-        unreachable!("it has ten words");
+    if rng.once_in(3) {
+        roll(rng, record);
+    } else {
+        field(rng, record);
+    }
+}
+
+/// Changes the roll: a mark more, at a bidder's place or at one that is no
+/// bidder's, a mark less, one that moves, or another word. Every other time the
+/// bids are counted anew, so that nothing but the places can be wrong.
+fn roll(rng: &mut Rng, record: &mut [u64]) {
+    let bidder = rng.between(1, MAX_BIDS);
+    let nobody = rng.pick(&NOBODY);
+    match rng.below(6) {
+        0 => mark(record, nobody),
+        1 => mark(record, rng.pick(&[0, MAX_BIDS, MAX_BIDS + 1, 1_023])),
+        2 => mark(record, bidder),
+        3 => unmark(record, bidder),
+        4 => {
+            let word = &mut record[ROLL..][rng.place(RECORD - ROLL)];
+            *word = value(rng, *word, &EDGES);
+        }
+        _ => {
+            // A mark moves, and their number stays.
+            if has_bid(record, bidder) {
+                unmark(record, bidder);
+                mark(record, nobody);
+            }
+        }
+    }
+    if rng.once_in(2) {
+        record[BIDS] = marks(record);
+    }
+}
+
+/// Changes a field of the record before the roll.
+fn field(rng: &mut Rng, record: &mut [u64]) {
+    let field = rng.place(ROLL);
+    let [n, own, k, bids, lo, hi, probes, ..] = record[..] else {
+        unreachable!("it has the words of a record");
     };
     let limit = if k <= MAX_PRICES { probe_limit(k) } else { 0 };
     let near = match field {
         N => [2, 3, 9, 10, own],
         OWN => [0, 1, n, n.wrapping_add(1), own ^ 1],
         K => [0, 1, MAX_PRICES, MAX_PRICES + 1, hi.wrapping_sub(1)],
-        BIDS => [0, 1, MAX_BIDS - 1, MAX_BIDS, MAX_BIDS + 1],
+        BIDS => [
+            0,
+            bids.wrapping_sub(1),
+            bids.wrapping_add(1),
+            MAX_BIDS,
+            MAX_BIDS + 1,
+        ],
         LO => [
             0,
             hi.wrapping_sub(2),
@@ -150,7 +202,7 @@ fn used(rng: &mut Rng, call: &Call, slice: usize) -> Option<usize> {
         return None;
     }
     let [n, own, k, _, lo, hi, probes, ..] = call.words[0][..] else {
-        unreachable!("it has ten words");
+        unreachable!("it has the words of a record");
     };
     if k > MAX_PRICES || hi > k + 1 || lo >= hi || probes > 64 || n > 9 {
         return None;

@@ -2,6 +2,8 @@
 
 use std::fmt;
 
+use clockivy_reference::MAX_BIDS;
+
 use crate::call::{Call, Kind};
 use crate::damage::damage;
 use crate::engine::{Engine, Plain, Verified};
@@ -12,7 +14,7 @@ use crate::{auction, generate};
 pub struct Difference(pub String);
 
 /// One more than the highest reply.
-const REPLIES: usize = 13;
+const REPLIES: usize = 15;
 
 /// How many calls of each kind had each reply.
 #[derive(Default)]
@@ -91,21 +93,33 @@ impl Tally {
     }
 }
 
-/// The table of counts by call and reply.
+/// The table of counts by call and reply. A reply that no call can give, and
+/// that none gave, has no column.
 impl fmt::Display for Tally {
     fn fmt(&self, f: &mut fmt::Formatter<'_>) -> fmt::Result {
+        let count = |kind: Kind, reply: usize| {
+            let count = self.counts[kind as usize][reply];
+            let shown = kind.replies().contains(&(reply as u64)) || count > 0;
+            shown.then_some(count)
+        };
+        let columns: Vec<usize> = (1..REPLIES)
+            .filter(|&reply| Kind::ALL.iter().any(|&kind| count(kind, reply).is_some()))
+            .collect();
         write!(f, "{:<7}{:>9}", "call", "done")?;
-        for reply in 1..REPLIES {
+        for reply in &columns {
             write!(f, "{reply:>8}")?;
         }
         for kind in Kind::ALL {
-            write!(f, "\n{:<7}", kind.name())?;
-            for (reply, &count) in self.counts[kind as usize].iter().enumerate() {
-                let width = if reply == 0 { 9 } else { 8 };
-                if kind.replies().contains(&(reply as u64)) || count > 0 {
-                    write!(f, "{count:>width$}")?;
-                } else {
-                    write!(f, "{:>width$}", "-")?;
+            write!(
+                f,
+                "\n{:<7}{:>9}",
+                kind.name(),
+                self.counts[kind as usize][0]
+            )?;
+            for &reply in &columns {
+                match count(kind, reply) {
+                    Some(count) => write!(f, "{count:>8}")?,
+                    None => write!(f, "{:>8}", "-")?,
                 }
             }
         }
@@ -114,8 +128,8 @@ impl fmt::Display for Tally {
 }
 
 /// Whole auctions of every number of parties over the given numbers of prices,
-/// with refused calls in between; then single calls, valid and damaged, until
-/// there are `calls` in all.
+/// and one that fills the roll, with refused calls in between; then single
+/// calls, valid and damaged, until there are `calls` in all.
 pub fn run(seed: u64, prices: &[u64], calls: u64, tally: &mut Tally) -> Result<(), Difference> {
     let mut rng = Rng::new(seed);
     for n in 3..=9 {
@@ -124,6 +138,7 @@ pub fn run(seed: u64, prices: &[u64], calls: u64, tally: &mut Tally) -> Result<(
             auction::whole(&mut rng, n, k, bids, tally)?;
         }
     }
+    auction::whole(&mut rng, 3, 2, MAX_BIDS, tally)?;
     while tally.calls() < calls {
         let call = single(&mut rng);
         tally.compare(&call)?;

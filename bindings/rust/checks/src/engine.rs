@@ -14,7 +14,7 @@ pub trait Engine {
     /// Writes preprocessing.
     fn deal(n: u64, own: u64, words: &[u64], bytes: &[u8], sheet: &mut [u64]) -> u64;
     /// Adds a bid.
-    fn add(record: &mut [u64], totals: &mut [u64], shares: &[u64]) -> u64;
+    fn add(record: &mut [u64], totals: &mut [u64], bidder: u64, shares: &[u64]) -> u64;
     /// Says a message.
     fn say(record: &[u64], totals: &[u64], sheets: &[u64], message: &mut u64) -> u64;
     /// Hears all messages.
@@ -50,8 +50,8 @@ macro_rules! engine {
                 $library::deal(n, own, words, bytes, sheet)
             }
 
-            fn add(record: &mut [u64], totals: &mut [u64], shares: &[u64]) -> u64 {
-                $library::add(record, totals, shares)
+            fn add(record: &mut [u64], totals: &mut [u64], bidder: u64, shares: &[u64]) -> u64 {
+                $library::add(record, totals, bidder, shares)
             }
 
             fn say(record: &[u64], totals: &[u64], sheets: &[u64], message: &mut u64) -> u64 {

@@ -4,11 +4,13 @@
 use clockivy_reference as reference;
 use clockivy_reference::field::{amount, byte};
 use clockivy_reference::{
-    probe_limit, LAST_ROUND, MAX_BIDS, MAX_PRICES, SHEET, SUM_LIMIT, SUM_LOW,
+    probe_limit, LAST_ROUND, MAX_BIDS, MAX_PRICES, RECORD, SHEET, SUM_LIMIT, SUM_LOW,
 };
 
 use crate::call::{Call, Kind};
-use crate::record::{index, HI, LO, N, OWN, PROBES, ROUND};
+use crate::record::{
+    has_bid, index, mark, marks, unmark, BIDS, HI, LO, N, NOBODY, OWN, PROBES, ROLL, ROUND,
+};
 use crate::rng::Rng;
 
 /// The numbers that fix the lengths of all buffers.
@@ -93,7 +95,7 @@ pub fn call(rng: &mut Rng, kind: Kind) -> Call {
 
 fn open(rng: &mut Rng, shape: Shape) -> Call {
     let totals = rng.words(shape.table_len(), Rng::word);
-    let record = rng.words(reference::RECORD, Rng::word);
+    let record = rng.words(RECORD, Rng::word);
     Call::open(shape.n, shape.own, shape.k, &totals, &record)
 }
 
@@ -136,7 +138,25 @@ fn add(rng: &mut Rng, shape: Shape) -> Call {
             *share = amount::sub(0, total);
         }
     }
-    Call::add(&record, &totals, &shares)
+    let bidder = bidder(rng, &record);
+    Call::add(&record, &totals, bidder, &shares)
+}
+
+/// A bidder for this record: mostly one who is not on the roll, often one who
+/// is, and now and then a number that is no bidder's.
+fn bidder(rng: &mut Rng, record: &[u64]) -> u64 {
+    let anybody = rng.between(1, MAX_BIDS);
+    let marked = match rng.below(16) {
+        0 => return rng.pick(&[0, 1, MAX_BIDS, MAX_BIDS + 1, 1_023, 1_024, u64::MAX]),
+        1 => return rng.pick(&NOBODY),
+        2 => return anybody,
+        3..=5 => true,
+        _ => false,
+    };
+    (anybody..=MAX_BIDS)
+        .chain(1..anybody)
+        .find(|&bidder| has_bid(record, bidder) == marked)
+        .unwrap_or(anybody)
 }
 
 fn say(rng: &mut Rng, shape: Shape) -> Call {
@@ -183,14 +203,9 @@ fn answer(rng: &mut Rng, shape: Shape) -> Call {
     Call::answer(&record, rng.word(), rng.word())
 }
 
-/// A sound record, not always one that an auction can reach.
+/// A record, not always one that an auction can reach, and mostly a sound one.
 fn record(rng: &mut Rng, shape: Shape) -> Vec<u64> {
     let Shape { n, own, k } = shape;
-    let bids = match rng.below(4) {
-        0 => 0,
-        1 => MAX_BIDS,
-        _ => rng.between(0, MAX_BIDS),
-    };
     let hi = if rng.once_in(2) {
         k + 1
     } else {
@@ -217,7 +232,54 @@ fn record(rng: &mut Rng, shape: Shape) -> Vec<u64> {
         _ => rng.below(SUM_LIMIT),
     };
     let carry = u64::from(rng.byte());
-    vec![n, own, k, bids, lo, hi, probes, round, sum, carry]
+    let mut record = vec![n, own, k, 0, lo, hi, probes, round, sum, carry];
+    record.resize(RECORD, 0);
+    roll(rng, &mut record);
+    record
+}
+
+/// Marks bidders on an empty roll and counts them. Now and then the count is
+/// one off, or a number that is no bidder's is marked and counted too: such a
+/// roll then meets every call, in every state of a record.
+fn roll(rng: &mut Rng, record: &mut [u64]) {
+    match rng.below(8) {
+        0 => {}
+        1 => record[ROLL..].fill(u64::MAX),
+        2 => {
+            record[ROLL..].fill(u64::MAX);
+            unmark(record, rng.between(1, MAX_BIDS));
+        }
+        3..=4 => {
+            for _ in 0..rng.between(1, 6) {
+                let at_an_end = rng.pick(&[1, 2, 63, 64, 65, 959, 960, 999, MAX_BIDS]);
+                let anybody = rng.between(1, MAX_BIDS);
+                mark(record, rng.pick(&[at_an_end, anybody]));
+            }
+        }
+        many => {
+            for word in &mut record[ROLL..] {
+                *word = match many {
+                    5 => rng.word() & rng.word(),
+                    6 => rng.word(),
+                    _ => rng.word() | rng.word(),
+                };
+            }
+        }
+    }
+    for nobody in NOBODY {
+        unmark(record, nobody);
+    }
+    match rng.below(64) {
+        0 => mark(record, rng.pick(&NOBODY)),
+        1 => mark(record, rng.pick(&[0, MAX_BIDS + 1, 1_023])),
+        _ => {}
+    }
+    record[BIDS] = marks(record);
+    match rng.below(64) {
+        0 => record[BIDS] += 1,
+        1 => record[BIDS] = record[BIDS].saturating_sub(1),
+        _ => {}
+    }
 }
 
 /// Totals: the two words that round 1 uses are shares, the others anything.

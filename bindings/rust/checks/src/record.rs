@@ -1,4 +1,6 @@
-//! The places of a record's fields.
+//! The places of a record's fields, and its roll by bidders.
+
+use clockivy_reference::{MAX_BIDS, RECORD};
 
 /// The number of parties.
 pub const N: usize = 0;
@@ -20,6 +22,41 @@ pub const ROUND: usize = 7;
 pub const SUM: usize = 8;
 /// The share of the carry.
 pub const CARRY: usize = 9;
+/// The first word of the roll.
+pub const ROLL: usize = 10;
+
+/// The numbers that have a place on the roll and are no bidder's: 0, and those
+/// past the last bidder's.
+pub const NOBODY: [u64; 24] = {
+    let mut numbers = [0; 24];
+    let mut place = 1;
+    while place < numbers.len() {
+        numbers[place] = MAX_BIDS + place as u64;
+        place += 1;
+    }
+    numbers
+};
+
+/// Whether a number that has a place on the roll is marked there.
+pub fn has_bid(record: &[u64], bidder: u64) -> bool {
+    record[ROLL + bidder as usize / 64] >> (bidder % 64) & 1 == 1
+}
+
+/// Marks a number that has a place on the roll.
+pub fn mark(record: &mut [u64], bidder: u64) {
+    record[ROLL + bidder as usize / 64] |= 1 << (bidder % 64);
+}
+
+/// Takes the mark of a number that has a place on the roll away.
+pub fn unmark(record: &mut [u64], bidder: u64) {
+    record[ROLL + bidder as usize / 64] &= !(1 << (bidder % 64));
+}
+
+/// The number of marks on the roll.
+pub fn marks(record: &[u64]) -> u64 {
+    let roll = &record[ROLL..RECORD];
+    roll.iter().map(|word| u64::from(word.count_ones())).sum()
+}
 
 /// The probed index.
 pub fn index(record: &[u64]) -> usize {

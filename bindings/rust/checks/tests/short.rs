@@ -11,5 +11,5 @@ fn a_short_comparison() {
     }
     assert_eq!(tally.unreached(), []);
     assert_eq!(tally.unexpected(), []);
-    assert_eq!(tally.auctions(), 7 * 4);
+    assert_eq!(tally.auctions(), 7 * 4 + 1);
 }

@@ -15,7 +15,6 @@ use field::{amount, byte};
 const OUT_OF_RANGE: u64 = 1;
 const WRONG_LENGTH: u64 = 2;
 const OUT_OF_TURN: u64 = 3;
-const TOO_MANY_BIDS: u64 = 4;
 const COIN_OUT_OF_RANGE: u64 = 5;
 const AMOUNT_TOO_LARGE: u64 = 6;
 const NOT_MONOTONE: u64 = 7;
@@ -24,12 +23,15 @@ const OWN_MESSAGE_DIFFERS: u64 = 9;
 const INCONSISTENT: u64 = 10;
 const SUM_OUT_OF_RANGE: u64 = 11;
 const VERDICT_NOT_BIT: u64 = 12;
+const ALREADY_ENTERED: u64 = 14;
 
-/// The words of a party's record.
-pub const RECORD: usize = 10;
+/// The words of a roll, with a bit for each bidder's number.
+pub const ROLL: usize = 16;
+/// The words of a party's record: ten numbers and the roll.
+pub const RECORD: usize = 10 + ROLL;
 /// The words of one probe's preprocessing.
 pub const SHEET: usize = 127;
-/// The most bids that are held.
+/// The most bids that are held, and the highest bidder number.
 pub const MAX_BIDS: u64 = 1_000;
 /// The most listed prices.
 pub const MAX_PRICES: u64 = 1_024;
@@ -73,9 +75,9 @@ pub fn deal(n: u64, own: u64, words: &[u64], bytes: &[u8], sheet: &mut [u64]) ->
     reply(try_deal(n, own, words, bytes, sheet))
 }
 
-/// Adds a bid's shares to the totals.
-pub fn add(record: &mut [u64], totals: &mut [u64], shares: &[u64]) -> u64 {
-    reply(try_add(record, totals, shares))
+/// Adds a bid's shares to the totals and marks its bidder.
+pub fn add(record: &mut [u64], totals: &mut [u64], bidder: u64, shares: &[u64]) -> u64 {
+    reply(try_add(record, totals, bidder, shares))
 }
 
 /// Writes the party's message of the current round.
@@ -134,6 +136,7 @@ fn try_open(n: u64, own: u64, k: u64, totals: &mut [u64], record: &mut [u64]) ->
         round: 1,
         sum: 0,
         carry: 0,
+        roll: [0; ROLL],
     };
     opened.write(record);
     Ok(())
@@ -218,15 +221,16 @@ impl<'a> Drawn<'a> {
     }
 }
 
-fn try_add(record: &mut [u64], totals: &mut [u64], shares: &[u64]) -> Result<(), u64> {
+fn try_add(record: &mut [u64], totals: &mut [u64], bidder: u64, shares: &[u64]) -> Result<(), u64> {
     let mut party = Record::read(record)?;
+    need((1..=MAX_BIDS).contains(&bidder), OUT_OF_RANGE)?;
     let length = 2 * party.k as usize;
     need(
         totals.len() == length && shares.len() == length,
         WRONG_LENGTH,
     )?;
     need(party.probes == 0 && party.round == 1, OUT_OF_TURN)?;
-    need(party.bids < MAX_BIDS, TOO_MANY_BIDS)?;
+    need(!party.has_bid(bidder), ALREADY_ENTERED)?;
     need(
         totals.iter().all(|&word| word < amount::P) && shares.iter().all(|&word| word < amount::P),
         SHARE_OUT_OF_RANGE,
@@ -234,7 +238,7 @@ fn try_add(record: &mut [u64], totals: &mut [u64], shares: &[u64]) -> Result<(),
     for (total, share) in totals.iter_mut().zip(shares) {
         *total = amount::add(*total, *share);
     }
-    party.bids += 1;
+    party.enter(bidder);
     party.write(record);
     Ok(())
 }
@@ -281,6 +285,16 @@ fn try_answer(record: &[u64], index: &mut u64, probes: &mut u64) -> Result<(), u
     Ok(())
 }
 
+/// The number of marks on a roll.
+fn marks(roll: &[u64; ROLL]) -> u64 {
+    roll.iter().map(|word| u64::from(word.count_ones())).sum()
+}
+
+/// Whether a roll has no mark below bidder 1 and none past bidder 1,000.
+fn marks_bidders_alone(roll: &[u64; ROLL]) -> bool {
+    roll[0] & 1 == 0 && roll[ROLL - 1] >> (MAX_BIDS % 64 + 1) == 0
+}
+
 /// Bit `i` of a number, bit 1 being the lowest.
 fn bit(number: u64, i: u64) -> u8 {
     ((number >> (i - 1)) & 1) as u8
@@ -298,6 +312,7 @@ struct Record {
     round: u64,
     sum: u64,
     carry: u64,
+    roll: [u64; ROLL],
 }
 
 /// The preprocessing of the current probe, judged.
@@ -324,13 +339,13 @@ impl Sheet<'_> {
 }
 
 impl Record {
-    /// The record in ten words, judged.
+    /// The record in its words, judged.
     fn read(words: &[u64]) -> Result<Record, u64> {
-        let &[n, own, k, bids, lo, hi, probes, round, sum, carry] = words else {
-            return Err(WRONG_LENGTH);
-        };
+        let words: &[u64; RECORD] = words.try_into().map_err(|_| WRONG_LENGTH)?;
+        let &[n, own, k, bids, lo, hi, probes, round, sum, carry, roll @ ..] = words;
         need(party_in_range(n, own) && prices_in_range(k), OUT_OF_RANGE)?;
-        need(bids <= MAX_BIDS, OUT_OF_RANGE)?;
+        need(bids == marks(&roll), OUT_OF_RANGE)?;
+        need(marks_bidders_alone(&roll), OUT_OF_RANGE)?;
         need(lo < hi && hi <= k + 1, OUT_OF_RANGE)?;
         need((1..=LAST_ROUND).contains(&round), OUT_OF_RANGE)?;
         need(sum < SUM_LIMIT, OUT_OF_RANGE)?;
@@ -348,11 +363,13 @@ impl Record {
             round,
             sum,
             carry,
+            roll,
         })
     }
 
     fn write(&self, words: &mut [u64]) {
-        words.copy_from_slice(&[
+        let (numbers, roll) = words.split_at_mut(RECORD - ROLL);
+        numbers.copy_from_slice(&[
             self.n,
             self.own,
             self.k,
@@ -364,6 +381,18 @@ impl Record {
             self.sum,
             self.carry,
         ]);
+        roll.copy_from_slice(&self.roll);
+    }
+
+    /// Whether a bidder from 1 to 1,000 is on the roll.
+    fn has_bid(&self, bidder: u64) -> bool {
+        self.roll[bidder as usize / 64] >> (bidder % 64) & 1 == 1
+    }
+
+    /// Marks a bidder from 1 to 1,000 who is not on the roll.
+    fn enter(&mut self, bidder: u64) {
+        self.roll[bidder as usize / 64] |= 1 << (bidder % 64);
+        self.bids += 1;
     }
 
     fn is_over(&self) -> bool {

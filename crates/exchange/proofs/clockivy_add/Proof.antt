@@ -33,6 +33,9 @@ module _ (c : tie.After-is-record) where
   abbrev totals : List ℕ
   totals = start .args .totals .now
 
+  abbrev bidder : ℕ
+  bidder = start .args .bidder
+
   abbrev shares : List ℕ
   shares = start .args .shares .now
 
@@ -64,11 +67,11 @@ returns-2 c =
     let j = r .before .before .before in
     let lent = ap not (sym (j .is-record .ensures)) ∙ r .before .before .if1 .left in
     let s = c .before .before .store .ensures in
-    let given : a .add .result ≡ add-reply (party-of (words j)) (totals j) (shares j) =
-    a .add .ensures .0 ∙ ap (λ (q : Party). add-reply q (totals j) (shares j)) (r .read .ensures) in (
+    let given : a .add .result ≡ add-reply (party-of (words j)) (totals j) (bidder j) (shares j) =
+    a .add .ensures .0 ∙ ap (λ (q : Party). add-reply q (totals j) (bidder j) (shares j)) (r .read .ensures) in (
       s .0 ∙ ap (λ (r : Reply). number-on (words j) (codeOf (r .judgement))) given,
       s .1 ∙ ap (λ (r : Reply). on-record (words j) (stored r (words j)) (words j)) given,
-      a .add .ensures .1 ∙ ap (λ (q : Party). add-left q (totals j) (shares j)) (r .read .ensures) ∙ sym (with-record (words j) _ _ lent),
+      a .add .ensures .1 ∙ ap (λ (q : Party). add-left q (totals j) (bidder j) (shares j)) (r .read .ensures) ∙ sym (with-record (words j) _ _ lent),
     )
 
 pub clockivy-add-spec : {M : Type 1} → statement M

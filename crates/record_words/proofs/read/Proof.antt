@@ -34,9 +34,12 @@ word-requires-9 c κs = search needs
 word-requires-10 : tie.Need-word-requires-10
 word-requires-10 c κs = search needs
 
+read-roll-requires : tie.Need-read-roll-requires
+read-roll-requires c κs = search needs
+
 returns : tie.Need-returns
 unfolding party-of
-returns c = rw (c .word10 .ensures, c .before .word9 .ensures, c .before .before .word8 .ensures, c .before .before .before .word7 .ensures, c .before .before .before .before .word6 .ensures, c .before .before .before .before .before .word5 .ensures, c .before .before .before .before .before .before .word4 .ensures, c .before .before .before .before .before .before .before .word3 .ensures, c .before .before .before .before .before .before .before .before .word2 .ensures, c .before .before .before .before .before .before .before .before .before .word .ensures)
+returns c = rw (c .read-roll .ensures, c .before .word10 .ensures, c .before .before .word9 .ensures, c .before .before .before .word8 .ensures, c .before .before .before .before .word7 .ensures, c .before .before .before .before .before .word6 .ensures, c .before .before .before .before .before .before .word5 .ensures, c .before .before .before .before .before .before .before .word4 .ensures, c .before .before .before .before .before .before .before .before .word3 .ensures, c .before .before .before .before .before .before .before .before .before .word2 .ensures, c .before .before .before .before .before .before .before .before .before .before .word .ensures)
 
 pub read-spec : {M : Type 1} → statement M
 read-spec =
@@ -52,4 +55,5 @@ read-spec =
     word-requires-8
     word-requires-9
     word-requires-10
+    read-roll-requires
     returns)

@@ -1,44 +1,18 @@
--- `write` meets its contract: ten stores one after the other are the ten words. Assumes nothing.
+-- `write` meets its contract: the ten numbers, then the roll after them. Assumes nothing.
 use mathlib.Core.Path.{ap, _∙_}
-use mathlib.Core.List.{List, _++_, append-nil}
+use mathlib.Core.List.{List, _++_}
 use Prim.Native.Nat.{ℕ}
-use native.Mathlib.Omega.{arith}
-use lib.ListN.{length-set, drop-of-length-le}
-use lib.Seq.{sets-eq}
+use lib.ListN.{take}
 use Rattle.record_words.specs.Words.{words-of}
 use borrow.Author.Needs.{needs}
 use Rattle.record_words.proofs.write.Statement.{statement}
 use Rattle.record_words.proofs.write.Tie as tie
 
-slice-write-words : tie.Need-slice-write-words
-slice-write-words c = search needs
+write-numbers-requires : tie.Need-write-numbers-requires
+write-numbers-requires c κs = search needs
 
-slice-write-words-2 : tie.Need-slice-write-words-2
-slice-write-words-2 c = simp length-set (omega (arith, c .pre))
-
-slice-write-words-3 : tie.Need-slice-write-words-3
-slice-write-words-3 c = simp length-set (omega (arith, c .pre))
-
-slice-write-words-4 : tie.Need-slice-write-words-4
-slice-write-words-4 c = simp length-set (omega (arith, c .pre))
-
-slice-write-words-5 : tie.Need-slice-write-words-5
-slice-write-words-5 c = simp length-set (omega (arith, c .pre))
-
-slice-write-words-6 : tie.Need-slice-write-words-6
-slice-write-words-6 c = simp length-set (omega (arith, c .pre))
-
-slice-write-words-7 : tie.Need-slice-write-words-7
-slice-write-words-7 c = simp length-set (omega (arith, c .pre))
-
-slice-write-words-8 : tie.Need-slice-write-words-8
-slice-write-words-8 c = simp length-set (omega (arith, c .pre))
-
-slice-write-words-9 : tie.Need-slice-write-words-9
-slice-write-words-9 c = simp length-set (omega (arith, c .pre))
-
-slice-write-words-10 : tie.Need-slice-write-words-10
-slice-write-words-10 c = simp length-set (omega (arith, c .pre))
+write-roll-requires : tie.Need-write-roll-requires
+write-roll-requires c κs = search needs
 
 same-length : tie.Need-same-length
 same-length c = search needs
@@ -46,25 +20,10 @@ same-length c = search needs
 returns : tie.Need-returns
 unfolding words-of
 returns c =
-    let q = c .args .q in
-    let words = c .args .words .now in
-    sets-eq (words-of q) words 0 (omega (arith, c .pre))
-    ∙ ap (λ (rest : List ℕ). words-of q ++ rest) (drop-of-length-le words {i = 10} (omega (arith, c .pre)))
-    ∙ append-nil (words-of q)
+    let second = c .before .before in
+    let first = second .before .before .before .before in
+    let marks = first .before .before .before .args .q .roll .words in
+    second .write-roll .ensures ∙ ap (λ (ws : List ℕ). take 10 ws ++ marks) (first .write-numbers .ensures)
 
 pub write-spec : {M : Type 1} → statement M
-write-spec =
-    tie.close
-    (tie.spec
-    slice-write-words
-    slice-write-words-2
-    slice-write-words-3
-    slice-write-words-4
-    slice-write-words-5
-    slice-write-words-6
-    slice-write-words-7
-    slice-write-words-8
-    slice-write-words-9
-    slice-write-words-10
-    same-length
-    returns)
+write-spec = tie.close (tie.spec write-numbers-requires write-roll-requires same-length returns)

@@ -18,7 +18,7 @@ use std::thread::available_parallelism;
 use std::time::{Duration, Instant};
 
 use clockivy_checks::engine::{Engine, Plain, Verified};
-use clockivy_checks::record::{HI, LO};
+use clockivy_checks::record::{mark, marks, BIDS, HI, LO};
 use clockivy_checks::rng::Rng;
 use clockivy_reference::{probe_limit, threshold, LAST_ROUND, MAX_BIDS, RECORD, SHEET};
 
@@ -27,6 +27,8 @@ const K: u64 = 1_024;
 const TABLE: usize = 2 * K as usize;
 /// The party whose calls are timed one by one.
 const OWN: u64 = 4;
+/// The bidder who is added: an even one, and the odd ones are on the roll.
+const NEXT: u64 = MAX_BIDS / 2;
 /// The round that stands for rounds 2 to 32, which do the same work.
 const MIDDLE: u64 = 17;
 
@@ -193,7 +195,9 @@ struct Inputs {
     /// The timed party after the first probe, and the rounds of that probe.
     seat: Seat,
     rounds: Vec<Round>,
-    /// Shares below the prime that are added over and over, and to what.
+    /// The timed party with half of the bids added, shares below the prime that
+    /// are added over and over, and to what.
+    half: [u64; RECORD],
     addend: Vec<u64>,
     sum: Vec<u64>,
     /// What the calls write.
@@ -232,6 +236,7 @@ impl Inputs {
             rounds,
             bids,
             draws,
+            half: half(),
             addend: rng.words(TABLE, Rng::amount_share),
             sum: vec![0; TABLE],
             shares: vec![0; TABLE],
@@ -252,8 +257,8 @@ fn deal<E: Engine>(inputs: &mut Inputs) {
 }
 
 fn add<E: Engine>(inputs: &mut Inputs) {
-    let mut record = [N, OWN, K, 0, 0, K + 1, 0, 1, 0, 0];
-    done(E::add(&mut record, &mut inputs.sum, &inputs.addend));
+    let mut record = inputs.half;
+    done(E::add(&mut record, &mut inputs.sum, NEXT, &inputs.addend));
 }
 
 fn say<E: Engine, const ROUND: u64>(inputs: &mut Inputs) {
@@ -269,6 +274,18 @@ fn hear<E: Engine, const ROUND: u64>(inputs: &mut Inputs) {
     let Seat { totals, sheets, .. } = &inputs.seat;
     let mut record = round.record;
     done(E::hear(&mut record, totals, sheets, &round.messages));
+}
+
+/// The record of the timed party before the first round, with every second
+/// bidder on the roll.
+fn half() -> [u64; RECORD] {
+    let mut record = [0; RECORD];
+    done(Plain::open(N, OWN, K, &mut [0; TABLE], &mut record));
+    for bidder in (1..=MAX_BIDS).step_by(2) {
+        mark(&mut record, bidder);
+    }
+    record[BIDS] = marks(&record);
+    record
 }
 
 /// Every call of an auction, for all parties.
@@ -296,10 +313,10 @@ fn seats<E: Engine>(bids: &[Bid], draws: &[Drawn]) -> Vec<Seat> {
         seats.push(seat);
     }
     let mut shares = vec![0; TABLE];
-    for Bid { table, coins } in bids {
+    for (bidder, Bid { table, coins }) in (1..).zip(bids) {
         for (own, seat) in (1..).zip(&mut seats) {
             done(E::split(N, own, K, table, coins, &mut shares));
-            done(E::add(&mut seat.record, &mut seat.totals, &shares));
+            done(E::add(&mut seat.record, &mut seat.totals, bidder, &shares));
         }
     }
     for (probe, Drawn { words, bytes }) in draws.iter().enumerate() {

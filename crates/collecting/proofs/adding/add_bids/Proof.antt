@@ -10,6 +10,8 @@ use Rattle.auction.specs.Auction.{IsAuction}
 use Rattle.auction.proofs.Closed.{totals-after, no-totals}
 use Rattle.draws.specs.Draws.{bid-coins, after-bids}
 use Rattle.sections.specs.Sections.{tables}
+use Rattle.roll.specs.Marks.{empty}
+use Rattle.standing.specs.Numbered.{numbered}
 use Rattle.standing.proofs.Standing.{auction-of, Holds}
 use Rattle.draws.proofs.Drawn.{Word, coins-word}
 use Rattle.standing.proofs.Holding.{Bidding, bidding-start, bidding-more, bidding-end, bids-left, bids-done}
@@ -24,9 +26,9 @@ Inv-loop n k bids input at state totals₀ so-far₀ i₀ totals so-far i =
     × (length totals ≡ length totals₀)
     × (after-bids (threshold n) k (bids - i) (so-far .state) ≡ after-bids (threshold n) k bids state)
     × (IsAuction (auction-of n k bids (drop at input))
-    → Holds (auction-of n k bids (drop at input)) 0 (no-totals (auction-of n k bids (drop at input))) (so-far₀ .parties) totals₀
+    → Holds (auction-of n k bids (drop at input)) empty (no-totals (auction-of n k bids (drop at input))) (so-far₀ .parties) totals₀
     → Bidding (auction-of n k bids (drop at input)) bids input
-    (totals-after (zip (tables k bids (drop at input)) (bid-coins (threshold n) k bids state)) (no-totals (auction-of n k bids (drop at input))))
+    (totals-after (zip (numbered 1 (tables k bids (drop at input))) (bid-coins (threshold n) k bids state)) (no-totals (auction-of n k bids (drop at input))))
     (so-far .parties) totals (so-far .at) (so-far .state) i)
 
 abbrev μ-loop : tie.MeasureT-loop
@@ -39,8 +41,11 @@ loop-holds c =
       omega (arith, s .fits .state),
       refl,
       ap (λ (m : ℕ). after-bids (threshold (s .args .n)) (s .args .k) m (s .args .state)) (sub-zero (s .args .bids)),
-      bidding-start (s .args .n) (s .args .k) (s .args .bids) (s .args .input .now) (s .args .at) (s .args .state) _ _,
+      bidding-start (s .args .n) (s .args .k) (s .args .bids) (s .args .input .now) (s .args .at) (s .args .state) (omega (arith, s .fits .state)) _ _,
     )
+
+add-add-next : tie.Need-add-add-next Inv-loop μ-loop
+add-add-next c = search needs
 
 add-next-requires : tie.Need-add-next-requires Inv-loop μ-loop
 add-next-requires c κs =
@@ -65,7 +70,7 @@ loop-again c =
       c .before .totals .given ∙ l .inv .2,
       bids-left (threshold (a .n)) (a .k) (a .bids) (l .i) _ _ _ h (r .ensures .1) (l .inv .3),
       λ A H.
-          bidding-more A (record { bids = []; sheets = [] }) (a .bids) (a .input .now) _ _ _ _ _ _ _ (l .i) (l .inv .4 A H) h (s .pre .3) (l .inv .1) _ _
+          bidding-more A (record { bids = []; sheets = [] }) (a .bids) (a .input .now) _ _ _ _ _ _ _ (l .i) (l .inv .4 A H) h _ _
           (r .ensures .0) (r .ensures .1) (r .ensures .2),
     )
 
@@ -88,6 +93,7 @@ add-bids-spec =
     Inv-loop
     μ-loop
     loop-holds
+    add-add-next
     add-next-requires
     add-i
     loop-less

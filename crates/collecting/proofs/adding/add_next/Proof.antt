@@ -89,8 +89,8 @@ returns c =
       c .before .before .before .before .before .before .before .before .before .before .read-table .ensures .1 ∙ ap (λ (z : ℕ). a .at + bytes-of z input) lt,
       c .before .before .before .before .before .before .before .draw-coins .ensures .1 ∙ ap (λ (z : ℕ). later next-coin z (a .state)) lc,
       λ i h. (
-        c .before .before .add-all .ensures i h .0 ∙ ap₂ (λ (x y : List ℕ). party-added (a .n) (a .k) x y (a .parties) (a .totals .now) i) et ec,
-        c .before .before .add-all .ensures i h .1 ∙ ap₂ (λ (x y : List ℕ). totals-added (a .n) (a .k) x y (a .parties) (a .totals .now) i) et ec,
+        c .before .before .add-all .ensures i h .0 ∙ ap₂ (λ (x y : List ℕ). party-added (a .n) (a .k) (a .bidder) x y (a .parties) (a .totals .now) i) et ec,
+        c .before .before .add-all .ensures i h .1 ∙ ap₂ (λ (x y : List ℕ). totals-added (a .n) (a .k) (a .bidder) x y (a .parties) (a .totals .now) i) et ec,
       ),
     )
 

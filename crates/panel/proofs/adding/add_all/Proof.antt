@@ -1,27 +1,27 @@
 -- `add_all` meets its contract: the first i parties have added the bid. Assumes nothing.
-use mathlib.Core.Path.{_≡_, ap, _∙_}
+use mathlib.Core.Path.{_≡_, ap₂, _∙_}
 use mathlib.Core.List.{List}
 use Prim.Native.Nat.{ℕ, _+_, _-_, _*_, _≤_, _<_}
 use native.Mathlib.Omega.{arith}
-use lib.ListN.{length, getD}
+use lib.ListN.{length}
 use Rattle.record.specs.declared.Party.{Party}
 use Rattle.session.specs.Add.{add-reply, add-left}
 use Rattle.record.specs.Record.{blank}
 use Rattle.panel.specs.Parties.{shares-of, party-added, totals-added}
-use Rattle.panel.proofs.Parts.{room, Spread, spread-start, spread-more, lent, Rowed, rowed-start, rowed-more}
+use Rattle.panel.proofs.Parts.{room, Spread, spread-start, spread-more, lent, Rowed, rowed-start, rowed-more, getD-there}
 use borrow.Author.Needs.{needs}
 use Rattle.panel.proofs.adding.add_all.Statement.{statement}
 use Rattle.panel.proofs.adding.add_all.Tie as tie
 
 abbrev Inv-loop : tie.InvT-loop
-Inv-loop n k table coins totals₀ parties width last after₀ at₀ i₀ totals after at i =
+Inv-loop n k bidder table coins totals₀ parties width last after₀ at₀ i₀ totals after at i =
     (i ≤ n)
     × (at ≡ i * (2 * k))
-    × Spread (2 * k) n (totals-added n k table coins parties totals₀) totals₀ totals i
-    × Rowed blank n (party-added n k table coins parties totals₀) parties after i
+    × Spread (2 * k) n (totals-added n k bidder table coins parties totals₀) totals₀ totals i
+    × Rowed blank n (party-added n k bidder table coins parties totals₀) parties after i
 
 abbrev μ-loop : tie.MeasureT-loop
-μ-loop n k table coins totals₀ parties width last after₀ at₀ i₀ totals after at i = n - i
+μ-loop n k bidder table coins totals₀ parties width last after₀ at₀ i₀ totals after at i = n - i
 
 mul-width : tie.Need-mul-width Inv-loop μ-loop
 mul-width c = search needs
@@ -81,7 +81,8 @@ loop-again c =
     let l = c .before .before .before .before .before .before .loop in
     let s = c .before .before .before .before .before .before .before .before .before .before in
     let a = s .args in
-    let q : Party = getD (a .t5) (l .i) blank in
+    let long : l .i < length (a .t6) = omega (arith, s .good, s .pre .0, c .before .before .before .before .before .loop-test .taken) in
+    let q = getD-there (a .t6) (l .i) _ blank long in
     let w : List ℕ = shares-of (a .n) (a .k) (l .i + 1) (a .table .now) (a .coins .now) in
     let h : l .i < a .n = c .before .before .before .before .before .loop-test .taken in
     let k : l .at + 2 * a .k - l .at ≡ 2 * a .k = omega arith in
@@ -89,9 +90,9 @@ loop-again c =
       omega arith,
       omega (arith, l .inv .1),
       spread-more (2 * a .k) (a .n) _ (a .totals .now) (l .totals) (l .i) (l .at) _ _ (l .inv .2) (s .pre .2) h (l .inv .1) k (c .before .totals .given .0)
-          (c .before .before .add-one .ensures .1 ∙ ap (λ (x : List ℕ). add-left q x w) p),
+          (c .before .before .add-one .ensures .1 ∙ ap₂ (λ (q : Party) (x : List ℕ). add-left q x (a .bidder) w) q p),
       rowed-more blank (a .n) _ _ (l .after) (l .i) _ (l .inv .3) (omega (arith, s .good, s .pre .0))
-          (c .before .before .add-one .ensures .0 ∙ ap (λ (x : List ℕ). add-reply q x w .party) p),
+          (c .before .before .add-one .ensures .0 ∙ ap₂ (λ (q : Party) (x : List ℕ). add-reply q x (a .bidder) w .party) q p),
     )
 
 same-length : tie.Need-same-length Inv-loop μ-loop

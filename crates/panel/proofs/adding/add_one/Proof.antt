@@ -54,8 +54,8 @@ returns c =
     let a = s .args in
     let blank = ap (take (2 * a .k)) (z .zeros .ensures) ∙ take-replicate (2 * a .k) 512 0 (omega (arith, s .pre)) in
     let w = prefix-is _ _ (c .before .before .before .before .before .before .before .split .last .1 .1 .1 .1 .1 .0) (fits z) (c .before .before .before .before .before .before .shares2 .given) ∙ c .before .before .before .before .before .before .before .split .ensures .1 ∙ ap (split-left (a .n) (a .own) (a .k) (a .table .now) (a .coins .now)) blank in (
-      c .returned .ensures ∙ ap (λ (r : Reply). r .party) (c .before .before .before .add .ensures .0 ∙ ap (add-reply (a .q) (a .totals .now)) w),
-      c .before .before .before .add .ensures .1 ∙ ap (add-left (a .q) (a .totals .now)) w,
+      c .returned .ensures ∙ ap (λ (r : Reply). r .party) (c .before .before .before .add .ensures .0 ∙ ap (add-reply (a .q) (a .totals .now) (a .bidder)) w),
+      c .before .before .before .add .ensures .1 ∙ ap (add-left (a .q) (a .totals .now) (a .bidder)) w,
     )
 
 pub add-one-spec : {M : Type 1} → statement M

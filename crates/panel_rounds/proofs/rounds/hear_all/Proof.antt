@@ -1,10 +1,14 @@
 -- `hear_all` meets its contract. Assumes nothing.
+use mathlib.Core.Path.{ap, _∙_}
 use Prim.Native.Nat.{_-_, _*_, _≤_}
 use native.Mathlib.Omega.{arith}
 use Rattle.search.specs.Limit.{limit}
+use Rattle.record.specs.declared.Party.{Party}
 use Rattle.record.specs.Record.{blank}
+use Rattle.hearing.specs.Hear.{hear-reply}
+use Rattle.panel.specs.Parties.{part}
 use Rattle.panel_rounds.specs.Round.{heard-by}
-use Rattle.panel.proofs.Parts.{room, Rowed, rowed-start, rowed-more}
+use Rattle.panel.proofs.Parts.{room, Rowed, rowed-start, rowed-more, getD-there}
 use borrow.Author.Needs.{needs}
 use Rattle.panel_rounds.proofs.rounds.hear_all.Statement.{statement}
 use Rattle.panel_rounds.proofs.rounds.hear_all.Tie as tie
@@ -52,7 +56,13 @@ unfolding heard-by
 loop-again c =
     let l = c .before .before .before .loop in
     let s = c .before .before .before .before .before .before .before in
-    (omega arith, rowed-more blank (s .args .n) _ _ (l .after) (l .i) _ (l .inv .1) (omega (arith, s .good, s .pre .0)) (c .hear-one .ensures))
+    let a = s .args in
+    let there = getD-there (a .t3) (l .i) _ blank (omega (arith, s .good, s .pre .0, c .before .before .loop-test .taken)) in (
+      omega arith,
+      rowed-more blank (a .n) _ _ (l .after) (l .i) _ (l .inv .1) (omega (arith, s .good, s .pre .0))
+          (c .hear-one .ensures
+          ∙ ap (λ (q : Party). hear-reply q (part (2 * a .k) (l .i) (a .totals .now)) (part (127 * limit (a .k)) (l .i) (a .sheets .now)) (a .messages .now) .party) there),
+    )
 
 returns : tie.Need-returns Inv-loop μ-loop
 returns c i h = c .before .loop .inv .1 .done i (omega (arith, c .loop-test .left))

@@ -1,9 +1,15 @@
 -- `say_all` meets its contract. Assumes nothing.
+use mathlib.Core.Path.{ap, _∙_}
 use Prim.Native.Nat.{_-_, _*_, _≤_}
 use native.Mathlib.Omega.{arith}
 use Rattle.search.specs.Limit.{limit}
+use Rattle.record.specs.declared.Party.{Party}
+use Rattle.record.specs.Record.{blank}
+use Rattle.saying.specs.Say.{say-reply}
+use Rattle.auction.specs.Canonical.{word}
+use Rattle.panel.specs.Parties.{part}
 use Rattle.panel_rounds.specs.Round.{said-by, all-said}
-use Rattle.panel.proofs.Parts.{room, Rowed, rowed-start, rowed-more, rowed-all}
+use Rattle.panel.proofs.Parts.{room, Rowed, rowed-start, rowed-more, rowed-all, getD-there}
 use borrow.Author.Needs.{needs}
 use Rattle.panel_rounds.proofs.rounds.say_all.Statement.{statement}
 use Rattle.panel_rounds.proofs.rounds.say_all.Tie as tie
@@ -51,7 +57,13 @@ unfolding said-by
 loop-again c =
     let l = c .before .before .before .loop in
     let s = c .before .before .before .before .before .before .before in
-    (omega arith, rowed-more 0 (s .args .n) _ _ (l .messages) (l .i) _ (l .inv .1) (omega (arith, c .before .before .loop-test .taken, s .pre .4)) (c .say-one .ensures))
+    let a = s .args in
+    let there = getD-there (a .t3) (l .i) _ blank (omega (arith, s .good, s .pre .0, c .before .before .loop-test .taken)) in (
+      omega arith,
+      rowed-more 0 (a .n) _ _ (l .messages) (l .i) _ (l .inv .1) (omega (arith, c .before .before .loop-test .taken, s .pre .4))
+          (c .say-one .ensures
+          ∙ ap (λ (q : Party). word (say-reply q (part (2 * a .k) (l .i) (a .totals .now)) (part (127 * limit (a .k)) (l .i) (a .sheets .now)))) there),
+    )
 
 same-length : tie.Need-same-length Inv-loop μ-loop
 same-length c = c .before .loop .inv .1 .long

@@ -6,7 +6,7 @@ use native.Mathlib.Omega.{arith}
 use Rattle.search.specs.declared.Bracket.{Bracket}
 use Rattle.search.specs.Bracket.{middle}
 use Rattle.comparison.specs.Probe.{SheetCoins}
-use Rattle.auction.specs.Auction.{IsAuction}
+use Rattle.auction.specs.Auction.{Bid, IsAuction}
 use Rattle.auction.specs.Coins.{Coins, InRange}
 use Rattle.auction.proofs.Closed.{polynomials, probe-at, fresh-stage}
 use Rattle.auction.proofs.Round.{Ready, stage-of}
@@ -19,7 +19,7 @@ use Rattle.probing.proofs.probes.probe.Tie as tie
 abbrev Inv-loop : tie.InvT-loop
 Inv-loop n k totals sheets after₀ i₀ after i =
     (i ≤ 32)
-    × ((bids : List (List ℕ)) (c : Coins) → IsAuction (record { n = n; k = k; bids = bids }) → InRange (record { n = n; k = k; bids = bids }) c
+    × ((bids : List Bid) (c : Coins) → IsAuction (record { n = n; k = k; bids = bids }) → InRange (record { n = n; k = k; bids = bids }) c
     → (b : Bracket) (m : ℕ) (s : SheetCoins) (ss : List SheetCoins) → Ready (record { n = n; k = k; bids = bids }) c b m s ss
     → Stands (record { n = n; k = k; bids = bids }) c (fresh-stage b m) after₀ totals sheets
     → Stands (record { n = n; k = k; bids = bids }) c

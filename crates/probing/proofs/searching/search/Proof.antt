@@ -2,18 +2,21 @@
 use mathlib.Core.Path.{_≡_, refl, sym, ap, _∙_}
 use mathlib.Core.Bool.{Bool, true, false, not, _&&_}
 use mathlib.Core.List.{List}
-use Prim.Native.Nat.{ℕ, _-_, _≤_, _<_}
+use Prim.Native.Nat.{_-_, _≤_, _<_}
 use native.Mathlib.Omega.{arith}
 use lib.Dec.{ltb}
 use borrow.Author.Tests.{ltb-true, ltb-false, not-true}
 use Rattle.ranges.proofs.Loops.{and-left, and-right}
 use lib.ListN.{length, getD, length-set}
-use Rattle.search.specs.Bracket.{start, over}
+use Rattle.search.specs.Bracket.{start, middle, over}
 use Rattle.record.specs.Record.{bracket, blank}
-use Rattle.auction.specs.Auction.{IsAuction}
+use Rattle.panel.proofs.Parts.{getD-there}
+use Rattle.session.specs.Answer.{answer-reply}
+use Rattle.auction.specs.Auction.{Bid, IsAuction}
 use Rattle.auction.specs.Coins.{Coins, InRange}
 use Rattle.auction.proofs.Closed.{fresh-stage}
 use Rattle.standing.proofs.Standing.{Stands}
+use Rattle.probing.specs.Follows.{priced, mark}
 use Rattle.probing.proofs.Leading.{Led, led-start, led-more, led-over, follows}
 use borrow.Author.Needs.{needs}
 use Rattle.probing.proofs.searching.search.Statement.{statement}
@@ -24,8 +27,9 @@ Inv-loop n k totals sheets index₀ verdict₀ here₀ more₀ done₀ index ver
     (done ≤ 9)
     × (length index ≡ 9)
     × (length verdict ≡ 9)
+    × (length here ≡ 9)
     × (more ≡ not (over (bracket (getD here 0 blank))))
-    × ((bids : List (List ℕ)) (c : Coins) → IsAuction (record { n = n; k = k; bids = bids }) → InRange (record { n = n; k = k; bids = bids }) c
+    × ((bids : List Bid) (c : Coins) → IsAuction (record { n = n; k = k; bids = bids }) → InRange (record { n = n; k = k; bids = bids }) c
     → Stands (record { n = n; k = k; bids = bids }) c (fresh-stage (start k) 0) here₀ totals sheets
     → Led (record { n = n; k = k; bids = bids }) c here totals sheets index verdict done)
 
@@ -47,7 +51,11 @@ going-requires : tie.Need-going-requires Inv-loop μ-loop
 going-requires c κs = search needs
 
 loop-holds : tie.Need-loop-holds Inv-loop μ-loop
-loop-holds c = (omega arith, refl, refl, c .going .ensures, λ bids d A C H. led-start _ _ bids d A C _ _ _ _ _ H)
+loop-holds c =
+    let parties = c .before .before .before .before .args .parties in
+    let long : length parties ≡ 9 = search needs in
+    let first = getD-there parties 0 _ blank (omega arith) in
+    (omega arith, refl, refl, long, c .going .ensures ∙ ap (λ q. not (over (bracket q))) first, λ bids d A C H. led-start _ _ bids d A C _ _ _ _ _ H)
 
 array-copy-out-q : tie.Need-array-copy-out-q Inv-loop μ-loop
 array-copy-out-q c = search needs
@@ -91,14 +99,20 @@ loop-again c =
     let a = c .before .before .before .before .before .before .before .before .before .before .before .before .args in
     let t = c .before .before .before .before .before .before .loop-test .taken in
     let h : l .done < 9 = inside (c .before .before .before .before .before .before) in
-    let g : over (bracket (getD (l .here) 0 blank)) ≡ false = not-true _ (sym (l .inv .3) ∙ and-right (ltb (l .done) 9) (l .more) t) in (
+    let after = c .before .before .before .before .probe in
+    let long : length (after .result) ≡ 9 = search needs in
+    let here = getD-there (l .here) 0 _ blank (omega (arith, l .inv .3)) in
+    let next = getD-there (after .result) 0 _ blank (omega arith) in
+    let g : over (bracket (getD (l .here) 0 blank)) ≡ false = not-true _ (sym (l .inv .4) ∙ and-right (ltb (l .done) 9) (l .more) t) in (
       omega arith,
       simp length-set (l .inv .1),
       simp length-set (l .inv .2),
-      c .going2 .ensures,
+      long,
+      c .going2 .ensures ∙ ap (λ q. not (over (bracket q))) next,
       λ bids d A C H.
-          led-more (a .n) (a .k) bids d A C (a .totals .now) (a .sheets .now) (l .here) (c .before .before .before .before .probe .result) (l .index) (l .verdict) (l .done)
-          (l .inv .4 bids d A C H) g (c .before .before .before .before .probe .ensures) _ _ (c .before .before .probed .ensures) (c .before .decided .ensures) (l .inv .1) (l .inv .2) h,
+          led-more (a .n) (a .k) bids d A C (a .totals .now) (a .sheets .now) (l .here) (after .result) (l .index) (l .verdict) (l .done)
+          (l .inv .5 bids d A C H) g (after .ensures) _ _ (c .before .before .probed .ensures ∙ ap (λ q. middle (bracket q)) here)
+          (c .before .decided .ensures ∙ ap (λ q. mark (q .lo) (c .before .before .probed .result)) next) (l .inv .1) (l .inv .2) h,
     )
 
 array-copy-out-last : tie.Need-array-copy-out-last Inv-loop μ-loop
@@ -114,11 +128,11 @@ returns c =
     let a = s .args in (
       l .inv .0,
       λ bids d A C H.
-          let L = l .inv .4 bids d A C H in
+          let L = l .inv .5 bids d A C H in
           follows (a .n) (a .k) bids d A C (a .totals .now) (a .sheets .now) (l .here) (l .index) (l .verdict) (l .done) L
           (led-over (a .n) (a .k) bids d A C (a .totals .now) (a .sheets .now) (l .here) (l .index) (l .verdict) (l .done) L (s .pre .1)
-          (λ e. ltb-false (l .done) 9 (stops (ltb (l .done) 9) (l .more) (c .before .before .loop-test .left) (l .inv .3 ∙ ap not e))))
-          _ refl refl refl (c .price .ensures),
+          (λ e. ltb-false (l .done) 9 (stops (ltb (l .done) 9) (l .more) (c .before .before .loop-test .left) (l .inv .4 ∙ ap not e))))
+          _ refl refl refl (c .price .ensures ∙ ap (λ q. priced (answer-reply q)) (getD-there (l .here) 0 _ blank (omega (arith, l .inv .3)))),
     )
 
 pub search-spec : {M : Type 1} → statement M

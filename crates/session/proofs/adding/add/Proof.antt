@@ -1,11 +1,12 @@
 -- `add` meets its contract: nothing is written unless the call is accepted. Assumes nothing.
-use mathlib.Core.Path.{_≡_, sym, _∙_}
+use mathlib.Core.Path.{_≡_, sym, ap, _∙_}
 use native.Mathlib.Omega.{arith}
 use Rattle.refusal.specs.declared.Judgement.the-variants.{Accepted}
 use Rattle.session.specs.Add.{add-judgement}
-use Rattle.record.specs.Updates.{counted}
+use Rattle.record.specs.declared.Party.{Party}
 use Rattle.refusal.proofs.Judging.{kept-new, kept-old}
 use Rattle.record.proofs.Replies.{next-accepted, next-refused}
+use Rattle.record.proofs.Soundness.{few-bids}
 use Rattle.session.proofs.Laws.{adds}
 use borrow.Author.Needs.{needs}
 use Rattle.session.proofs.adding.add.Statement.{statement}
@@ -15,7 +16,7 @@ abbrev start : tie.After-enum-told → tie.Start
 start c = c .before .before .before .before .before .before
 
 yes : (c : tie.After-enum-told)
-    → add-judgement (start c .args .q) (start c .args .totals .now) (start c .args .shares .now) ≡ Accepted
+    → add-judgement (start c .args .q) (start c .args .totals .now) (start c .args .bidder) (start c .args .shares .now) ≡ Accepted
 yes c = sym (c .before .before .judge .ensures) ∙ c .enum-told .given .1
 
 judge-requires : tie.Need-judge-requires
@@ -41,11 +42,11 @@ enum-told c = search needs
 
 add-words-requires : tie.Need-add-words-requires
 add-words-requires c κs =
-    let h = adds _ _ _ (yes (c .before)) in
+    let h = adds _ _ _ _ (yes (c .before)) in
     h .totals-long ∙ sym (h .shares-long)
 
-add-next : tie.Need-add-next
-add-next c = omega (arith, adds _ _ _ (yes (c .before .before .before .before .before)) .room)
+entered-requires : tie.Need-entered-requires
+entered-requires c κs = omega (arith, few-bids _ (adds _ _ _ _ (yes (c .before .before .before .before)) .sound))
 
 accepted-requires : tie.Need-accepted-requires
 accepted-requires c κs = search needs
@@ -54,10 +55,10 @@ same-length-2 : tie.Need-same-length-2
 same-length-2 c = search needs
 
 returns-2 : tie.Need-returns-2
-unfolding counted
 returns-2 c =
-    let j = yes (c .before .before .before .before .before .before) in
-    (c .accepted .ensures ∙ sym (next-accepted _ _ _ j), c .before .before .before .before .add-words .ensures ∙ sym (kept-new _ _ _ j))
+    let d = c .before .before .before .before in
+    let j = yes (d .before .before) in
+    (c .accepted .ensures ∙ ap (λ (q : Party). record { judgement = Accepted; party = q }) (c .before .entered .ensures) ∙ sym (next-accepted _ _ _ j), d .add-words .ensures ∙ sym (kept-new _ _ _ j))
 
 pub add-spec : {M : Type 1} → statement M
 add-spec =
@@ -70,7 +71,7 @@ add-spec =
     returns
     enum-told
     add-words-requires
-    add-next
+    entered-requires
     accepted-requires
     same-length-2
     returns-2)

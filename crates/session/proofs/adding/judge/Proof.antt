@@ -1,9 +1,11 @@
 -- `judge` of a bid meets its contract: each return answers one test of the list. Assumes nothing.
 use mathlib.Core.Path.{_≡_, sym, ap, ap₂, _∙_}
-use mathlib.Core.Bool.{false, not, _&&_}
+use mathlib.Core.Bool.{Bool, false, not, _&&_}
 use Prim.Native.Nat.{_≤_}
 use native.Mathlib.Omega.{arith}
-use borrow.Author.Tests.{not-false, le-leb, lt-leb}
+use borrow.Author.Tests.{not-false}
+use Rattle.ranges.proofs.Loops.{and-left}
+use Rattle.roll.specs.Marks.{bidder}
 use Rattle.record.specs.Record.{sound}
 use Rattle.session.specs.Add.{amounts-below, add-judgement}
 use Rattle.refusal.proofs.Judging.{refuses, passes, all-passed}
@@ -12,30 +14,44 @@ use borrow.Author.Needs.{needs}
 use Rattle.session.proofs.adding.judge.Statement.{statement}
 use Rattle.session.proofs.adding.judge.Tie as tie
 
-abbrev start : tie.Else1 → tie.Start
+abbrev start : tie.After-is-bidder → tie.Start
 start c = c .before .before .before .before
 
-abbrev later : tie.After-all-below2 → tie.Start
-later c = start (c .before .before .before .before .before .before .before .before)
+-- the test of the ranges, and what has passed where it did
+ranges : (c : tie.After-is-bidder)
+    → not (c .before .sound .result && c .is-bidder .result) ≡ not (sound (start c .args .q) && bidder (start c .args .bidder))
+ranges c = ap₂ (λ (a b : Bool). not (a && b)) (c .before .sound .ensures) (c .is-bidder .ensures)
 
--- a sound record, and the words of both lists
-whole : (c : tie.Else1) → not (sound (start c .args .q)) ≡ false
-whole c = ap not (sym (c .before .sound .ensures)) ∙ c .if1 .left
+whole : (c : tie.Else1) → not (sound (start (c .before) .args .q) && bidder (start (c .before) .args .bidder)) ≡ false
+whole c = sym (ranges (c .before)) ∙ c .if1 .left
 
-few : (c : tie.Else1) → start c .args .q .k ≤ 1024
-few c = sound-facts _ (not-false _ (whole c)) .listed .prices-most
+few : (c : tie.Else1) → start (c .before) .args .q .k ≤ 1024
+few c = sound-facts _ (and-left _ _ (not-false _ (whole c))) .listed .prices-most
+
+-- the words of both lists
+abbrev unmarked : tie.After-all-below2 → tie.Else4
+unmarked c = c .before .before
+
+abbrev in-turn : tie.Else4 → tie.Else3
+in-turn c = c .before .before .before
+
+abbrev sized : tie.Else3 → tie.Else2
+sized c = c .before .before .before
 
 below : (c : tie.After-all-below2)
-    → c .before .all-below .result && c .all-below2 .result
-    ≡ amounts-below (later c .args .totals .now) && amounts-below (later c .args .shares .now)
+    → let a = start (sized (in-turn (unmarked c)) .before .before) .args in
+    c .before .all-below .result && c .all-below2 .result ≡ amounts-below (a .totals .now) && amounts-below (a .shares .now)
 below c = ap₂ _&&_ (c .before .all-below .ensures) (c .all-below2 .ensures)
 
 sound-requires : tie.Need-sound-requires
 sound-requires c κs = search needs
 
+is-bidder-requires : tie.Need-is-bidder-requires
+is-bidder-requires c κs = search needs
+
 returns : tie.Need-returns
 unfolding add-judgement
-returns c = sym (refuses _ _ _ (ap not (sym (c .before .sound .ensures)) ∙ c .if1 .taken))
+returns c = sym (refuses _ _ _ (sym (ranges (c .before)) ∙ c .if1 .taken))
 
 mul-words : tie.Need-mul-words
 mul-words c = omega (arith, few c)
@@ -50,14 +66,17 @@ returns-3 c =
     let two = c .before .before .before in
     sym (passes _ _ _ (whole (two .before)) ∙ passes _ _ _ (two .if2 .left) ∙ refuses _ _ _ (c .if3 .taken))
 
+marked-requires : tie.Need-marked-requires
+marked-requires c κs = search needs
+
 returns-4 : tie.Need-returns-4
 unfolding add-judgement
 returns-4 c =
-    let three = c .before .before in
-    let two = three .before .before .before in
+    let three = c .before .before .before in
+    let two = sized three in
     sym
     (passes _ _ _ (whole (two .before)) ∙ passes _ _ _ (two .if2 .left) ∙ passes _ _ _ (three .if3 .left)
-    ∙ refuses _ _ _ (le-leb _ _ (c .if4 .taken)))
+    ∙ refuses _ _ _ (sym (c .before .marked .ensures) ∙ c .if4 .taken))
 
 all-below-requires : tie.Need-all-below-requires
 all-below-requires c κs = search needs
@@ -68,23 +87,23 @@ all-below-requires-2 c κs = search needs
 returns-5 : tie.Need-returns-5
 unfolding add-judgement
 returns-5 c =
-    let four = c .before .before .before in
-    let three = four .before .before in
-    let two = three .before .before .before in
+    let four = unmarked (c .before) in
+    let three = in-turn four in
+    let two = sized three in
     sym
     (passes _ _ _ (whole (two .before)) ∙ passes _ _ _ (two .if2 .left) ∙ passes _ _ _ (three .if3 .left)
-    ∙ passes _ _ _ (lt-leb _ _ (four .if4 .left))
+    ∙ passes _ _ _ (sym (four .before .marked .ensures) ∙ four .if4 .left)
     ∙ refuses _ _ _ (ap not (sym (below (c .before))) ∙ c .if5 .taken))
 
 returns-6 : tie.Need-returns-6
 unfolding add-judgement
 returns-6 c =
-    let four = c .before .before .before in
-    let three = four .before .before in
-    let two = three .before .before .before in
+    let four = unmarked (c .before) in
+    let three = in-turn four in
+    let two = sized three in
     sym
     (passes _ _ _ (whole (two .before)) ∙ passes _ _ _ (two .if2 .left) ∙ passes _ _ _ (three .if3 .left)
-    ∙ passes _ _ _ (lt-leb _ _ (four .if4 .left))
+    ∙ passes _ _ _ (sym (four .before .marked .ensures) ∙ four .if4 .left)
     ∙ passes _ _ _ (ap not (sym (below (c .before))) ∙ c .if5 .left) ∙ all-passed)
 
 pub judge-spec : {M : Type 1} → statement M
@@ -92,10 +111,12 @@ judge-spec =
     tie.close
     (tie.spec
     sound-requires
+    is-bidder-requires
     returns
     mul-words
     returns-2
     returns-3
+    marked-requires
     returns-4
     all-below-requires
     all-below-requires-2

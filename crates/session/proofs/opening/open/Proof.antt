@@ -62,6 +62,9 @@ clear-requires c κs = search needs
 add-hi : tie.Need-add-hi
 add-hi c = omega (arith, few (c .before .before .before .before .before))
 
+empty-requires : tie.Need-empty-requires
+empty-requires c κs = search needs
+
 accepted-requires : tie.Need-accepted-requires
 accepted-requires c κs = search needs
 
@@ -71,9 +74,10 @@ same-length c = search needs
 returns-3 : tie.Need-returns-3
 unfolding open-judgement fresh
 returns-3 c =
-    let d = c .before .before .before .before .before in
+    let r = c .before .before .before .before in
+    let d = r .before .before in
     let j = passes _ _ _ (ranged (d .before)) ∙ passes _ _ _ (ap not (eq-eqb _ _ (d .if2 .left))) ∙ all-passed in
-    (c .accepted .ensures ∙ sym (next-accepted _ _ _ j), c .before .before .before .clear .ensures ∙ ap (λ (m : ℕ). replicate m 0) (d .if2 .left) ∙ sym (kept-new _ _ _ j))
+    (c .accepted .ensures ∙ rw (c .before .empty .ensures) (sym (next-accepted _ _ _ j)), r .clear .ensures ∙ ap (λ (m : ℕ). replicate m 0) (d .if2 .left) ∙ sym (kept-new _ _ _ j))
 
 pub open-spec : {M : Type 1} → statement M
 open-spec =
@@ -89,6 +93,7 @@ open-spec =
     returns-2
     clear-requires
     add-hi
+    empty-requires
     accepted-requires
     same-length
     returns-3)

@@ -17,11 +17,14 @@ threshold-requires c κs = search needs
 mul-drawn : tie.Need-mul-drawn
 mul-drawn c = search needs
 
+slice-aggregate-add-all : tie.Need-slice-aggregate-add-all
+slice-aggregate-add-all c = search needs
+
 array-share-prefix-coins : tie.Need-array-share-prefix-coins
 array-share-prefix-coins c = search needs
 
-slice-aggregate-add-all : tie.Need-slice-aggregate-add-all
-slice-aggregate-add-all c = sym (length-take-le _ _ (search needs))
+slice-aggregate-add-all-2 : tie.Need-slice-aggregate-add-all-2
+slice-aggregate-add-all-2 c = sym (length-take-le _ _ (search needs))
 
 add-all-requires : tie.Need-add-all-requires
 add-all-requires c κs = search needs
@@ -40,8 +43,9 @@ add-bid-spec =
     draw-coins-requires
     threshold-requires
     mul-drawn
-    array-share-prefix-coins
     slice-aggregate-add-all
+    array-share-prefix-coins
+    slice-aggregate-add-all-2
     add-all-requires
     same-length
     returns)

@@ -1,4 +1,4 @@
--- `add_bids` lends parts that are there, and ends. Assumes nothing.
+-- `add_bids` reads only what is there, and ends. Assumes nothing.
 use mathlib.Core.Path.{_≡_}
 use Prim.Native.Nat.{_-_}
 use lib.ListN.{length}
@@ -7,37 +7,37 @@ use Rattle.worked_sessions.proofs.of_sessions.add_bids.Statement.{state
 use Rattle.worked_sessions.proofs.of_sessions.add_bids.Tie as tie
 
 abbrev Inv-loop : tie.InvT-loop
-Inv-loop n totals₀ bids count now₀ bid₀ totals now bid = length totals ≡ length totals₀
+Inv-loop n totals₀ count bids first now₀ bid₀ totals now bid = length totals ≡ length totals₀
 
 abbrev μ-loop : tie.MeasureT-loop
-μ-loop n totals₀ bids count now₀ bid₀ totals now bid = count - bid
+μ-loop n totals₀ count bids first now₀ bid₀ totals now bid = count - bid
+
+array-copy-out-first : tie.Need-array-copy-out-first Inv-loop μ-loop
+array-copy-out-first c = search needs
 
 loop-holds : tie.Need-loop-holds Inv-loop μ-loop
 loop-holds c = search needs
 
-mul-from : tie.Need-mul-from Inv-loop μ-loop
-mul-from c = search needs
-
-add-to : tie.Need-add-to Inv-loop μ-loop
-add-to c = search needs
-
 mul-add-bid : tie.Need-mul-add-bid Inv-loop μ-loop
 mul-add-bid c = search needs
 
-sub-add-bid : tie.Need-sub-add-bid Inv-loop μ-loop
-sub-add-bid c = search needs
-
-part-add-bid-start : tie.Need-part-add-bid-start Inv-loop μ-loop
-part-add-bid-start c = search needs
-
-part-add-bid-end : tie.Need-part-add-bid-end Inv-loop μ-loop
-part-add-bid-end c = search needs
+array-copy-out-add-bid : tie.Need-array-copy-out-add-bid Inv-loop μ-loop
+array-copy-out-add-bid c = search needs
 
 add-add-bid : tie.Need-add-add-bid Inv-loop μ-loop
 add-add-bid c = search needs
 
 add-bid-requires : tie.Need-add-bid-requires Inv-loop μ-loop
 add-bid-requires c κs = search needs
+
+array-copy-out-again : tie.Need-array-copy-out-again Inv-loop μ-loop
+array-copy-out-again c = search needs
+
+again-requires : tie.Need-again-requires Inv-loop μ-loop
+again-requires c κs = search needs
+
+add-bid-requires-2 : tie.Need-add-bid-requires-2 Inv-loop μ-loop
+add-bid-requires-2 c κs = search needs
 
 add-bid : tie.Need-add-bid Inv-loop μ-loop
 add-bid c = search needs
@@ -60,15 +60,15 @@ add-bids-spec =
     (tie.spec
     Inv-loop
     μ-loop
+    array-copy-out-first
     loop-holds
-    mul-from
-    add-to
     mul-add-bid
-    sub-add-bid
-    part-add-bid-start
-    part-add-bid-end
+    array-copy-out-add-bid
     add-add-bid
     add-bid-requires
+    array-copy-out-again
+    again-requires
+    add-bid-requires-2
     add-bid
     loop-less
     loop-again

@@ -31,7 +31,7 @@ slice-aggregate-hold-2 c = sym (length-take-le _ _ (search needs))
 
 hold-requires : tie.Need-hold-requires
 hold-requires c κs =
-    (search needs, search needs, search needs, search needs, length-take-le _ _ (search needs), length-take-le _ _ (search needs))
+    (search needs, search needs, search needs, length-take-le _ _ (search needs), length-take-le _ _ (search needs))
 
 returns : tie.Need-returns
 returns c = search needs

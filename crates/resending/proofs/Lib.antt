@@ -1,0 +1,2 @@
+-- That a bid which is sent again is refused.
+pub mod NeverTwice

@@ -1,0 +1,2 @@
+-- A bid that is sent again.
+pub mod Resent

@@ -1,0 +1,2 @@
+-- The roll of bidders: what the contracts cite.
+pub mod Marks

@@ -1,0 +1,87 @@
+// Who is in: one mark for each bidder.
+ghost use mathlib.Core.Path.{_≡_};
+ghost use mathlib.Core.Bool.{not};
+ghost use Prim.Native.Nat.{_/_, _%_, _^_, _≤_};
+ghost use lib.Dec.{eqb};
+ghost use Rattle.ranges.specs.Lists.{from, every, count};
+ghost use Rattle.roll.specs.Marks.{bidder, marked, marks, proper, empty, mark};
+
+// Bidder b's mark is bit b % 64 of word b / 64.
+pub struct Roll {
+    pub words: [u64; 16],
+}
+
+// Bidders are 1 to 1,000.
+pub fn is_bidder(number: u64) -> bool
+    ensures { λ r. ⌜ r ≡ bidder number ⌝ }
+{
+    (1 <= number) & (number <= 1000)
+}
+
+impl Roll {
+    // Nobody is in.
+    pub fn empty() -> Roll
+        ensures { λ r. ⌜ r ≡ empty ⌝ }
+    {
+        Roll { words: [0; 16] }
+    }
+
+    pub fn marked(self, number: u64) -> bool
+        ensures { λ r. ⌜ r ≡ marked self number ⌝ }
+    {
+        if 1024 <= number {
+            return false;
+        }
+        let words = self.words;
+        let at = (number / 64) as usize;
+        (words[at] >> (number % 64)) % 2 == 1
+    }
+
+    // A number past the last word leaves the roll as it is.
+    pub fn mark(self, number: u64) -> Roll
+        ensures { λ r. ⌜ r ≡ mark self number ⌝ }
+    {
+        if 1024 <= number {
+            return self;
+        }
+        let mut words = self.words;
+        let at = (number / 64) as usize;
+        words[at] = words[at] | (1 << (number % 64));
+        Roll { words }
+    }
+
+    // How many marks there are.
+    pub fn marks(self) -> u64
+        ensures { λ r. ⌜ r ≡ marks self ⌝ }
+    {
+        let words = self.words;
+        let mut sum: u64 = 0;
+        let mut i = 0;
+        while i < 16 {
+            sum += set_bits(words[i]);
+            i += 1;
+        }
+        sum
+    }
+
+    // No mark but those of bidders.
+    pub fn proper(self) -> bool
+        ensures { λ r. ⌜ r ≡ proper self ⌝ }
+    {
+        let words = self.words;
+        (words[0] % 2 == 0) & none_above_40(words[15])
+    }
+}
+
+fn set_bits(word: u64) -> u64
+    ensures { λ r. ⌜ (r ≡ count (λ i. eqb (word / 2 ^ i % 2) 1) 64) × (r ≤ 64) ⌝ }
+{
+    u64::count_ones(word) as u64
+}
+
+// Of the last word: bit 40 is bidder 1,000's.
+fn none_above_40(word: u64) -> bool
+    ensures { λ r. ⌜ r ≡ every (λ i. not (eqb (word / 2 ^ i % 2) 1)) (from 41 23) ⌝ }
+{
+    word < 1 << 41
+}

@@ -1,0 +1,2 @@
+-- The bids of an input, as an auction has them.
+pub mod Numbered
