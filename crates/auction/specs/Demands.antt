@@ -37,7 +37,7 @@ pub record Outcome (a : Auction) (l : List Call) (j : ℕ) : Type 0 where
   pub cleared : answers j l ≡ replicate (suc asked) (Cleared (clearing-answer a) (length (verdicts j l)))
   -- "at most P"
   pub few : length (verdicts j l) ≤ limit (a .k)
-  -- its roll then marks the bidders of the run, and nobody else
+  -- the roll of the record that it asks with marks the bidders of the run, and nobody else
   pub rolled : Each (λ q. (b : ℕ) → marked (q .roll) b ≡ member b (bidders a)) (askings j l)
 
 pub record Demand2 (a : Auction) (c : Coins) : Type 0 where

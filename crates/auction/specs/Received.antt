@@ -62,6 +62,7 @@ received-bids j l = collect bid-in (own j l)
 abbrev pub hearings : ℕ → List Call → List Hearing
 hearings j l = collect hearing-in (own j l)
 
+-- the records with which party j asked for the answer, and what it was answered
 abbrev pub askings : ℕ → List Call → List Party
 askings j l = collect asking-in (own j l)
 

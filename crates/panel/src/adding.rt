@@ -17,7 +17,8 @@ fn zeros() -> [u64; 512]
     [0u64; 512]
 }
 
-// One party's call to the desk, and its own.
+// One party's call to the desk, and its own. The table is judged before: a refused split would leave
+// shares of zeros, which are a bid too.
 fn add_one(
     n: u64,
     k: u64,

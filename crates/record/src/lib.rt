@@ -11,7 +11,8 @@ use search::limit;
 // T is below it.
 const SUMS: u64 = (1 << 59) + (1 << 33);
 
-// Every field is a number wide enough to be wrong; every call judges the record whole.
+// Every number is wide enough to be wrong, and the roll is any 16 words; every call judges the record
+// whole.
 pub struct Party {
     pub n: u64,
     pub own: u64,

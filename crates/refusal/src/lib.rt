@@ -7,6 +7,7 @@ pub enum Refusal {
     OutOfRange,
     WrongLength,
     OutOfTurn,
+    // the rehearsal's alone, and so is Malformed
     TooManyBids,
     CoinOutOfRange,
     AmountTooLarge,

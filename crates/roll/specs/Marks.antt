@@ -21,7 +21,7 @@ marked roll b = eqb (getD (roll .words) (b / 64) 0 / 2 ^ (b % 64) % 2) 1
 unfoldable pub marks : Roll → ℕ
 marks roll = count (marked roll) 1024
 
--- A roll is 16 words and marks bidders alone: place 0 is nobody's, nor are the 23 places past bidder 1,000.
+-- A roll is 16 words and marks bidders alone: place 0 is nobody's, and so are the 23 places past bidder 1,000.
 unfoldable pub proper : Roll → Bool
 proper roll = long 16 (roll .words) && every (λ b. not (marked roll b)) (0 ∷ from 1001 23)
 

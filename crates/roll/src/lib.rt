@@ -37,7 +37,7 @@ impl Roll {
         (words[at] >> (number % 64)) % 2 == 1
     }
 
-    // A number past the last word leaves the roll as it is.
+    // Any place can be marked; a number past the last word leaves the roll as it is.
     pub fn mark(self, number: u64) -> Roll
         ensures { λ r. ⌜ r ≡ mark self number ⌝ }
     {

@@ -31,47 +31,48 @@ pub(crate) fn print() {
 // sum and the greatest carry.
 fn records() {
     line::title(b"add records:");
-    adds(fresh(), 7);
-    let mut q = fresh();
+    let good = fresh();
+    adds(good, 7);
+    let mut q = good;
     q.n = 2;
     adds(q, 7);
-    q = fresh();
+    q = good;
     q.own = 4;
     adds(q, 7);
-    q = fresh();
+    q = good;
     q.k = 1025;
     adds(q, 7);
-    q = fresh();
+    q = good;
     q.bids = 1;
     adds(q, 7);
-    q = fresh();
+    q = good;
     q.lo = 2;
     adds(q, 7);
-    q = fresh();
+    q = good;
     q.hi = 3;
     adds(q, 7);
-    q = fresh();
+    q = good;
     q.round = 0;
     adds(q, 7);
-    q = fresh();
+    q = good;
     q.round = 34;
     adds(q, 7);
-    q = fresh();
+    q = good;
     q.sum = SUMS;
     adds(q, 7);
-    q = fresh();
+    q = good;
     q.carry = 256;
     adds(q, 7);
-    q = fresh();
+    q = good;
     q.probes = 2;
     adds(q, 7);
-    q = fresh();
+    q = good;
     q.probes = 1;
     adds(q, 7);
-    q = fresh();
+    q = good;
     q.sum = SUMS - 1;
     adds(q, 7);
-    q = fresh();
+    q = good;
     q.carry = 255;
     adds(q, 7);
     line::end();
@@ -79,10 +80,11 @@ fn records() {
 
 fn lengths() {
     line::title(b"add lengths:");
-    adds_parts(fresh(), 7, 2, 1);
-    adds_parts(fresh(), 7, 2, 3);
-    adds_parts(fresh(), 7, 1, 2);
-    adds_parts(fresh(), 7, 3, 2);
+    let q = fresh();
+    adds_parts(q, 7, 2, 1);
+    adds_parts(q, 7, 2, 3);
+    adds_parts(q, 7, 1, 2);
+    adds_parts(q, 7, 3, 2);
     line::end();
 }
 
@@ -103,25 +105,26 @@ fn turns() {
 // Shares and totals are below p. A refused call leaves the record and the totals.
 fn words() {
     line::title(b"add words:");
-    line::number(number_of(fresh(), 7, P - 1, P - 1));
-    line::number(number_of(fresh(), 7, P, 1));
-    sent(opened(fresh()), 7, 6, P);
+    let q = fresh();
+    line::number(number_of(q, 7, P - 1, P - 1));
+    line::number(number_of(q, 7, P, 1));
+    sent(opened(q), 7, 6, P);
 }
 
-// Two faults in each call: 1 with 2, by the record and by the bidder; 2 with 3; 2 with 14; 3 with 14;
-// 14 with 8, by a share and by the totals. Bidder 64 is in.
+// Two faults in each call: 1 with 2, by the record and by the bidder; 2 with 3; 3 with 14; 14 with 8.
+// Bidder 64 is in.
 fn order() {
     line::title(b"add order:");
     let held = holding(2, two());
-    adds_parts(holding(3, two()), 7, 2, 1);
+    let mut differs = held;
+    differs.bids = 3;
+    adds_parts(differs, 7, 2, 1);
     adds_parts(held, 1001, 2, 1);
     let mut heard = held;
     heard.round = 2;
     adds_parts(heard, 7, 2, 1);
-    adds_parts(held, 64, 2, 1);
     adds(heard, 64);
     line::number(number_of(held, 64, P - 1, P));
-    line::number(number_of(held, 64, P, 1));
     line::end();
 }
 
@@ -129,7 +132,7 @@ pub(crate) fn adds(q: Party, bidder: u64) {
     line::number(number_of(q, bidder, P - 1, 1));
 }
 
-// Of a call with these as the second words of the totals and of the shares.
+// The number of a call with these as the second words of the totals and of the shares.
 pub(crate) fn number_of(q: Party, bidder: u64, total: u64, share: u64) -> u64 {
     let mut totals = [5, total];
     code(session::add(q, &mut totals, bidder, &[6, share]))

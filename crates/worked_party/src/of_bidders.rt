@@ -39,31 +39,31 @@ fn resent() {
 // Bidders are 1 to 1,000. A roll has 1,024 places, of which 1,031 would be that of bidder 7 again.
 fn numbers() {
     line::title(b"add bidders:");
-    adds(fresh(), 0);
-    adds(fresh(), 1);
-    adds(fresh(), 1000);
-    adds(fresh(), 1001);
-    adds(fresh(), 1031);
-    adds(fresh(), MAX);
+    let q = fresh();
+    adds(q, 0);
+    adds(q, 1);
+    adds(q, 1000);
+    adds(q, 1001);
+    adds(q, 1031);
     line::end();
 }
 
-// Bids that are as many as the marks, one more, one fewer, none, very many.
+// Bids that are as many as the marks, one more, one fewer.
 fn counts() {
     line::title(b"add counts:");
-    adds(holding(2, two()), 7);
-    adds(holding(3, two()), 7);
-    adds(holding(1, two()), 7);
-    adds(holding(0, two()), 7);
-    adds(holding(MAX, two()), 7);
+    let mut q = holding(2, two());
+    adds(q, 7);
+    q.bids = 3;
+    adds(q, 7);
+    q.bids = 1;
+    adds(q, 7);
     line::end();
 }
 
-// Marks of bidders 1 and 1,000; marks of nobody, at places 0, 1,001 and 1,023; one that is not
-// counted; and one beside those of every bidder, which makes 1,001.
+// The mark of bidder 1,000; marks of nobody, at places 0, 1,001 and 1,023; one that is not counted;
+// and one beside those of every bidder, which makes 1,001.
 fn marks() {
     line::title(b"add marks:");
-    with_mark(1, 1);
     with_mark(1, 1000);
     with_mark(1, 0);
     with_mark(1, 1001);
@@ -78,7 +78,8 @@ fn with_mark(bids: u64, place: u64) {
 }
 
 // Document 01 has "bid 1,000 passes, 1,001 is 4". With a roll every number is marked by then: the
-// bidder that was missing passes, and any bid after it is 14. Only the rehearsal gives 4 (document 02).
+// bidder that was missing passes, and any bid after it is 14. By document 02 only the rehearsal gives
+// 4.
 fn last() {
     line::title(b"the last bidder:");
     let full = sent(opened(holding(999, all_but_500())), 500, 6, 1);
@@ -89,8 +90,8 @@ fn last() {
     line::end();
 }
 
-// Places 1 to 1,000, but for 500, which is bit 52 of the eighth word: the first word has no bit 0, the
-// last one bits 0 to 40.
+// Places 1 to 1,000, but for 500, which is bit 52 of the eighth word. The first word lacks bit 0, and
+// the last one has bits 0 to 40.
 fn all_but_500() -> Roll {
     let mut words = [MAX; 16];
     words[0] = MAX - 1;
@@ -99,7 +100,7 @@ fn all_but_500() -> Roll {
     Roll { words }
 }
 
-// 14, if it is the number of every bidder's bid.
+// 14, if that is the number of every bidder's bid.
 fn every(q: Party) {
     let mut same = true;
     let mut bidder = 0;
