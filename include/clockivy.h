@@ -14,7 +14,8 @@
  *   bidder  a bidder's number, 1 to 1,000, the same at every party
  *   roll    the marks of the bidders whose bids a party has added, 16 words:
  *           bidder b is bit b % 64 of word b / 64, bit 0 being the lowest
- *   record  where a party stands in the auction, 26 words (clockivy_party)
+ *   record  where a party stands in the auction, CLOCKIVY_RECORD_LEN words
+ *           (clockivy_party)
  *
  * An auction
  *   Each party opens a session. A bidder splits its table once for each party,
@@ -36,26 +37,31 @@
  * Replies
  *   0 when the call is done, else the number of a refusal. Each call lists its
  *   refusals in the order in which it judges them, and gives the first that
- *   applies; but where a record has not 26 words, nothing else can be judged
- *   and the reply is 2 (clockivy_open, which only writes the record, judges 1
- *   first). A refused call has changed nothing.
+ *   applies; but where a record has not CLOCKIVY_RECORD_LEN words, nothing
+ *   else can be judged and the reply is 2 (clockivy_open, which only writes the
+ *   record, judges 1 first). A refused call has changed nothing.
  *
  * A bid sent again
  *   A desk that does not know whether its bid arrived sends the same shares
  *   again, under the same number. A party that has the bid answers 14 and has
  *   changed nothing; one that has it not adds it. So a bid counts once, however
- *   often it is sent. Once a round is heard the reply is 3 for every bid, one
- *   that is in or not; clockivy_party_has_bid still tells which. What the desks
- *   and the parties have to see to:
- *   - A bid counts rightly only where every party adds it, under the same
- *     bidder number and from one splitting: shares of a table split anew do not
- *     fit those that other parties have added. Who is in is no secret among the
- *     parties, so they may compare their rolls before they speak.
+ *   often it is sent; and in whatever order bids come to a party, they leave it
+ *   the same record and totals. Once a round is heard the reply is 3 for every
+ *   bid, one that is in or not; clockivy_party_has_bid still tells which. What
+ *   the desks and the parties have to see to:
+ *   - Every party adds every bid, under the same bidder number and from one
+ *     splitting: shares of a table split anew do not fit those that other
+ *     parties have added. Compare the rolls before the first message is said;
+ *     who is in is no secret among the parties. Where a bid is missing at some
+ *     of them, or split anew for some, hearing round 1 is all but surely 10, and
+ *     by then no bid may be added: start anew, with new sheets.
  *   - A bid that is in is not replaced: another bid of its bidder is 14 too.
- *   - Record and totals are stored together, as one. Where totals hold a bid
- *     that an older record's roll does not mark, the bid sent again counts
- *     double; where the roll marks a bid that older totals do not hold, it is
- *     missing there, and is 14 when sent again. No call can tell.
+ *   - A record and its totals belong together from opening on, and are stored
+ *     as one. Where totals hold a bid that the roll does not mark, the bid sent
+ *     again counts double; where the roll marks a bid that the totals do not
+ *     hold, it is missing there, and is 14 when sent again. clockivy_add cannot
+ *     tell. Round 1 does, by 10 as above, unless all parties make the same slip:
+ *     then the price is wrong and nothing tells.
  *
  * Secrets
  *   Coins are drawn by the caller: each uniform over its range, independent,
@@ -76,11 +82,13 @@
  *     parties can open that. Add no bid once a message is said, not even one
  *     that is sent again. The record does not show that a message was said: the
  *     caller has to remember it.
- *   - An older record, or one record in two sessions. It passes every
- *     judgement and uses masks and triples again. Where it then meets other
- *     totals, or hears other messages than before, it says other messages.
- *     Store the record before the message said from it leaves, and go on from
- *     the newest one only, with the totals and the sheets that belong to it.
+ *   - Sheets used again: by an older record, by one record in two sessions, or
+ *     by a session opened anew. Each passes every judgement and uses masks and
+ *     triples again. Where it then meets other totals, or hears other messages
+ *     than before, it says other messages. Store the record before the message
+ *     said from it leaves, and go on from the newest one only, with the totals
+ *     and the sheets that belong to it. A session that starts anew gets new
+ *     sheets from the dealer.
  */
 #ifndef CLOCKIVY_H
 #define CLOCKIVY_H
@@ -137,11 +145,12 @@ enum {
  * Opens party own's session: zeroes totals and writes a new record.
  *
  *   totals  2k words, written
- *   record  26 words, written: n, own, k, bids 0, lo 0, hi k + 1, probes 0,
- *           round 1, sum 0, carry 0, then the roll, 16 words of 0
+ *   record  CLOCKIVY_RECORD_LEN words, written: n, own, k, bids 0, lo 0,
+ *           hi k + 1, probes 0, round 1, sum 0, carry 0, then the roll, 16
+ *           words of 0
  *
  *   1  n, own or k is out of range
- *   2  totals has not 2k words, or record not 26
+ *   2  totals has not 2k words, or record not CLOCKIVY_RECORD_LEN
  */
 uint64_t clockivy_open(uint64_t n, uint64_t own, uint64_t k,
                        uint64_t *totals, size_t totals_len,
@@ -200,13 +209,14 @@ uint64_t clockivy_deal(uint64_t n, uint64_t own,
  * and the first heard round is not refused, and is given away by the next
  * message: see "Two uses that give bids away".
  *
- *   record  26 words; bids grows by one, and the roll has the bidder's mark
- *   totals  2k words; each has its share added
+ *   record  bids grows by one, and the roll has the bidder's mark
+ *   totals  2k words, those that this record was opened with; each has its
+ *           share added
  *   bidder  the bidder's number, 1 to 1,000
  *   shares  2k words
  *
  *   1   a field of the record is out of range, or bidder is
- *   2   record has not 26 words, or totals or shares not 2k
+ *   2   record has not CLOCKIVY_RECORD_LEN words, or totals or shares not 2k
  *   3   a round has been heard: probes above 0 or round above 1
  *   14  the bidder is on the roll: a bid of it has been added
  *   8   a word of totals or of shares is at or above the prime
@@ -222,13 +232,14 @@ uint64_t clockivy_add(uint64_t *record, size_t record_len,
  * repeated with these; but add no bid from now on, and never say a round again
  * with another record or other totals: see "Two uses that give bids away".
  *
- *   record   26 words
+ *   record   as it was last written
  *   totals   2k words
  *   sheets   127P words: the party's sheets for all probes in turn
  *   message  one word, written
  *
  *   1  a field of the record is out of range
- *   2  record has not 26 words, totals not 2k, or sheets not 127P
+ *   2  record has not CLOCKIVY_RECORD_LEN words, totals not 2k, or sheets not
+ *      127P
  *   3  the auction is over
  *   8  round 1: a word of totals at the probed index is at or above the prime;
  *      any round: in the current sheet, the mask's share is at or above the
@@ -244,14 +255,14 @@ uint64_t clockivy_say(const uint64_t *record, size_t record_len,
  * next round. Round 33 opens the verdict: on 1 lo becomes the probed index, on
  * 0 hi does, and the next probe begins or the auction is over.
  *
- *   record    26 words, stepped
+ *   record    stepped
  *   totals    2k words
  *   sheets    127P words
  *   messages  n words, party 1's first
  *
  *   1   a field of the record is out of range
- *   2   record has not 26 words, totals not 2k, sheets not 127P, or messages
- *       not n
+ *   2   record has not CLOCKIVY_RECORD_LEN words, totals not 2k, sheets not
+ *       127P, or messages not n
  *   3   the auction is over
  *   8   as in clockivy_say
  *   9   the party's own place holds another message than it says
@@ -270,12 +281,12 @@ uint64_t clockivy_hear(uint64_t *record, size_t record_len,
  * Writes the clearing index, the highest at which total demand is at least
  * total supply, or 0 where there is none; and the number of probes made.
  *
- *   record  26 words
+ *   record  as it was last written
  *   index   one word, written
  *   probes  one word, written
  *
  *   1  a field of the record is out of range
- *   2  record has not 26 words
+ *   2  record has not CLOCKIVY_RECORD_LEN words
  *   3  the auction is not over
  */
 uint64_t clockivy_answer(const uint64_t *record, size_t record_len,
@@ -313,8 +324,8 @@ typedef struct clockivy_party {
                                          lowest being bit 0, of roll[b / 64] */
 } clockivy_party;
 
-/* The struct is the 26 words, in their order. */
-typedef char clockivy_party_is_26_words
+/* The struct is the record's words, in their order. */
+typedef char clockivy_party_is_the_words
     [sizeof(clockivy_party) == CLOCKIVY_RECORD_LEN * sizeof(uint64_t) ? 1 : -1];
 
 #if defined(__cplusplus) || (defined(__STDC_VERSION__) && __STDC_VERSION__ >= 199901L)
@@ -342,7 +353,7 @@ CLOCKIVY_INLINE int clockivy_party_has_bid(const clockivy_party *party, uint64_t
     return word < CLOCKIVY_ROLL_LEN && ((party->roll[word] >> (bidder % 64)) & 1) != 0;
 }
 
-/* The calls on a record, with a struct in place of 26 words. */
+/* The calls on a record, with a struct in place of its words. */
 
 CLOCKIVY_INLINE uint64_t clockivy_party_open(clockivy_party *party,
                                              uint64_t n, uint64_t own, uint64_t k,

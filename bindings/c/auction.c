@@ -1,8 +1,9 @@
 /*
  * A whole auction of five parties in one process: four bids, eight listed
- * prices. A line drops while a bid is sent, and the bid is sent again. Prints
- * that, each probe and the clearing price, and checks all of it against the
- * tables, which only a program that plays every role can add up.
+ * prices. A line drops while a bid is sent, and the bid is sent again when the
+ * others are in. Prints that, each probe and the clearing price, and checks all
+ * of it against the tables, which only a program that plays every role can add
+ * up.
  *
  *   cc -O2 -I../../include auction.c -L../../target/staticlib -lexchange -o auction
  *
@@ -57,7 +58,7 @@ static void done(uint64_t reply, const char *call)
     }
 }
 
-/* Stops at a result that is not that of the totals. */
+/* Stops where something that has to hold does not. */
 static void check(int holds, const char *otherwise)
 {
     if (!holds) {
@@ -119,7 +120,7 @@ static void send_bid(const struct desk *desk, size_t reached)
 
 /*
  * The same shares go to every party once more. Those that have the bid refuse
- * it and are as before; the others add it.
+ * it and are as before; the others add it, after bids that came later.
  */
 static void send_again(const struct desk *desk)
 {
@@ -213,7 +214,7 @@ int main(void)
     uint64_t index = 0;
     uint64_t probes = 0;
     uint64_t expected = K;
-    struct desk desk;
+    struct desk desks[BIDS];
     size_t i;
 
     check(clockivy_probe_limit(K) == PROBES, "the sheets are too few");
@@ -221,14 +222,10 @@ int main(void)
         done(clockivy_party_open(&seats[i].party, N, i + 1, K, seats[i].totals, TABLE),
              "open");
     for (i = 0; i < BIDS; i++) {
-        split(&desk, bidders[i], tables[i]);
-        if (i == DROPPED) {
-            send_bid(&desk, REACHED);
-            send_again(&desk);
-        } else {
-            send_bid(&desk, N);
-        }
+        split(&desks[i], bidders[i], tables[i]);
+        send_bid(&desks[i], i == DROPPED ? REACHED : N);
     }
+    send_again(&desks[DROPPED]);
     check(all_in(), "a bid is missing");
     for (i = 0; i < PROBES; i++)
         deal(i);

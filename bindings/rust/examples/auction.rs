@@ -1,7 +1,8 @@
 //! A whole auction of five parties in one process: four bids, eight listed
-//! prices. A line drops while a bid is sent, and the bid is sent again. Prints
-//! that, each probe and the clearing price, and checks all of it against the
-//! tables, which only a program that plays every role can add up.
+//! prices. A line drops while a bid is sent, and the bid is sent again when the
+//! others are in. Prints that, each probe and the clearing price, and checks all
+//! of it against the tables, which only a program that plays every role can add
+//! up.
 //!
 //! The coins here come from a small generator with a fixed seed. A real bidder
 //! or dealer draws them from the operating system.
@@ -25,7 +26,7 @@ const BIDS: [[u64; 2 * K as usize]; 4] = [
 /// The numbers of those who bid.
 const BIDDERS: [u64; BIDS.len()] = [17, 4, 640, MAX_BIDS];
 /// The bid whose line drops, and the parties that it has reached by then.
-const DROPPED: u64 = 4;
+const DROPPED: usize = 1;
 const REACHED: usize = 2;
 
 /// Marsaglia's xorshift64.
@@ -61,16 +62,25 @@ fn main() -> Result<(), Refusal> {
     let mut coins = Coins(0x9E37_79B9_7F4A_7C15);
     let mut totals = vec![vec![0; table_len(K)]; N as usize];
     let mut sessions = open_sessions(&mut totals)?;
-    for (bidder, table) in BIDDERS.into_iter().zip(&BIDS) {
-        let shares = split_bid(table, &mut coins)?;
-        if bidder == DROPPED {
-            let reached = &mut sessions[..REACHED];
-            send(reached, &mut totals, bidder, &shares)?;
-            send_again(&mut sessions, &mut totals, bidder, &shares)?;
+    // What each desk keeps until every party has its bid.
+    let desks = BIDS
+        .iter()
+        .map(|table| split_bid(table, &mut coins))
+        .collect::<Result<Vec<_>, _>>()?;
+    for (place, (bidder, shares)) in BIDDERS.into_iter().zip(&desks).enumerate() {
+        let reached = if place == DROPPED {
+            REACHED
         } else {
-            send(&mut sessions, &mut totals, bidder, &shares)?;
-        }
+            sessions.len()
+        };
+        send(&mut sessions[..reached], &mut totals, bidder, shares)?;
     }
+    send_again(
+        &mut sessions,
+        &mut totals,
+        BIDDERS[DROPPED],
+        &desks[DROPPED],
+    )?;
     for session in &sessions {
         let record = session.record();
         assert_eq!(record.bids as usize, BIDS.len());
@@ -146,7 +156,7 @@ fn send(
 }
 
 /// The same shares go to every party once more. Those that have the bid refuse
-/// it and are as before; the others add it.
+/// it and are as before; the others add it, after bids that came later.
 fn send_again(
     sessions: &mut [Collecting],
     totals: &mut [Vec<u64>],

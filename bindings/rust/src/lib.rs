@@ -29,21 +29,26 @@
 //! A desk that does not know whether its bid arrived sends the same shares
 //! again, under the same number. A party that has the bid answers
 //! [`AlreadyEntered`](Refusal::AlreadyEntered) and has changed nothing; one that
-//! has it not adds it. So a bid counts once, however often it is sent. A session
-//! that speaks adds none; [`Record::has_bid`] still tells who is in. What the
-//! desks and the parties have to see to:
+//! has it not adds it. So a bid counts once, however often it is sent; and in
+//! whatever order bids come to a party, they leave it the same session and
+//! totals. A session that speaks adds none; [`Record::has_bid`] still tells who
+//! is in. What the desks and the parties have to see to:
 //!
-//! * A bid counts rightly only where every party adds it, under the same bidder
-//!   number and from one splitting: shares of a table split anew do not fit
-//!   those that other parties have added. Who is in is no secret among the
-//!   parties, so they may compare their rolls before they speak
-//!   ([`Record::roll`]).
+//! * Every party adds every bid, under the same bidder number and from one
+//!   splitting: shares of a table split anew do not fit those that other parties
+//!   have added. Compare the rolls ([`Record::roll`]) before the first message
+//!   is said; who is in is no secret among the parties. Where a bid is missing
+//!   at some of them, or split anew for some, hearing round 1 is all but surely
+//!   [`Inconsistent`](Refusal::Inconsistent), and by then no bid may be added:
+//!   start anew, with new sheets.
 //! * A bid that is in is not replaced: another bid of its bidder is
 //!   `AlreadyEntered` too.
-//! * Session and totals are stored together, as one. Where totals hold a bid
-//!   that an older session's roll does not mark, the bid sent again counts
-//!   double; where the roll marks a bid that older totals do not hold, it is
-//!   missing there, and is `AlreadyEntered` when sent again. No call can tell.
+//! * A session and its totals belong together from opening on, and are stored as
+//!   one. Where totals hold a bid that the roll does not mark, the bid sent
+//!   again counts double; where the roll marks a bid that the totals do not
+//!   hold, it is missing there, and is `AlreadyEntered` when sent again. Adding
+//!   cannot tell. Round 1 does, by `Inconsistent` as above, unless all parties
+//!   make the same slip: then the price is wrong and nothing tells.
 //!
 //! # What is secret
 //!
@@ -77,12 +82,14 @@
 //!   they differ by the party's share of the bid's demand minus supply at the
 //!   probed index, and any t other parties can open that. Here the types rule
 //!   it out: [`Collecting::speak`] takes the session that adds.
-//! * **An older session, or one session twice.** A stored session that is not
-//!   the newest passes every judgement and uses masks and triples again. Where
-//!   it then meets other totals, or hears other messages than before, it says
-//!   other messages. No type rules this out. Store a session before its message
-//!   leaves ([`Speaking::store`]), and resume only the newest one, with the
-//!   totals and the sheets that belong to it ([`Speaking::resume`]).
+//! * **Sheets used again**: by an older session, by one session resumed twice,
+//!   or by a session opened anew. Each passes every judgement and uses masks and
+//!   triples again. Where it then meets other totals, or hears other messages
+//!   than before, it says other messages. No type rules this out. Store a
+//!   session before its message leaves ([`Speaking::store`]), and resume only
+//!   the newest one, with the totals and the sheets that belong to it
+//!   ([`Speaking::resume`]). A session that starts anew gets new sheets from the
+//!   dealer.
 //!
 //! # A small auction
 //!

@@ -7,8 +7,9 @@ use crate::{RECORD_LEN, ROLL_LEN};
 /// A record is for its party alone. `carry` is this party's share, and `sum`,
 /// which all parties know, gives the dealer total demand minus total supply at
 /// the probed index. The roll is no secret among the parties: before they speak
-/// they may compare theirs, which have to be the same.
+/// they compare theirs, which have to be the same.
 #[derive(Debug, PartialEq, Eq)]
+#[non_exhaustive]
 pub struct Record {
     /// The number of parties, 3 to 9.
     pub n: u64,

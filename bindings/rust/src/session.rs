@@ -67,7 +67,8 @@ impl Collecting {
     }
 
     /// Adds a bid's shares to `totals`, both of 2k words, counts the bid and
-    /// marks its bidder, 1 to 1,000, on the roll.
+    /// marks its bidder, 1 to 1,000, on the roll. The totals are those that this
+    /// session was opened with.
     ///
     /// A bid that may not have arrived is sent again, the same shares under the
     /// same number. Where the party has it, it is `AlreadyEntered` and nothing
@@ -84,9 +85,11 @@ impl Collecting {
     }
 
     /// Ends the collecting. `totals` are this session's, and `sheets` is the
-    /// party's preprocessing for all probes in turn. Both are lent for as long
-    /// as the session speaks, so that neither changes meanwhile; saying and
-    /// hearing judge them.
+    /// party's preprocessing for all probes in turn, from which no session has
+    /// spoken yet: used again, they
+    /// [give bids away](crate#two-uses-that-give-bids-away). Both are lent for
+    /// as long as the session speaks, so that neither changes meanwhile; saying
+    /// and hearing judge them.
     pub fn speak<'a>(self, totals: &'a [u64], sheets: &'a [u64]) -> Speaking<'a> {
         Speaking {
             record: self.record,
@@ -119,8 +122,8 @@ impl Collecting {
     /// bid added to an older one that collects
     /// [is given away](crate#two-uses-that-give-bids-away).
     ///
-    /// Refused: [`OutOfRange`](Refusal::OutOfRange) where the first word is
-    /// above 1, [`WrongLength`](Refusal::WrongLength), and
+    /// Refused: [`WrongLength`](Refusal::WrongLength),
+    /// [`OutOfRange`](Refusal::OutOfRange) where the first word is above 1, and
     /// [`OutOfTurn`](Refusal::OutOfTurn) where the session speaks. The record
     /// itself is judged by the calls on it.
     pub fn resume(stored: &[u64]) -> Result<Collecting, Refusal> {
@@ -256,8 +259,8 @@ impl<'a> Speaking<'a> {
     /// again. With other totals or messages than before that
     /// [gives bids away](crate#two-uses-that-give-bids-away).
     ///
-    /// Refused: [`OutOfRange`](Refusal::OutOfRange) where the first word is
-    /// above 1, [`WrongLength`](Refusal::WrongLength), and
+    /// Refused: [`WrongLength`](Refusal::WrongLength),
+    /// [`OutOfRange`](Refusal::OutOfRange) where the first word is above 1, and
     /// [`OutOfTurn`](Refusal::OutOfTurn) where the session collects. The
     /// record, the totals and the sheets are judged by the calls on them.
     pub fn resume(

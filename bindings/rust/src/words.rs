@@ -1,11 +1,16 @@
 //! The seven calls on plain words, as the C library has them. The reply is 0,
 //! or the number of the [refusal](crate::Refusal), and then nothing that was
-//! lent has changed.
+//! lent has changed. Each call's refusals are listed in the order in which it
+//! judges them. But a record may have any length here, and where it has not
+//! [`RECORD_LEN`](crate::RECORD_LEN) words the reply is 2 before all else; only
+//! [`open`], which writes the record, judges 1 first.
 //!
 //! Most callers want [`Collecting`](crate::Collecting) and what stands beside
-//! it. This module serves those who keep records as words, and tests: here a
-//! record may have any length. Nothing here guards against the
-//! [two uses that give bids away](crate#two-uses-that-give-bids-away).
+//! it. This module serves those who keep records as words, and tests. Nothing
+//! here guards against the
+//! [two uses that give bids away](crate#two-uses-that-give-bids-away), or sees
+//! that a record and its totals
+//! [belong together](crate#a-bid-sent-again).
 //!
 //! It is the only module with `unsafe` in it. Each function passes every slice
 //! as its pointer and its length. The library asks nothing else of its caller:
@@ -132,7 +137,7 @@ pub fn deal(n: u64, own: u64, words: &[u64], bytes: &[u8], sheet: &mut [u64]) ->
 }
 
 /// Adds a bid's shares to `totals` and marks its bidder; not after a message is
-/// said. Refusals, in this order, 1, 2, 3, 14, 8.
+/// said. Refusals 1, 2, 3, 14, 8.
 pub fn add(record: &mut [u64], totals: &mut [u64], bidder: u64, shares: &[u64]) -> u64 {
     unsafe {
         clockivy_add(

@@ -11,8 +11,9 @@ const K: u64 = 2;
 const TABLE: [u64; 4] = [5, 2, 1, 4];
 /// The number of the one who bids it.
 const BIDDER: u64 = 640;
-/// The place of `bids` in a record, of its round, and of its roll.
+/// The place of `bids` in a record, of its probes, its round and its roll.
 const BIDS: usize = 3;
+const PROBES: usize = 6;
 const ROUND: usize = 7;
 const ROLL: usize = RECORD_LEN - ROLL_LEN;
 
@@ -310,6 +311,8 @@ fn a_bid_is_judged_in_its_order() {
     unsound[BIDS] = 2;
     let mut heard = sound;
     heard[ROUND] = 2;
+    let mut probed = sound;
+    probed[PROBES] = 1;
     let (short, foreign) = (&[PRIME; 3][..], &[PRIME; 4]);
     for (record, bidder, shares, refusal) in [
         (unsound, BIDDER, short, Refusal::OutOfRange),
@@ -317,6 +320,7 @@ fn a_bid_is_judged_in_its_order() {
         (heard, BIDDER, short, Refusal::WrongLength),
         (heard, BIDDER, foreign, Refusal::OutOfTurn),
         (heard, 1, foreign, Refusal::OutOfTurn),
+        (probed, BIDDER, foreign, Refusal::OutOfTurn),
         (sound, BIDDER, foreign, Refusal::AlreadyEntered),
         (sound, 1, foreign, Refusal::ShareOutOfRange),
     ] {

@@ -16,7 +16,7 @@ pub mod Probed
 pub mod Search
 pub mod Rounds
 pub mod Selected
-pub mod Swaps
+pub mod Repeats
 pub mod Elsewhere
 pub mod Orders
 pub mod Falling

@@ -8,16 +8,18 @@ use Prim.Native.Nat.{ℕ, suc, _≤_}
 use native.Mathlib.Omega.{arith}
 use lib.ListN.{replicate}
 use borrow.Author.Tests.{eqb-true}
+use Rattle.ranges.specs.Orders.{Shuffle}
+use Rattle.ranges.proofs.Orders.{shuffle-swap, shuffle-refl}
 use Rattle.record.specs.declared.Party.{Party}
 use Rattle.auction.specs.Auction.{Auction}
 use Rattle.auction.specs.Coins.{Coins}
 use Rattle.auction.specs.Call.{Call, say-call, answer-call, accepted, Whose, party, service, whose, of-party, of-service, given}
 use Rattle.auction.specs.Canonical.{canonical}
-use Rattle.auction.specs.Run.{Run, Repeats, Shuffle, select, own, services}
+use Rattle.auction.specs.Run.{Run, Repeats, select, own, services}
 use Rattle.auction.specs.Received.{collect, bid-in, hearing-in, asking-in, received-bids, hearings, askings, messages, sheets, decisions, verdicts, indices, unused}
 use Rattle.auction.proofs.Selected.{and-false, with-call, select-cons, select-skip}
 use Rattle.auction.proofs.Calls.{select-append}
-use Rattle.auction.proofs.Swaps.{shuffle-swap, shuffle-refl, repeats-refl, repeats-say, repeats-ask, repeats-none}
+use Rattle.auction.proofs.Repeats.{repeats-refl, repeats-say, repeats-ask, repeats-none}
 use Rattle.auction.proofs.Elsewhere.{none-told}
 
 -- ---- the canonical list is a run

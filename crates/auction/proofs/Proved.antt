@@ -141,7 +141,7 @@ module _ (a b : Auction) (A : IsAuction a) (B : IsAuction b) (alike : Alike a b)
               unused-are b o B R m runM j j1 (jb j jn) ∙ ap (λ (k : ℕ). replicate (probe-rounds * k) (drop (sheet-size * k) (sheets-at b o j))) count
               ∙ ap (replicate (probe-rounds * L)) (left j) ∙ sym (unused-are a c A C l runL j j1 jn);
           words = λ j j1 jn. messages-are b o B R m runM j j1 (jb j jn) ∙ spoken ∙ sym (messages-are a c A C l runL j j1 jn);
-          marks = λ j j1 jn. verdicts-are b o B R m runM j j1 (jb j jn) ∙ ap (map (λ d. d .1)) decided ∙ sym (verdicts-are a c A C l runL j j1 jn);
+          verdicts-heard = λ j j1 jn. verdicts-are b o B R m runM j j1 (jb j jn) ∙ ap (map (λ d. d .1)) decided ∙ sym (verdicts-are a c A C l runL j j1 jn);
           probes = λ j j1 jn. many b o B R m runM j j1 (jb j jn) ∙ count ∙ sym (many a c A C l runL j j1 jn);
         }
 

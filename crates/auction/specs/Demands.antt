@@ -81,7 +81,7 @@ pub record Same (n : ℕ) (pool : List ℕ) (l m : List Call) : Type 0 where
   pub pool-sheets : (j : ℕ) → List·Memᴰ j pool → sheets j m ≡ sheets j l
   pub left : (j : ℕ) → 1 ≤ j → j ≤ n → unused j m ≡ unused j l
   pub words : (j : ℕ) → 1 ≤ j → j ≤ n → messages j m ≡ messages j l
-  pub marks : (j : ℕ) → 1 ≤ j → j ≤ n → verdicts j m ≡ verdicts j l
+  pub verdicts-heard : (j : ℕ) → 1 ≤ j → j ≤ n → verdicts j m ≡ verdicts j l
   pub probes : (j : ℕ) → 1 ≤ j → j ≤ n → length (verdicts j m) ≡ length (verdicts j l)
 
 -- "Then exactly one set of draws of the second does all of this": these coins in every pair of runs; and any coins that do it in one

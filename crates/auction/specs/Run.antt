@@ -1,8 +1,9 @@
 -- Runs: "Any other order in which every call is given the same is a run too, and saying or asking may be repeated. .. Refused calls,
 -- on any record and buffers, may stand anywhere between". Assumes nothing.
 use mathlib.Core.Bool.{Bool, cond, _&&_}
-use mathlib.Core.List.{List, [], _∷_, _++_}
+use mathlib.Core.List.{List, [], _∷_}
 use Prim.Native.Nat.{ℕ}
+use Rattle.ranges.specs.Orders.{Shuffle}
 use Rattle.record.specs.declared.Party.{Party}
 use Rattle.auction.specs.Auction.{Auction}
 use Rattle.auction.specs.Coins.{Coins}
@@ -28,11 +29,6 @@ pub data Repeats : List Call → List Call → Type 0 where
   say-again : {q : Party} {totals sheets : List ℕ} {cs ds : List Call}
       → Repeats (say-call q totals sheets ∷ cs) ds → Repeats (say-call q totals sheets ∷ cs) (say-call q totals sheets ∷ ds)
   ask-again : {q : Party} {cs ds : List Call} → Repeats (answer-call q ∷ cs) ds → Repeats (answer-call q ∷ cs) (answer-call q ∷ ds)
-
--- the second list is the first in some order
-pub data Shuffle : List Call → List Call → Type 0 where
-  end : Shuffle [] []
-  next : {c : Call} {cs : List Call} (ds es : List Call) → Shuffle cs (ds ++ es) → Shuffle (c ∷ cs) (ds ++ (c ∷ es))
 
 -- Each party's calls are those of the canonical list, in its order, so that each is given the record and totals that the last returned or
 -- left; the bidders' and the dealer's are those of the canonical list, in any order. Whose turn it is between parties is free.

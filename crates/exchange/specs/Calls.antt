@@ -35,15 +35,15 @@ deal-code n own words drawn sheet = codeOf (deal-judgement n own words drawn she
 
 -- ---- the calls on a record: nothing is judged without one
 
-module _ (words totals : List ℕ) (number : ℕ) (shares : List ℕ) where
+module _ (words totals : List ℕ) (bidder : ℕ) (shares : List ℕ) where
   abbrev pub add-code : ℕ
-  add-code = number-on words (codeOf (add-reply (party-of words) totals number shares .judgement))
+  add-code = number-on words (codeOf (add-reply (party-of words) totals bidder shares .judgement))
 
   abbrev pub add-record : List ℕ
-  add-record = on-record words (stored (add-reply (party-of words) totals number shares) words) words
+  add-record = on-record words (stored (add-reply (party-of words) totals bidder shares) words) words
 
   abbrev pub add-totals : List ℕ
-  add-totals = on-record words (add-left (party-of words) totals number shares) totals
+  add-totals = on-record words (add-left (party-of words) totals bidder shares) totals
 
 module _ (words totals sheets : List ℕ) where
   abbrev pub say-code : ℕ

@@ -36,33 +36,33 @@ use Rattle.auction.proofs.Step.{Sane, fresh-sane, sound-at}
 use Rattle.auction.proofs.Round.{Ready, verdict-is}
 use Rattle.listing.specs.declared.course.Course.{Course}
 use Rattle.listing.specs.Lines.{course-trail}
-use Rattle.probing.specs.Follows.{priced, Follows, mark}
+use Rattle.probing.specs.Follows.{priced, Follows, verdict-read}
 use Rattle.panel.proofs.Parts.{limit-nine}
 use Rattle.standing.proofs.Standing.{Stands, verdict-at, Probes}
 
 -- a later note leaves the earlier ones
-earlier : (index marks : List ℕ) (done at v m : ℕ) → m ≤ done → course-trail (set index done at) (set marks done v) m ≡ course-trail index marks m
+earlier : (index verdicts : List ℕ) (done at v m : ℕ) → m ≤ done → course-trail (set index done at) (set verdicts done v) m ≡ course-trail index verdicts m
 unfolding course-trail
-earlier index marks done at v zero h = refl
-earlier index marks done at v (suc m) h =
+earlier index verdicts done at v zero h = refl
+earlier index verdicts done at v (suc m) h =
     let apart : m ≡ done → ⊥ = λ e. omega arith in
-    ap₂ _++_ (earlier index marks done at v m (omega arith))
-    (ap₂ (λ (x y : ℕ). (x, y) ∷ []) (getD-set-other index done m at 0 apart) (getD-set-other marks done m v 0 apart))
+    ap₂ _++_ (earlier index verdicts done at v m (omega arith))
+    (ap₂ (λ (x y : ℕ). (x, y) ∷ []) (getD-set-other index done m at 0 apart) (getD-set-other verdicts done m v 0 apart))
 
-noted-more : (index marks : List ℕ) (done at v : ℕ) → length index ≡ 9 → length marks ≡ 9 → done < 9
-    → course-trail (set index done at) (set marks done v) (done + 1) ≡ course-trail index marks done ++ ((at, v) ∷ [])
+noted-more : (index verdicts : List ℕ) (done at v : ℕ) → length index ≡ 9 → length verdicts ≡ 9 → done < 9
+    → course-trail (set index done at) (set verdicts done v) (done + 1) ≡ course-trail index verdicts done ++ ((at, v) ∷ [])
 unfolding course-trail
-noted-more index marks done at v li lm h =
-    ap (course-trail (set index done at) (set marks done v)) (add-one done)
-    ∙ ap₂ _++_ (earlier index marks done at v done (omega arith))
-    (ap₂ (λ (x y : ℕ). (x, y) ∷ []) (getD-set-same index done at 0 (omega arith)) (getD-set-same marks done v 0 (omega arith)))
+noted-more index verdicts done at v li lm h =
+    ap (course-trail (set index done at) (set verdicts done v)) (add-one done)
+    ∙ ap₂ _++_ (earlier index verdicts done at v done (omega arith))
+    (ap₂ (λ (x y : ℕ). (x, y) ∷ []) (getD-set-same index done at 0 (omega arith)) (getD-set-same verdicts done v 0 (omega arith)))
 
 -- the verdict is read off the bracket
-mark-of : (b : Bracket) (d s : ℕ) → b .lo < middle b → mark (step b (verdict d s) .lo) (middle b) ≡ verdict d s
+verdict-read-of : (b : Bracket) (d s : ℕ) → b .lo < middle b → verdict-read (step b (verdict d s) .lo) (middle b) ≡ verdict d s
 unfolding verdict step raise lower
-mark-of b d s h = split (leb s d)
+verdict-read-of b d s h = split (leb s d)
   where
-    split : (t : Bool) → mark (step b (cond t 1 0) .lo) (middle b) ≡ cond t 1 0
+    split : (t : Bool) → verdict-read (step b (cond t 1 0) .lo) (middle b) ≡ cond t 1 0
     split true = rw (eq-eqb (middle b) (middle b) refl)
     split false = rw (ne-eqb (b .lo) (middle b) (λ e. omega arith))
 
@@ -70,11 +70,11 @@ no-coins : SheetCoins
 no-coins = record { mask = 0; of-mask = []; of-bits = []; triples = [] }
 
 -- where the search stands after some probes, and what is noted of them
-pub record Led (a : Auction) (c : Coins) (now : List Party) (totals sheets index marks : List ℕ) (done : ℕ) : Type 0 where
+pub record Led (a : Auction) (c : Coins) (now : List Party) (totals sheets index verdicts : List ℕ) (done : ℕ) : Type 0 where
   pub at : Bracket
   pub stands : Stands a c (fresh-stage at done) now totals sheets
   pub encloses : Encloses (covered (demand a) (supply a)) (a .k) done at
-  pub noted : course-trail index marks done ++ trail (promise (demand a) (supply a)) (limit (a .k) - done) at
+  pub noted : course-trail index verdicts done ++ trail (promise (demand a) (supply a)) (limit (a .k) - done) at
       ≡ trail (promise (demand a) (supply a)) (limit (a .k)) (start (a .k))
 
 module _ (n k : ℕ) (bids : List Bid) (c : Coins) where
@@ -92,7 +92,7 @@ module _ (n k : ℕ) (bids : List Bid) (c : Coins) where
     unfolding record-at
     first-bracket b m now H = ap bracket (first-record b m now H)
 
-    module _ (now after : List Party) (index marks : List ℕ) (done : ℕ) (L : Led a c now totals sheets index marks done)
+    module _ (now after : List Party) (index verdicts : List ℕ) (done : ℕ) (L : Led a c now totals sheets index verdicts done)
         (going : over (bracket (getD now 0 blank)) ≡ false) (P : Probes n k now totals sheets after) where
       abbrev b : Bracket
       b = L .at
@@ -129,21 +129,21 @@ module _ (n k : ℕ) (bids : List Bid) (c : Coins) where
       unfolding record-at
       lo-after = ap (λ (q : Party). q .lo) (first-record (step b v) (suc done) after later)
 
-      mark-is : mark (step b v .lo) (middle b) ≡ v
-      mark-is =
-          ap (λ (x : ℕ). mark (step b x .lo) (middle b)) v-is
-          ∙ mark-of b (demand a (middle b)) (supply a (middle b)) (middle-above b (over-false b (L .encloses .apart) open-here))
+      verdict-read-is : verdict-read (step b v .lo) (middle b) ≡ v
+      verdict-read-is =
+          ap (λ (x : ℕ). verdict-read (step b x .lo) (middle b)) v-is
+          ∙ verdict-read-of b (demand a (middle b)) (supply a (middle b)) (middle-above b (over-false b (L .encloses .apart) open-here))
           ∙ sym v-is
 
       -- one probe more
-      pub led-more : (i mv : ℕ) → i ≡ middle (bracket (getD now 0 blank)) → mv ≡ mark (getD after 0 blank .lo) i → length index ≡ 9 → length marks ≡ 9 → done < 9
-          → Led a c after totals sheets (set index done i) (set marks done mv) (done + 1)
+      pub led-more : (i mv : ℕ) → i ≡ middle (bracket (getD now 0 blank)) → mv ≡ verdict-read (getD after 0 blank .lo) i → length index ≡ 9 → length verdicts ≡ 9 → done < 9
+          → Led a c after totals sheets (set index done i) (set verdicts done mv) (done + 1)
       led-more i mv ei em li lm h =
           let g = promise (demand a) (supply a) in
           let ib : i ≡ middle b = ei ∙ ap middle (first-bracket b done now (L .stands)) in
-          let vb : mv ≡ v = em ∙ ap₂ mark lo-after ib ∙ mark-is in
+          let vb : mv ≡ v = em ∙ ap₂ verdict-read lo-after ib ∙ verdict-read-is in
           let q : limit k - done ≡ suc (limit k - (done + 1)) = omega (arith, few) in
-          let r : List (ℕ × ℕ) = course-trail index marks done in
+          let r : List (ℕ × ℕ) = course-trail index verdicts done in
           record {
             at = step b v;
             stands = rw (add-one done) later;
@@ -152,7 +152,7 @@ module _ (n k : ℕ) (bids : List Bid) (c : Coins) where
                 (encloses-step (covered (demand a) (supply a)) k (L .encloses) open-here v
                 (ap (λ (x : ℕ). eqb x 1) v-is ∙ promised (demand a) (supply a) (middle b)));
             noted =
-                ap (λ (z : List (ℕ × ℕ)). z ++ trail g (limit k - (done + 1)) (step b v)) (noted-more index marks done i mv li lm h)
+                ap (λ (z : List (ℕ × ℕ)). z ++ trail g (limit k - (done + 1)) (step b v)) (noted-more index verdicts done i mv li lm h)
                 ∙ append-assoc r ((i, mv) ∷ []) (trail g (limit k - (done + 1)) (step b v))
                 ∙ ap₂ (λ (x y : ℕ). r ++ ((x, y) ∷ trail g (limit k - (done + 1)) (step b v))) ib vb
                 ∙ ap (λ (x : ℕ). r ++ ((middle b, x) ∷ trail g (limit k - (done + 1)) (step b x))) v-is
@@ -162,11 +162,11 @@ module _ (n k : ℕ) (bids : List Bid) (c : Coins) where
           }
 
     -- at the end
-    module _ (now : List Party) (index marks : List ℕ) (done : ℕ) (L : Led a c now totals sheets index marks done) (ended : over (L .at) ≡ true) where
-      pub noted-all : course-trail index marks done ≡ trail (promise (demand a) (supply a)) (limit k) (start k)
+    module _ (now : List Party) (index verdicts : List ℕ) (done : ℕ) (L : Led a c now totals sheets index verdicts done) (ended : over (L .at) ≡ true) where
+      pub noted-all : course-trail index verdicts done ≡ trail (promise (demand a) (supply a)) (limit k) (start k)
       noted-all =
           sym (append-nil _)
-          ∙ ap (λ (z : List (ℕ × ℕ)). course-trail index marks done ++ z)
+          ∙ ap (λ (z : List (ℕ × ℕ)). course-trail index verdicts done ++ z)
           (sym (trail-over (promise (demand a) (supply a)) (limit k - done) (L .at) ended))
           ∙ L .noted
 
@@ -196,17 +196,17 @@ module _ (n k : ℕ) (bids : List Bid) (c : Coins) where
           ∙ ap (λ (q : Party). q .lo) (sym (first-record (L .at) done now (L .stands)))
           ∙ lo-clears
 
-      pub follows : (r : Course) → r .probes ≡ done → r .index ≡ index → r .verdict ≡ marks → r .clearing ≡ priced (answer-reply (getD now 0 blank))
+      pub follows : (r : Course) → r .probes ≡ done → r .index ≡ index → r .verdict ≡ verdicts → r .clearing ≡ priced (answer-reply (getD now 0 blank))
           → Follows a r
       follows r ep ei em ec =
-          let e : course-trail (r .index) (r .verdict) (r .probes) ≡ course-trail index marks done = cc in
+          let e : course-trail (r .index) (r .verdict) (r .probes) ≡ course-trail index verdicts done = cc in
           record { noted = e ∙ noted-all; clears = ec ∙ price-clears }
 
     -- before the first probe
-    pub led-start : (parties : List Party) (index marks : List ℕ) → Stands a c (fresh-stage (start k) 0) parties totals sheets
-        → Led a c parties totals sheets index marks 0
+    pub led-start : (parties : List Party) (index verdicts : List ℕ) → Stands a c (fresh-stage (start k) 0) parties totals sheets
+        → Led a c parties totals sheets index verdicts 0
     unfolding course-trail
-    led-start parties index marks H =
+    led-start parties index verdicts H =
         record {
           at = start k;
           stands = H;
@@ -215,9 +215,9 @@ module _ (n k : ℕ) (bids : List Bid) (c : Coins) where
         }
 
     -- the search is over when the loop ends: it says so, or nine probes are made
-    pub led-over : (now : List Party) (index marks : List ℕ) (done : ℕ) (L : Led a c now totals sheets index marks done) → k ≤ 256
+    pub led-over : (now : List Party) (index verdicts : List ℕ) (done : ℕ) (L : Led a c now totals sheets index verdicts done) → k ≤ 256
         → (over (bracket (getD now 0 blank)) ≡ false → 9 ≤ done) → over (L .at) ≡ true
-    led-over now index marks done L small h = split (over (L .at)) refl
+    led-over now index verdicts done L small h = split (over (L .at)) refl
       where
         split : (t : Bool) → over (L .at) ≡ t → over (L .at) ≡ true
         split true e = e

@@ -13,8 +13,8 @@ use Rattle.listing.specs.declared.course.Course.{Course}
 use Rattle.listing.specs.Lines.{course-trail}
 
 -- the verdict, read off party 1's record after the probe at an index: "On 1, lo becomes the index"
-abbrev pub mark : (lo index : ℕ) → ℕ
-mark lo index = cond (eqb lo index) 1 0
+abbrev pub verdict-read : (lo index : ℕ) → ℕ
+verdict-read lo index = cond (eqb lo index) 1 0
 
 abbrev pub priced : Answer → ℕ
 priced (Cleared index probes) = index

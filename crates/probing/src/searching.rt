@@ -8,7 +8,7 @@ ghost use Rattle.search.specs.Limit.{limit};
 ghost use Rattle.record.specs.Record.{bracket};
 ghost use Rattle.session.specs.Answer.{answer-reply};
 ghost use Rattle.standing.proofs.Standing.{FromStart};
-ghost use Rattle.probing.specs.Follows.{mark, priced, Follows};
+ghost use Rattle.probing.specs.Follows.{verdict-read, priced, Follows};
 use crate::probes::probe;
 use listing::Course;
 use record::Party;
@@ -34,7 +34,7 @@ fn probed(q: Party) -> u64
 
 // The verdict that was heard of the probe at an index.
 fn decided(q: Party, index: u64) -> u64
-    ensures { λ r. ⌜ r ≡ mark (q .lo) index ⌝ }
+    ensures { λ r. ⌜ r ≡ verdict-read (q .lo) index ⌝ }
 {
     if q.lo == index {
         return 1;

@@ -3,4 +3,5 @@ pub mod Loops
 pub mod Bends
 pub mod Counting
 pub mod Distinct
+pub mod Orders
 pub mod Ranges

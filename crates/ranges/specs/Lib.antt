@@ -2,5 +2,6 @@
 pub mod Lists
 pub mod Below
 pub mod Distinct
+pub mod Orders
 pub mod Steps
 pub mod Sizes

@@ -1,5 +1,4 @@
--- What each update leaves of a record, and when the record stays sound. What is above goes by these laws, so that a field more changes
--- them and nothing else. Assumes nothing.
+-- What each update leaves of a record, and when the record stays sound. What is above goes by these laws. Assumes nothing.
 use mathlib.Core.Path.{_≡_, refl, sym}
 use mathlib.Core.Bool.{true, false}
 use Prim.Native.Nat.{ℕ, _+_, _-_, _*_, _^_, _≤_, _<_}
@@ -11,10 +10,10 @@ use Rattle.search.specs.declared.Bracket.{Bracket}
 use Rattle.search.specs.Limit.{limit}
 use Rattle.search.proofs.Logarithm.{limit-law}
 use Rattle.record.specs.declared.Party.{Party}
-use Rattle.record.specs.Record.{bracket, sound, blank}
+use Rattle.record.specs.Record.{sound, blank}
 use Rattle.record.specs.Updates.{fresh, entered, in-round, decided}
 use Rattle.roll.specs.Marks.{marked}
-use Rattle.roll.proofs.Laws.{Free, marked-self, marked-other, marks-mark, proper-mark, proper-empty, marks-empty}
+use Rattle.roll.proofs.Laws.{Free, marked-self, marked-other, marks-mark, mark-swap, proper-mark, proper-empty, marks-empty}
 use Rattle.ranges.proofs.Ranges.{OnList}
 use Rattle.record.proofs.Soundness.{Sound}
 
@@ -58,11 +57,11 @@ module _ (n own k : ℕ) where
         bids = sym marks-empty;
       }
 
-  pub narrow-fresh : Narrow (fresh n own k)
-  unfolding fresh
-  narrow-fresh = omega arith
+-- before the first verdict the search has the room that it needs
+pub narrow-first : (q : Party) → Sound q → q .probes ≡ 0 → Narrow q
+narrow-first q s none = rw none (omega (arith, s .inside))
 
--- and where none is opened
+-- and where no session is opened
 pub blank-unsound : sound blank ≡ false
 unfolding sound party
 blank-unsound = refl
@@ -74,9 +73,9 @@ module _ (q : Party) (bidder : ℕ) where
   unfolding entered
   entered-same = record { n = refl; own = refl; k = refl }
 
-  pub entered-bracket : bracket (entered q bidder) ≡ bracket q
+  pub entered-bids : entered q bidder .bids ≡ q .bids + 1
   unfolding entered
-  entered-bracket = refl
+  entered-bids = refl
 
   pub entered-probes : entered q bidder .probes ≡ q .probes
   unfolding entered
@@ -117,6 +116,11 @@ module _ (q : Party) (bidder : ℕ) where
           bids = omega (arith, s .bids, marks-mark (q .roll) (s .roll) bidder free);
         }
 
+-- two bids more, in either order
+pub entered-swap : (q : Party) (b c : ℕ) → Sound q → b ≤ 1000 → entered (entered q b) c ≡ entered (entered q c) b
+unfolding entered
+entered-swap q b c s most = rw (mark-swap (q .roll) (s .roll) b c most)
+
 -- ---- a round more: the roll and the search stay
 
 module _ (q : Party) (round sum carry : ℕ) where
@@ -127,10 +131,6 @@ module _ (q : Party) (round sum carry : ℕ) where
   pub in-round-roll : in-round q round sum carry .roll ≡ q .roll
   unfolding in-round
   in-round-roll = refl
-
-  pub in-round-bracket : bracket (in-round q round sum carry) ≡ bracket q
-  unfolding in-round
-  in-round-bracket = refl
 
   pub in-round-probes : in-round q round sum carry .probes ≡ q .probes
   unfolding in-round
@@ -168,18 +168,9 @@ module _ (q : Party) (b : Bracket) where
   unfolding decided
   decided-roll = refl
 
-  pub decided-bracket : bracket (decided q b) ≡ b
-  unfolding decided
-  decided-bracket = refl
-
   pub decided-probes : decided q b .probes ≡ q .probes + 1
   unfolding decided
   decided-probes = refl
-
-  -- it starts with a round 1
-  pub decided-round : decided q b .round ≡ 1
-  unfolding decided
-  decided-round = refl
 
   pub decided-sound : Sound q → b .lo < b .hi → b .hi ≤ q .k + 1 → q .probes < limit (q .k) → Narrow (decided q b) → Sound (decided q b)
   unfolding decided

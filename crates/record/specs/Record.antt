@@ -16,8 +16,8 @@ abbrev pub bracket : Party → Bracket
 bracket q = record { lo = q .lo; hi = q .hi }
 
 -- Free of refusal 1: "n, keeper number or k outside its range; a record with .. not lo < hi <= k + 1, round outside 1 to 33, T at or
--- above 2^59 + 2^33, carry above 255, or probes done above P, or equal to P with hi - lo above 1". "The number of bids held is the
--- number of marks on the roll; a record that differs is 1", so bids are at most 1,000.
+-- above 2^59 + 2^33, carry above 255, or probes done above P, or equal to P with hi - lo above 1". The roll is one of bidders alone, and
+-- "The number of bids held is the number of marks on the roll; a record that differs is 1", so bids are at most 1,000.
 unfoldable pub sound : Party → Bool
 sound q =
     party (q .n) (q .own)

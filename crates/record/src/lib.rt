@@ -44,7 +44,8 @@ pub fn bracket(q: Party) -> Bracket
     Bracket { lo: q.lo, hi: q.hi }
 }
 
-// Every field is in its range, and as many bids are held as the roll has marks. k + 1 and hi - lo are computed only of a k and an order that allow it.
+// Every field is in its range, nobody but bidders is on the roll, and as many bids are held as it has
+// marks. k + 1 and hi - lo are computed only of a k and an order that allow it.
 pub fn sound(q: Party) -> bool
     ensures { λ r. ⌜ r ≡ sound q ⌝ }
 {

@@ -18,7 +18,7 @@ module _ (words : List ℕ) where
   unfolding party-of
   roll-at i h = map-from (λ j. getD words j 0) 10 16 i h
 
-  -- where the words end, the marks that are left are 0
+  -- where the words end, those of the roll that are left are 0
   none-left : (i : ℕ) → (i < 16 → length words ≤ 10 + i) → drop i (party-of words .roll .words) ≡ drop i (replicate 16 0)
   none-left i past =
       ext-getD 0 _ _ (simp (length-drop, roll-long))
@@ -29,10 +29,10 @@ module _ (words : List ℕ) where
       ∙ List·getD-eq-default words 0 {n = 10 + (i + j)} (omega (arith, past (omega arith)))
       ∙ sym (getD-drop i (replicate 16 0) j 0 ∙ getD-replicate 16 (i + j) 0 0 there))
 
-  -- a roll of which the first i marks are read, up to there
-  pub roll-read : (marks : List ℕ) (i : ℕ) → (i < 16 → length words ≤ 10 + i) → take i marks ≡ take i (party-of words .roll .words)
-      → drop i marks ≡ drop i (replicate 16 0) → marks ≡ party-of words .roll .words
-  roll-read marks i past read zeros =
-      sym (take-append-drop i marks)
+  -- a roll of which the first i words are read, up to there
+  pub roll-read : (roll-words : List ℕ) (i : ℕ) → (i < 16 → length words ≤ 10 + i) → take i roll-words ≡ take i (party-of words .roll .words)
+      → drop i roll-words ≡ drop i (replicate 16 0) → roll-words ≡ party-of words .roll .words
+  roll-read roll-words i past read zeros =
+      sym (take-append-drop i roll-words)
       ∙ ap₂ _++_ read (zeros ∙ sym (none-left i past))
       ∙ take-append-drop i (party-of words .roll .words)

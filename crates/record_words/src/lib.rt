@@ -46,18 +46,18 @@ fn word(words: &[u64], at: usize) -> u64
     if at < words.len() { words[at] } else { 0 }
 }
 
-// A mark that the words do not reach stays 0. The loop asks for their end, where `word` would ask for
+// A word of the roll that the slice does not reach is 0. The loop asks for their end, where `word` would ask for
 // each: so `read` is small enough to be inlined, and a call that knows the length copies nothing.
 fn read_roll(words: &[u64]) -> Roll
     ensures { λ r. ⌜ r ≡ party-of (now (words .entry)) .roll ⌝ }
 {
-    let mut marks = [0; 16];
+    let mut roll_words = [0; 16];
     let mut i = 0;
     while (i < 16) & (10 + i < words.len()) {
-        marks[i] = words[10 + i];
+        roll_words[i] = words[10 + i];
         i += 1;
     }
-    Roll { words: marks }
+    Roll { words: roll_words }
 }
 
 // The record that a call gives is written over the one it was lent, unless the call was refused.
@@ -107,10 +107,10 @@ fn write_roll(roll: Roll, words: &mut [u64])
     requires { ⌜ length (now words) ≡ record-size ⌝ }
     ensures { λ _. ⌜ now (words .exit) ≡ take 10 (now (words .entry)) ++ roll .words ⌝ }
 {
-    let marks = roll.words;
+    let roll_words = roll.words;
     let mut i = 0;
     while i < 16 {
-        words[10 + i] = marks[i];
+        words[10 + i] = roll_words[i];
         i += 1;
     }
 }

@@ -1,2 +1,3 @@
--- That a bid which is sent again is refused.
+-- That a bid which is sent again is refused, and that the order of bids does not matter.
 pub mod NeverTwice
+pub mod AnyOrder

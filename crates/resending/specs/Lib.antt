@@ -1,2 +1,3 @@
--- A bid that is sent again.
+-- Bids that are sent again, and bids that come in another order.
 pub mod Resent
+pub mod AnyOrder

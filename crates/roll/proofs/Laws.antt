@@ -1,21 +1,23 @@
 -- Laws of the roll. Assumes nothing.
 use mathlib.Core.Path.{_≡_, refl, sym, ap, _∙_}
 use mathlib.Core.Bool.{Bool, true, false, not, _||_}
+use mathlib.Core.List.{List}
 use Prim.Native.Nat.{ℕ, zero, suc, _+_, _-_, _/_, _%_, _^_, _≤_, _<_}
 use native.Mathlib.Nat.{zero-div}
 use native.Mathlib.Numerals.{add-one}
 use native.Mathlib.Decide.{decLe}
 use native.Mathlib.Omega.{arith}
 use lib.Dec.{eqb}
-use lib.ListN.{length, getD, replicate, length-set, List·getD-eq-default}
-use lib.Seq.{getD-set-same, getD-set-other}
+use lib.Bits.{bitOr}
+use lib.ListN.{length, getD, set, replicate, length-set, List·getD-eq-default}
+use lib.Seq.{getD-set-same, getD-set-other, set-set, set-comm}
 use borrow.Author.Tests.{eqb-true, eqb-false, eq-eqb, not-true}
 use Rattle.ranges.specs.Lists.{from, every, count}
 use Rattle.ranges.proofs.Loops.{and-true, every-at, length-from, getD-from}
 use Rattle.ranges.proofs.Counting.{count-add, count-most, count-none, count-all, count-more}
 use Rattle.roll.specs.declared.Roll.{Roll}
-use Rattle.roll.specs.Marks.{marked, marks, proper, empty, mark}
-use Rattle.roll.proofs.Bits.{bit, set-bit, other-bit}
+use Rattle.roll.specs.Marks.{is-set, marked, marks, proper, empty, mark}
+use Rattle.roll.proofs.Bits.{set-bit, other-bit, set-swap}
 
 -- past the words nobody is marked
 pub nobody-past : (roll : Roll) (b : ℕ) → length (roll .words) ≤ b / 64 → marked roll b ≡ false
@@ -100,7 +102,7 @@ module _ (roll : Roll) (P : Proper roll) (b : ℕ) (F : Free roll b) where
   pub marked-self : marked (mark roll b) b ≡ true
   unfolding marked mark
   marked-self =
-      ap (λ (w : ℕ). bit w (b % 64)) (getD-set-same (roll .words) (b / 64) _ 0 there)
+      ap (λ (w : ℕ). is-set w (b % 64)) (getD-set-same (roll .words) (b / 64) _ 0 there)
       ∙ set-bit (getD (roll .words) (b / 64) 0) (b % 64)
 
   pub marked-other : (c : ℕ) → (c ≡ b → ⊥) → marked (mark roll b) c ≡ marked roll c
@@ -112,9 +114,9 @@ module _ (roll : Roll) (P : Proper roll) (b : ℕ) (F : Free roll b) where
           let e : c / 64 ≡ b / 64 = eqb-true _ _ t in
           let apart : c % 64 ≡ b % 64 → ⊥ = λ f. d (omega arith) in
           rw e
-          (ap (λ (w : ℕ). bit w (c % 64)) (getD-set-same (roll .words) (b / 64) _ 0 there)
+          (ap (λ (w : ℕ). is-set w (c % 64)) (getD-set-same (roll .words) (b / 64) _ 0 there)
           ∙ other-bit (getD (roll .words) (b / 64) 0) (c % 64) (b % 64) apart)
-      split false t = ap (λ (w : ℕ). bit w (c % 64)) (getD-set-other (roll .words) (b / 64) (c / 64) _ 0 (eqb-false _ _ t))
+      split false t = ap (λ (w : ℕ). is-set w (c % 64)) (getD-set-other (roll .words) (b / 64) (c / 64) _ 0 (eqb-false _ _ t))
 
   -- both in one
   pub marked-mark : (c : ℕ) → marked (mark roll b) c ≡ eqb c b || marked roll c
@@ -138,6 +140,39 @@ module _ (roll : Roll) (P : Proper roll) (b : ℕ) (F : Free roll b) where
         past = λ c h. marked-other c (λ e. omega (arith, F .most)) ∙ P .past c h;
       }
 
+-- ---- two bidders enter, in either order
+
+-- word i has these bits, too
+abbrev join : List ℕ → (i bits : ℕ) → List ℕ
+join ws i bits = set ws i (bitOr (getD ws i 0) bits)
+
+module _ (ws : List ℕ) (i : ℕ) where
+  join-twice : (x y : ℕ) → i < length ws → join (join ws i x) i y ≡ set ws i (bitOr (bitOr (getD ws i 0) x) y)
+  join-twice x y h = set-set ws i _ _ ∙ ap (λ (w : ℕ). set ws i (bitOr w y)) (getD-set-same ws i _ 0 h)
+
+  join-other : (j x y : ℕ) → (j ≡ i → ⊥) → join (join ws i x) j y ≡ set (set ws i (bitOr (getD ws i 0) x)) j (bitOr (getD ws j 0) y)
+  join-other j x y h = ap (λ (w : ℕ). set (join ws i x) j (bitOr w y)) (getD-set-other ws i j _ 0 h)
+
+  join-swap : (j x y : ℕ) → i < length ws → join (join ws i x) j y ≡ join (join ws j y) i x
+  join-swap j x y h = split (eqb i j) refl
+    where
+      split : (t : Bool) → eqb i j ≡ t → join (join ws i x) j y ≡ join (join ws j y) i x
+      split true t =
+          let e : i ≡ j = eqb-true i j t in
+          ap (λ (j : ℕ). join (join ws i x) j y) (sym e)
+          ∙ join-twice x y h
+          ∙ ap (set ws i) (set-swap (getD ws i 0) x y)
+          ∙ sym (join-twice y x h)
+          ∙ ap (λ (j : ℕ). join (join ws j y) i x) e
+      split false t =
+          let d = eqb-false i j t in
+          join-other j x y (λ e. d (sym e)) ∙ set-comm ws i j _ _ d ∙ ap (λ (w : ℕ). set (join ws j y) i (bitOr w x)) (sym (getD-set-other ws j i _ 0 d))
+
+pub mark-swap : (roll : Roll) → Proper roll → (b c : ℕ) → b ≤ 1000 → mark (mark roll b) c ≡ mark (mark roll c) b
+unfolding mark
+mark-swap roll P b c most =
+    ap (λ (ws : List ℕ). record { words = ws }) (join-swap (roll .words) (b / 64) (c / 64) (2 ^ (b % 64)) (2 ^ (c % 64)) (omega (arith, P .long)))
+
 -- ---- at the start nobody is in
 
 zeros-at : (m i : ℕ) → _≡_ {A = ℕ} (getD (replicate m 0) i 0) 0
@@ -147,7 +182,7 @@ zeros-at (suc m) (suc i) = zeros-at m i
 
 pub nobody-in : (b : ℕ) → marked empty b ≡ false
 unfolding marked empty
-nobody-in b = ap (λ (w : ℕ). bit w (b % 64)) (zeros-at 16 (b / 64)) ∙ rw (zero-div (2 ^ (b % 64)))
+nobody-in b = ap (λ (w : ℕ). is-set w (b % 64)) (zeros-at 16 (b / 64)) ∙ rw (zero-div (2 ^ (b % 64)))
 
 pub proper-empty : Proper empty
 unfolding empty

@@ -10,12 +10,16 @@ use Rattle.ranges.specs.Sizes.{long}
 use Rattle.roll.specs.declared.Roll.{Roll}
 
 -- "a bidder number, 1 to 1,000"
-abbrev pub bidder : ℕ → Bool
-bidder b = leb 1 b && leb b 1000
+abbrev pub is-bidder : ℕ → Bool
+is-bidder b = leb 1 b && leb b 1000
 
--- bidder b's mark is bit b % 64 of word b / 64, the lowest being bit 0
+-- is bit i of a word set, the lowest being bit 0?
+abbrev pub is-set : (word i : ℕ) → Bool
+is-set word i = eqb (word / 2 ^ i % 2) 1
+
+-- bidder b's mark is bit b % 64 of word b / 64
 unfoldable pub marked : Roll → (b : ℕ) → Bool
-marked roll b = eqb (getD (roll .words) (b / 64) 0 / 2 ^ (b % 64) % 2) 1
+marked roll b = is-set (getD (roll .words) (b / 64) 0) (b % 64)
 
 -- "the number of marks on the roll", which has 64 places a word
 unfoldable pub marks : Roll → ℕ

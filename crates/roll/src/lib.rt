@@ -1,10 +1,9 @@
 // Who is in: one mark for each bidder.
 ghost use mathlib.Core.Path.{_≡_};
 ghost use mathlib.Core.Bool.{not};
-ghost use Prim.Native.Nat.{_/_, _%_, _^_, _≤_};
-ghost use lib.Dec.{eqb};
+ghost use Prim.Native.Nat.{_≤_};
 ghost use Rattle.ranges.specs.Lists.{from, every, count};
-ghost use Rattle.roll.specs.Marks.{bidder, marked, marks, proper, empty, mark};
+ghost use Rattle.roll.specs.Marks.{is-bidder, is-set, marked, marks, proper, empty, mark};
 
 // Bidder b's mark is bit b % 64 of word b / 64.
 pub struct Roll {
@@ -13,7 +12,7 @@ pub struct Roll {
 
 // Bidders are 1 to 1,000.
 pub fn is_bidder(number: u64) -> bool
-    ensures { λ r. ⌜ r ≡ bidder number ⌝ }
+    ensures { λ r. ⌜ r ≡ is-bidder number ⌝ }
 {
     (1 <= number) & (number <= 1000)
 }
@@ -74,14 +73,14 @@ impl Roll {
 }
 
 fn set_bits(word: u64) -> u64
-    ensures { λ r. ⌜ (r ≡ count (λ i. eqb (word / 2 ^ i % 2) 1) 64) × (r ≤ 64) ⌝ }
+    ensures { λ r. ⌜ (r ≡ count (is-set word) 64) × (r ≤ 64) ⌝ }
 {
     u64::count_ones(word) as u64
 }
 
 // Of the last word: bit 40 is bidder 1,000's.
 fn none_above_40(word: u64) -> bool
-    ensures { λ r. ⌜ r ≡ every (λ i. not (eqb (word / 2 ^ i % 2) 1)) (from 41 23) ⌝ }
+    ensures { λ r. ⌜ r ≡ every (λ i. not (is-set word i)) (from 41 23) ⌝ }
 {
     word < 1 << 41
 }

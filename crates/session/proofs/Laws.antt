@@ -40,9 +40,9 @@ module _ (n own k : ℕ) (totals : List ℕ) where
 
 -- ---- adding
 
-pub record Adds (q : Party) (totals : List ℕ) (number : ℕ) (shares : List ℕ) : Type 0 where
+pub record Adds (q : Party) (totals : List ℕ) (bidder : ℕ) (shares : List ℕ) : Type 0 where
   pub sound : Sound q
-  pub free : Free (q .roll) number
+  pub free : Free (q .roll) bidder
   pub totals-long : length totals ≡ 2 * q .k
   pub shares-long : length shares ≡ 2 * q .k
   -- before the first heard round
@@ -55,8 +55,8 @@ or-false : (a b : Bool) → a || b ≡ false → (a ≡ false) × (b ≡ false)
 or-false true b e = (e, cc)
 or-false false b e = (refl, e)
 
-module _ (q : Party) (totals : List ℕ) (number : ℕ) (shares : List ℕ) where
-  pub adds : add-judgement q totals number shares ≡ Accepted → Adds q totals number shares
+module _ (q : Party) (totals : List ℕ) (bidder : ℕ) (shares : List ℕ) where
+  pub adds : add-judgement q totals bidder shares ≡ Accepted → Adds q totals bidder shares
   unfolding add-judgement
   adds e =
       let whole = passed _ _ _ e in
@@ -81,13 +81,13 @@ module _ (q : Party) (totals : List ℕ) (number : ℕ) (shares : List ℕ) wher
         shares-below = all-below p shares (f .1);
       }
 
-  pub add-accepted : Adds q totals number shares → add-judgement q totals number shares ≡ Accepted
+  pub add-accepted : Adds q totals bidder shares → add-judgement q totals bidder shares ≡ Accepted
   unfolding add-judgement judged
   add-accepted h =
       rw (
         sound-of q (h .sound),
-        le-leb 1 number (h .free .least),
-        le-leb number 1000 (h .free .most),
+        le-leb 1 bidder (h .free .least),
+        le-leb bidder 1000 (h .free .most),
         eq-eqb (length totals) (2 * q .k) (h .totals-long),
         eq-eqb (length shares) (2 * q .k) (h .shares-long),
         le-ltb 0 (q .probes) (omega (arith, h .no-probes)),

@@ -10,7 +10,7 @@ use Rattle.refusal.specs.declared.Refusal.the-variants.{OutOfRange, WrongLength
 use Rattle.ranges.specs.Lists.{every}
 use Rattle.sharing.specs.Linear.{sums}
 use Rattle.ranges.specs.Sizes.{long}
-use Rattle.roll.specs.Marks.{bidder, marked}
+use Rattle.roll.specs.Marks.{is-bidder, marked}
 use Rattle.record.specs.declared.Party.{Party}
 use Rattle.record.specs.declared.Reply.{Reply}
 use Rattle.record.specs.Record.{sound, replied}
@@ -24,18 +24,18 @@ abbrev pub amounts-below : List ℕ → Bool
 amounts-below words = every (λ w. ltb w p) words
 
 -- "A bidder number outside 1 to 1,000 is 1"; "14 Already in, when the number is marked, judged just after 3"
-unfoldable pub add-judgement : (q : Party) (totals : List ℕ) (number : ℕ) (shares : List ℕ) → Judgement
-add-judgement q totals number shares =
+unfoldable pub add-judgement : (q : Party) (totals : List ℕ) (bidder : ℕ) (shares : List ℕ) → Judgement
+add-judgement q totals bidder shares =
     judged
-    ((not (sound q && bidder number) ⇒ OutOfRange)
+    ((not (sound q && is-bidder bidder) ⇒ OutOfRange)
     ∷ (not (long (2 * q .k) totals && long (2 * q .k) shares) ⇒ WrongLength)
     ∷ (begun q ⇒ OutOfTurn)
-    ∷ (marked (q .roll) number ⇒ AlreadyEntered)
+    ∷ (marked (q .roll) bidder ⇒ AlreadyEntered)
     ∷ (not (amounts-below totals && amounts-below shares) ⇒ ShareOutOfRange)
     ∷ [])
 
-abbrev pub add-reply : (q : Party) (totals : List ℕ) (number : ℕ) (shares : List ℕ) → Reply
-add-reply q totals number shares = replied (add-judgement q totals number shares) (entered q number) q
+abbrev pub add-reply : (q : Party) (totals : List ℕ) (bidder : ℕ) (shares : List ℕ) → Reply
+add-reply q totals bidder shares = replied (add-judgement q totals bidder shares) (entered q bidder) q
 
-abbrev pub add-left : (q : Party) (totals : List ℕ) (number : ℕ) (shares : List ℕ) → List ℕ
-add-left q totals number shares = kept (add-judgement q totals number shares) (sums amounts totals shares) totals
+abbrev pub add-left : (q : Party) (totals : List ℕ) (bidder : ℕ) (shares : List ℕ) → List ℕ
+add-left q totals bidder shares = kept (add-judgement q totals bidder shares) (sums amounts totals shares) totals

@@ -2,15 +2,14 @@
 //! checked against the totals of the bids, and damaged calls and bids that are
 //! sent again stand in between.
 
+use clockivy::Refusal;
 use clockivy_reference::{probe_limit, threshold, LAST_ROUND, MAX_BIDS, RECORD, SHEET};
 
 use crate::call::Call;
 use crate::damage::damage;
 use crate::differential::{Difference, Tally};
-use crate::record::{index, mark, BIDS, CARRY, HI, LO, OWN, PROBES, ROLL};
+use crate::record::{has_bid, index, mark, BIDS, CARRY, HI, LO, OWN, PROBES, ROLL};
 use crate::rng::Rng;
-
-const ALREADY_ENTERED: u64 = 14;
 
 /// A bid.
 struct Bid {
@@ -97,9 +96,12 @@ impl Auction<'_> {
         Ok(())
     }
 
+    /// Every party adds every bid, but not all in one order: where a line drops,
+    /// the bid comes after the others.
     fn bid(&mut self) -> Result<(), Difference> {
         let length = 2 * self.k as usize;
         let mut expected = self.seats[0].record.clone();
+        let mut late = Vec::new();
         for place in 0..self.bids.len() {
             let coins = self
                 .rng
@@ -110,27 +112,41 @@ impl Auction<'_> {
                 let table = &self.bids[place].table;
                 let call = Call::split(self.n, own, self.k, table, &coins, &shares);
                 let shares = self.accepted(call)?.words[2].to_vec();
-                let seat = &self.seats[own as usize - 1];
-                let call = Call::add(&seat.record, &seat.totals, bidder, &shares);
-                let left = self.accepted(call)?;
-                let seat = &mut self.seats[own as usize - 1];
-                seat.record = left.words[0].to_vec();
-                seat.totals = left.words[1].to_vec();
-                if self.rng.once_in(2) {
-                    self.send_again(own, bidder, &shares)?;
-                }
-                if self.rng.once_in(2) {
-                    let earlier = self.bids[self.rng.place(place + 1)].bidder;
-                    let shares = self.rng.words(length, Rng::word);
-                    self.send_again(own, earlier, &shares)?;
+                if self.rng.once_in(8) {
+                    late.push((own, bidder, shares));
+                } else {
+                    self.add(own, bidder, &shares)?;
                 }
             }
             mark(&mut expected, bidder);
             expected[BIDS] += 1;
         }
+        while let Some((own, bidder, shares)) = late.pop() {
+            self.add(own, bidder, &shares)?;
+        }
         for (own, seat) in (1..).zip(&self.seats) {
             expected[OWN] = own;
             self.holds(seat.record == expected, "a roll is not that of the bids")?;
+        }
+        Ok(())
+    }
+
+    /// A party adds a bid. Then that bid may come again, and others of those who
+    /// are in.
+    fn add(&mut self, own: u64, bidder: u64, shares: &[u64]) -> Result<(), Difference> {
+        let seat = &self.seats[own as usize - 1];
+        let call = Call::add(&seat.record, &seat.totals, bidder, shares);
+        let left = self.accepted(call)?;
+        let seat = &mut self.seats[own as usize - 1];
+        seat.record = left.words[0].to_vec();
+        seat.totals = left.words[1].to_vec();
+        if self.rng.once_in(2) {
+            self.send_again(own, bidder, shares)?;
+        }
+        let other = self.bids[self.rng.place(self.bids.len())].bidder;
+        if has_bid(&self.seats[own as usize - 1].record, other) {
+            let shares = self.rng.words(shares.len(), Rng::word);
+            self.send_again(own, other, &shares)?;
         }
         Ok(())
     }
@@ -142,7 +158,7 @@ impl Auction<'_> {
         let call = Call::add(&seat.record, &seat.totals, bidder, shares);
         let (reply, _) = self.tally.compare(&call)?;
         self.holds(
-            reply == ALREADY_ENTERED,
+            reply == Refusal::AlreadyEntered.number(),
             &format!("reply {reply} to a bid sent again,\n{call}\n"),
         )
     }

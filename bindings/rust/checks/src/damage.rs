@@ -178,12 +178,15 @@ fn field(rng: &mut Rng, record: &mut [u64]) {
 }
 
 /// Changes one word of a slice: the first, the last, one that the call uses,
-/// or any.
+/// or any. A record has its own way, and an empty slice is made longer.
 fn word(rng: &mut Rng, call: &mut Call) {
     let slice = rng.place(call.kind.slices());
+    if call.kind.record() == Some(slice) {
+        return record(rng, call);
+    }
     let length = call.words[slice].len();
-    if call.kind.record() == Some(slice) || length == 0 {
-        return;
+    if length == 0 {
+        return call.words[slice].push(rng.pick(&EDGES));
     }
     let place = match rng.below(8) {
         0 => Some(0),

@@ -1,6 +1,7 @@
 //! A plain implementation of the auction's seven calls, written from the paper
-//! alone: the ordinary loops, 128-bit products, one test after the other. The
-//! library is compared with it call by call, and timed against it.
+//! and, for the layout of a record, from the C header: the ordinary loops,
+//! 128-bit products, one test after the other. The library is compared with it
+//! call by call, and timed against it.
 //!
 //! The functions have the shape of the C calls. Every slice may have any
 //! length and any contents; the reply is 0, or the number of the refusal, and
@@ -48,13 +49,13 @@ pub const LAST_ROUND: u64 = 33;
 
 /// The number of coefficients of a sharing among `n` parties.
 pub fn threshold(n: u64) -> usize {
-    ((n - 1) / 2) as usize
+    (n.saturating_sub(1) / 2) as usize
 }
 
 /// The base-2 logarithm of `k` + 1, rounded up.
 pub fn probe_limit(k: u64) -> u64 {
     let mut limit = 0;
-    while 1 << limit < k + 1 {
+    while limit < 64 && 1 << limit <= k {
         limit += 1;
     }
     limit

@@ -22,8 +22,8 @@ unfolding words-of
 returns c =
     let second = c .before .before in
     let first = second .before .before .before .before in
-    let marks = first .before .before .before .args .q .roll .words in
-    second .write-roll .ensures ∙ ap (λ (ws : List ℕ). take 10 ws ++ marks) (first .write-numbers .ensures)
+    let roll-words = first .before .before .before .args .q .roll .words in
+    second .write-roll .ensures ∙ ap (λ (ws : List ℕ). take 10 ws ++ roll-words) (first .write-numbers .ensures)
 
 pub write-spec : {M : Type 1} → statement M
 write-spec = tie.close (tie.spec write-numbers-requires write-roll-requires same-length returns)

@@ -1,4 +1,4 @@
--- `write_roll` meets its contract: of the marks, those before i are written. Assumes nothing.
+-- `write_roll` meets its contract: of the roll, the words before i are written. Assumes nothing.
 use mathlib.Core.Path.{_≡_, ap₂, _∙_}
 use mathlib.Core.List.{List, _++_, append-nil}
 use Prim.Native.Nat.{ℕ, _+_, _-_, _≤_}
@@ -11,11 +11,11 @@ use Rattle.record_words.proofs.write_roll.Statement.{statement}
 use Rattle.record_words.proofs.write_roll.Tie as tie
 
 abbrev Inv-loop : tie.InvT-loop
-Inv-loop words₀ marks i₀ words i =
-    (i ≤ 16) × (length marks ≡ 16) × (length words ≡ length words₀) × (words ≡ paste words₀ 10 marks i)
+Inv-loop words₀ roll-words i₀ words i =
+    (i ≤ 16) × (length roll-words ≡ 16) × (length words ≡ length words₀) × (words ≡ paste words₀ 10 roll-words i)
 
 abbrev μ-loop : tie.MeasureT-loop
-μ-loop words₀ marks i₀ words i = 16 - i
+μ-loop words₀ roll-words i₀ words i = 16 - i
 
 loop-holds : tie.Need-loop-holds Inv-loop μ-loop
 loop-holds c =

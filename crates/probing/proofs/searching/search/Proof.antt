@@ -16,7 +16,7 @@ use Rattle.auction.specs.Auction.{Bid, IsAuction}
 use Rattle.auction.specs.Coins.{Coins, InRange}
 use Rattle.auction.proofs.Closed.{fresh-stage}
 use Rattle.standing.proofs.Standing.{Stands}
-use Rattle.probing.specs.Follows.{priced, mark}
+use Rattle.probing.specs.Follows.{priced, verdict-read}
 use Rattle.probing.proofs.Leading.{Led, led-start, led-more, led-over, follows}
 use borrow.Author.Needs.{needs}
 use Rattle.probing.proofs.searching.search.Statement.{statement}
@@ -112,7 +112,7 @@ loop-again c =
       λ bids d A C H.
           led-more (a .n) (a .k) bids d A C (a .totals .now) (a .sheets .now) (l .here) (after .result) (l .index) (l .verdict) (l .done)
           (l .inv .5 bids d A C H) g (after .ensures) _ _ (c .before .before .probed .ensures ∙ ap (λ q. middle (bracket q)) here)
-          (c .before .decided .ensures ∙ ap (λ q. mark (q .lo) (c .before .before .probed .result)) next) (l .inv .1) (l .inv .2) h,
+          (c .before .decided .ensures ∙ ap (λ q. verdict-read (q .lo) (c .before .before .probed .result)) next) (l .inv .1) (l .inv .2) h,
     )
 
 array-copy-out-last : tie.Need-array-copy-out-last Inv-loop μ-loop

@@ -7,8 +7,7 @@ use borrow.Author.Needs.{needs}
 use Rattle.ranges.specs.Lists.{count}
 use Rattle.ranges.proofs.Counting.{count-same, count-add}
 use Rattle.roll.specs.declared.Roll.{Roll}
-use Rattle.roll.specs.Marks.{marked, marks}
-use Rattle.roll.proofs.Bits.{bit}
+use Rattle.roll.specs.Marks.{is-set, marked, marks}
 use Rattle.roll.proofs.Roll.marks.Statement.{statement}
 use Rattle.roll.proofs.Roll.marks.Tie as tie
 
@@ -19,14 +18,14 @@ abbrev μ-loop : tie.MeasureT-loop
 μ-loop words sum₀ i₀ sum i = 16 - i
 
 -- one word more
-step : (roll : Roll) (i : ℕ) → count (marked roll) (64 * (i + 1)) ≡ count (marked roll) (64 * i) + count (bit (getD (roll .words) i 0)) 64
+step : (roll : Roll) (i : ℕ) → count (marked roll) (64 * (i + 1)) ≡ count (marked roll) (64 * i) + count (is-set (getD (roll .words) i 0)) 64
 unfolding marked
 step roll i =
     let more : 64 * (i + 1) ≡ 64 * i + 64 = omega arith in
     ap (count (marked roll)) more
     ∙ count-add (marked roll) (64 * i) 64
     ∙ ap (λ (m : ℕ). count (marked roll) (64 * i) + m)
-    (count-same (λ j. marked roll (64 * i + j)) (bit (getD (roll .words) i 0)) 64
+    (count-same (λ j. marked roll (64 * i + j)) (is-set (getD (roll .words) i 0)) 64
     (λ j l.
     let at : (64 * i + j) / 64 ≡ i = omega arith in
     let place : (64 * i + j) % 64 ≡ j = omega arith in

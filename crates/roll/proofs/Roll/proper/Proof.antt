@@ -1,8 +1,7 @@
 -- `proper` meets its contract: the first place, and those of the last word past bidder 1,000's. Assumes nothing.
 use mathlib.Core.Path.{_≡_, refl, sym, ap, ap₂, _∙_}
 use mathlib.Core.Bool.{Bool, true, false, not, _&&_}
-use Prim.Native.Nat.{ℕ, zero, suc, _+_, _/_, _%_, _^_, _<_}
-use native.Mathlib.Nat.{div-one}
+use Prim.Native.Nat.{ℕ, zero, suc, _+_, _/_, _%_, _<_}
 use native.Mathlib.Omega.{arith}
 use lib.Dec.{eqb}
 use lib.ListN.{length, getD}
@@ -10,8 +9,8 @@ use borrow.Author.Needs.{needs}
 use borrow.Author.Tests.{eqb-true, eqb-false, eq-eqb, ne-eqb}
 use Rattle.ranges.specs.Lists.{from, every}
 use Rattle.roll.specs.declared.Roll.{Roll}
-use Rattle.roll.specs.Marks.{marked, proper}
-use Rattle.roll.proofs.Bits.{bit}
+use Rattle.roll.specs.Marks.{is-set, marked, proper}
+use Rattle.roll.proofs.Bits.{lowest}
 use Rattle.roll.proofs.Roll.proper.Statement.{statement}
 use Rattle.roll.proofs.Roll.proper.Tie as tie
 
@@ -24,18 +23,18 @@ same-places f g a b (suc m) h =
     (same-places f g (suc a) (suc b) m (λ i l. ap f (omega arith) ∙ h (suc i) (omega arith) ∙ ap g (omega arith)))
 
 -- the first place
-even : (w : ℕ) → not (bit w 0) ≡ eqb (w % 2) 0
-even w = split (bit w 0) refl
+even : (w : ℕ) → not (is-set w 0) ≡ eqb (w % 2) 0
+even w = ap not (lowest w) ∙ split (eqb (w % 2) 1) refl
   where
-    split : (t : Bool) → bit w 0 ≡ t → not t ≡ eqb (w % 2) 0
-    split true e = sym (ne-eqb (w % 2) 0 (λ z. omega (arith, eqb-true (w / 2 ^ 0 % 2) 1 e, div-one w)))
-    split false e = sym (eq-eqb (w % 2) 0 (omega (arith, eqb-false (w / 2 ^ 0 % 2) 1 e, div-one w)))
+    split : (t : Bool) → eqb (w % 2) 1 ≡ t → not t ≡ eqb (w % 2) 0
+    split true e = sym (ne-eqb (w % 2) 0 (λ z. omega (arith, eqb-true (w % 2) 1 e)))
+    split false e = sym (eq-eqb (w % 2) 0 (omega (arith, eqb-false (w % 2) 1 e)))
 
 -- places 1,001 to 1,023 are bits 41 to 63 of word 15
-past : (roll : Roll) → every (λ b. not (marked roll b)) (from 1001 23) ≡ every (λ i. not (bit (getD (roll .words) 15 0) i)) (from 41 23)
+past : (roll : Roll) → every (λ b. not (marked roll b)) (from 1001 23) ≡ every (λ i. not (is-set (getD (roll .words) 15 0) i)) (from 41 23)
 unfolding marked
 past roll =
-    same-places (λ b. not (marked roll b)) (λ i. not (bit (getD (roll .words) 15 0) i)) 1001 41 23
+    same-places (λ b. not (marked roll b)) (λ i. not (is-set (getD (roll .words) 15 0) i)) 1001 41 23
     (λ i l.
     let at : (1001 + i) / 64 ≡ 15 = omega arith in
     let place : (1001 + i) % 64 ≡ 41 + i = omega arith in

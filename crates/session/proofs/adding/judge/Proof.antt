@@ -5,7 +5,7 @@ use Prim.Native.Nat.{_≤_}
 use native.Mathlib.Omega.{arith}
 use borrow.Author.Tests.{not-false}
 use Rattle.ranges.proofs.Loops.{and-left}
-use Rattle.roll.specs.Marks.{bidder}
+use Rattle.roll.specs.Marks.{is-bidder}
 use Rattle.record.specs.Record.{sound}
 use Rattle.session.specs.Add.{amounts-below, add-judgement}
 use Rattle.refusal.proofs.Judging.{refuses, passes, all-passed}
@@ -19,10 +19,10 @@ start c = c .before .before .before .before
 
 -- the test of the ranges, and what has passed where it did
 ranges : (c : tie.After-is-bidder)
-    → not (c .before .sound .result && c .is-bidder .result) ≡ not (sound (start c .args .q) && bidder (start c .args .bidder))
+    → not (c .before .sound .result && c .is-bidder .result) ≡ not (sound (start c .args .q) && is-bidder (start c .args .bidder))
 ranges c = ap₂ (λ (a b : Bool). not (a && b)) (c .before .sound .ensures) (c .is-bidder .ensures)
 
-whole : (c : tie.Else1) → not (sound (start (c .before) .args .q) && bidder (start (c .before) .args .bidder)) ≡ false
+whole : (c : tie.Else1) → not (sound (start (c .before) .args .q) && is-bidder (start (c .before) .args .bidder)) ≡ false
 whole c = sym (ranges (c .before)) ∙ c .if1 .left
 
 few : (c : tie.Else1) → start (c .before) .args .q .k ≤ 1024
