@@ -223,7 +223,10 @@ int main(void)
              "open");
     for (i = 0; i < BIDS; i++) {
         split(&desks[i], bidders[i], tables[i]);
-        send_bid(&desks[i], i == DROPPED ? REACHED : N);
+        if (i == DROPPED)
+            send_bid(&desks[i], REACHED);
+        else
+            send_bid(&desks[i], N);
     }
     send_again(&desks[DROPPED]);
     check(all_in(), "a bid is missing");

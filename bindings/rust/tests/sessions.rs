@@ -1,8 +1,8 @@
 //! The two types of a session, and storing and resuming each.
 
 use clockivy::{
-    deal, deal_bytes_len, sheets_len, split, words, Answer, Collecting, Record, Refusal, Speaking,
-    PRIME, RECORD_LEN, ROLL_LEN, SHEET_LEN, STORED_LEN,
+    deal, deal_bytes_len, sheets_len, split, words, Answer, Collecting, Refusal, Speaking, PRIME,
+    RECORD_LEN, ROLL_LEN, SHEET_LEN, STORED_LEN,
 };
 
 const N: u64 = 3;
@@ -94,22 +94,22 @@ fn the_fields_of_a_record_in_their_order() {
     let record: [u64; RECORD_LEN] = std::array::from_fn(|place| place as u64 + 10);
     let words = stored(1, record);
     let party = Speaking::resume(&words, &[], &[]).unwrap();
-    let expected = Record {
-        n: 10,
-        own: 11,
-        k: 12,
-        bids: 13,
-        lo: 14,
-        hi: 15,
-        probes: 16,
-        round: 17,
-        sum: 18,
-        carry: 19,
-        roll: [
-            20, 21, 22, 23, 24, 25, 26, 27, 28, 29, 30, 31, 32, 33, 34, 35,
-        ],
-    };
-    assert_eq!((party.record(), party.store()), (&expected, words));
+    let record = party.record();
+    let numbers = [
+        record.n,
+        record.own,
+        record.k,
+        record.bids,
+        record.lo,
+        record.hi,
+        record.probes,
+        record.round,
+        record.sum,
+        record.carry,
+    ];
+    assert_eq!(numbers, [10, 11, 12, 13, 14, 15, 16, 17, 18, 19]);
+    assert_eq!(record.roll, std::array::from_fn(|place| place as u64 + 20));
+    assert_eq!(party.store(), words);
 }
 
 #[test]

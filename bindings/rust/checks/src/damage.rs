@@ -186,7 +186,7 @@ fn word(rng: &mut Rng, call: &mut Call) {
     }
     let length = call.words[slice].len();
     if length == 0 {
-        return call.words[slice].push(rng.pick(&EDGES));
+        return call.words[slice].resize(1, rng.pick(&EDGES));
     }
     let place = match rng.below(8) {
         0 => Some(0),
