@@ -1,6 +1,6 @@
 -- Opening a session, splitting a bid and adding its shares, for parties that hold the polynomials of the totals between them. Assumes nothing.
 use mathlib.Core.Path.{_≡_, refl, sym, ap, ap₂, _∙_}
-use mathlib.Core.List.{List, [], _∷_, _++_}
+use mathlib.Core.List.{List, [], _∷_}
 use Prim.Native.Nat.{ℕ, zero, suc, _+_, _*_, _%_, _≤_, _<_}
 use native.Mathlib.Nat.{suc-inj, mul-zero}
 use native.Mathlib.Omega.{arith}
@@ -10,10 +10,11 @@ use Rattle.fields.specs.Amount.{p, amounts}
 use Rattle.ranges.specs.Below.{AllBelow}
 use Rattle.fields.proofs.Fields.{amount-field}
 use Rattle.refusal.specs.declared.Judgement.the-variants.{Accepted}
+use Rattle.refusal.proofs.Judging.{kept-new}
 use Rattle.sharing.specs.Polynomial.{value, share-each}
 use Rattle.sharing.specs.Linear.{sums}
 use Rattle.sharing.specs.Scheme.{threshold}
-use Rattle.ranges.proofs.Ranges.{OnList}
+use Rattle.ranges.proofs.Ranges.{OnList, below-append}
 use Rattle.sharing.proofs.Laws.{value-lt, value-sums}
 use Rattle.comparison.specs.Probe.{Each, Group}
 use Rattle.comparison.proofs.Values.{Shared}
@@ -26,6 +27,7 @@ use Rattle.record.specs.declared.Party.{Party}
 use Rattle.record.specs.Record.{blank}
 use Rattle.session.specs.Open.{open-judgement}
 use Rattle.record.specs.Updates.{fresh, entered}
+use Rattle.record.proofs.Replies.{next-party}
 use Rattle.record.proofs.Soundness.{Sound}
 use Rattle.record.proofs.Updates.{fresh-sound}
 use Rattle.session.specs.Add.{add-judgement, add-reply, add-left}
@@ -34,20 +36,15 @@ use Rattle.auction.specs.Auction.{Auction, IsAuction}
 use Rattle.auction.specs.Coins.{Coins, DrawnBid, flat}
 use Rattle.auction.specs.Canonical.{Seat, zeros, seated, shares-for, after-adding}
 use Rattle.auction.proofs.Closed.{entries, added-polynomials, at-party, no-totals}
-use Rattle.auction.proofs.Judging.{kept-new, replied-next}
 use Rattle.auction.proofs.Totals.{GoodBid, Held, entries-held}
 
 -- ---- flattened groups
 
 module _ (q t : ℕ) where
-  pub below-append : (xs ys : List ℕ) → AllBelow q xs → AllBelow q ys → AllBelow q (xs ++ ys)
-  below-append [] ys h k = k
-  below-append (x ∷ xs) ys h k = (h .0, below-append xs ys (h .1) k)
-
   pub flat-below : (gs : List (List ℕ)) → Each (Group q t) gs → AllBelow q (flat gs)
   unfolding flat
   flat-below [] h = tt
-  flat-below (g ∷ gs) h = below-append g (flat gs) (h .0 .1) (flat-below gs (h .1))
+  flat-below (g ∷ gs) h = below-append q g (flat gs) (h .0 .1) (flat-below gs (h .1))
 
   pub flat-length : (gs : List (List ℕ)) → Each (Group q t) gs → length (flat gs) ≡ length gs * t
   unfolding flat
@@ -81,7 +78,7 @@ module _ (n j k : ℕ) (L : OnList n j k) (b : DrawnBid) (shares : List ℕ) (B 
       })
 
   pub split-writes : split-left n j k (b .0 .table) (flat (b .1)) shares ≡ at-party j (entries (b .0 .table) (b .1))
-  split-writes = kept-new _ splits-bid _ shares ∙ shares-written (threshold n) j (b .0 .table) (b .1) (B .many ∙ sym (B .table .long)) (B .groups)
+  split-writes = kept-new _ _ shares splits-bid ∙ shares-written (threshold n) j (b .0 .table) (b .1) (B .many ∙ sym (B .table .long)) (B .groups)
 
 -- the record of party j with the bids of these on the roll held
 unfoldable pub holding : (n k : ℕ) (roll : Roll) (j : ℕ) → Party
@@ -173,8 +170,8 @@ module _ {a : Auction} (c : Coins) (A : IsAuction a) (j : ℕ) (h1 : 1 ≤ j) (h
   unfolding seated holding-seat
   seated-holding =
       ap₂ (λ (q : Party) (totals : List ℕ). record { party = q; totals = totals; sheets = [] })
-      (replied-next _ opened (fresh (a .n) j (a .k)) blank ∙ fresh-holding (a .n) (a .k) j)
-      (kept-new _ opened (replicate (2 * a .k) 0) (zeros a c) ∙ sym (at-party-zeros (threshold (a .n)) j (2 * a .k)))
+      (next-party _ (fresh (a .n) j (a .k)) blank opened ∙ fresh-holding (a .n) (a .k) j)
+      (kept-new _ (replicate (2 * a .k) 0) (zeros a c) opened ∙ sym (at-party-zeros (threshold (a .n)) j (2 * a .k)))
 
   module _ (b : DrawnBid) (B : GoodBid (a .k) (threshold (a .n)) b) where
     pub splitting-accepted : split-judgement (a .n) j (a .k) (b .0 .table) (flat (b .1)) (zeros a c) ≡ Accepted
@@ -211,6 +208,6 @@ module _ {a : Auction} (c : Coins) (A : IsAuction a) (j : ℕ) (h1 : 1 ≤ j) (h
             ap (λ (shares : List ℕ). record { party = add-reply q (at-party j fs) (b .0 .bidder) shares .party; totals = add-left q (at-party j fs) (b .0 .bidder) shares; sheets = [] })
             shares-for-party
             ∙ ap₂ (λ (r : Party) (totals : List ℕ). record { party = r; totals = totals; sheets = [] })
-            (replied-next _ adding-accepted (entered q (b .0 .bidder)) q ∙ one-more (a .n) (a .k) j roll P (b .0 .bidder) free)
-            (kept-new _ adding-accepted _ (at-party j fs)
+            (next-party _ (entered q (b .0 .bidder)) q adding-accepted ∙ one-more (a .n) (a .k) j roll P (b .0 .bidder) free)
+            (kept-new _ _ (at-party j fs) adding-accepted
             ∙ at-party-added (threshold (a .n)) j fs (entries (b .0 .table) (b .1)) (point-below (a .n) j (A .n-most) hn) (F .shared) (E .shared) (E .many ∙ sym (F .many)))

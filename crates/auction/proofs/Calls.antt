@@ -10,7 +10,7 @@ use lib.Dec.{eqb}
 use borrow.Author.Tests.{eq-eqb, ne-eqb}
 use Rattle.ranges.specs.Lists.{from}
 use Rattle.sharing.specs.Scheme.{points}
-use Rattle.ranges.proofs.Loops.{and-left, and-right}
+use Rattle.ranges.proofs.Loops.{and-left, and-right, and-false}
 use Rattle.comparison.specs.Probe.{Each}
 use Rattle.auction.specs.Call.{Call, accepted, whose, of-party, of-service, given}
 use Rattle.auction.specs.Run.{select, own, services}
@@ -149,9 +149,5 @@ pub own-none : {A : Type 0} (j : ℕ) (f : A → Call) (xs : List A) → ((x : A
 unfolding select
 own-none j f [] h = refl
 own-none j f (x ∷ xs) h =
-    select-left (λ c. accepted c && of-party j (whose c)) (f x) (map f xs) (ap (λ (b : Bool). accepted (f x) && b) (h x) ∙ none (accepted (f x)))
+    select-left (λ c. accepted c && of-party j (whose c)) (f x) (map f xs) (and-false (accepted (f x)) _ (h x))
     ∙ own-none j f xs h
-  where
-    none : (b : Bool) → b && false ≡ false
-    none true = refl
-    none false = refl

@@ -10,6 +10,7 @@ use Rattle.ranges.specs.Sizes.{sheet-size}
 use Rattle.fields.specs.Amount.{amounts}
 use Rattle.fields.specs.Byte.{product, bytes}
 use Rattle.refusal.specs.declared.Judgement.the-variants.{Accepted}
+use Rattle.refusal.proofs.Judging.{kept-new}
 use Rattle.ranges.specs.Lists.{from}
 use Rattle.sharing.specs.Polynomial.{value, share-each}
 use Rattle.sharing.specs.Scheme.{threshold}
@@ -19,7 +20,6 @@ use Rattle.dealer.specs.Deal.{deal-judgement, byte-shares, triple, triples, pre
 use Rattle.dealer.proofs.Laws.{deal-accepted}
 use Rattle.ranges.proofs.Ranges.{IsParty}
 use Rattle.auction.specs.Coins.{flat, coin-words, triple-bytes, coin-bytes}
-use Rattle.auction.proofs.Judging.{kept-new}
 use Rattle.auction.proofs.Bidding.{flat-length}
 
 -- ---- how many bytes
@@ -112,4 +112,4 @@ module _ (n j : ℕ) (P : IsParty n j) (s : SheetCoins) (h : SheetInRange (thres
       })
 
   pub deal-writes : deal-left n j (coin-words s) (coin-bytes s) sheet ≡ sheet-shares j (sheet-polynomials s)
-  deal-writes = kept-new _ deals-sheet _ sheet ∙ sheet-written (threshold n) j s h
+  deal-writes = kept-new _ _ sheet deals-sheet ∙ sheet-written (threshold n) j s h

@@ -11,6 +11,7 @@ use Rattle.refusal.proofs.Judging.{refuses}
 use Rattle.refusal.specs.declared.Judgement.{Judgement}
 use Rattle.refusal.specs.declared.Judgement.the-variants.{Accepted, Refused}
 use Rattle.ranges.specs.Lists.{from}
+use Rattle.ranges.proofs.Loops.{and-false}
 use Rattle.sharing.specs.Scheme.{points}
 use Rattle.comparison.specs.Probe.{Each}
 use Rattle.record.specs.declared.Party.{Party}
@@ -29,7 +30,6 @@ use Rattle.auction.specs.Coins.{Coins, DrawnBid}
 use Rattle.auction.specs.Call.{Call, open-call, service, judgement, is-accepted, accepted, whose, of-party}
 use Rattle.auction.specs.Canonical.{Seat, all-over, zeros, seated, shares-for, split-for, add-by, after-adding, deal-for, after-dealing, say-by, word-by, hear-by, after-hearing, ask, enough-rounds, from-rounds, deals, from-bids, canonical}
 use Rattle.auction.specs.Run.{select, own}
-use Rattle.auction.proofs.Selected.{and-false}
 use Rattle.auction.proofs.Calls.{select-append}
 
 -- ---- on a record that is not sound every call is refused

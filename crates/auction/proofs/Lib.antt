@@ -2,7 +2,6 @@
 pub mod Closed
 pub mod Calls
 pub mod Totals
-pub mod Judging
 pub mod Bidding
 pub mod Dealing
 pub mod Setup

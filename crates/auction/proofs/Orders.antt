@@ -10,6 +10,7 @@ use lib.ListN.{replicate}
 use borrow.Author.Tests.{eqb-true}
 use Rattle.ranges.specs.Orders.{Shuffle}
 use Rattle.ranges.proofs.Orders.{shuffle-swap, shuffle-refl}
+use Rattle.ranges.proofs.Loops.{and-false}
 use Rattle.record.specs.declared.Party.{Party}
 use Rattle.auction.specs.Auction.{Auction}
 use Rattle.auction.specs.Coins.{Coins}
@@ -17,7 +18,7 @@ use Rattle.auction.specs.Call.{Call, say-call, answer-call, accepted, Wh
 use Rattle.auction.specs.Canonical.{canonical}
 use Rattle.auction.specs.Run.{Run, Repeats, select, own, services}
 use Rattle.auction.specs.Received.{collect, bid-in, hearing-in, asking-in, received-bids, hearings, askings, messages, sheets, decisions, verdicts, indices, unused}
-use Rattle.auction.proofs.Selected.{and-false, with-call, select-cons, select-skip}
+use Rattle.auction.proofs.Selected.{with-call, select-cons, select-skip}
 use Rattle.auction.proofs.Calls.{select-append}
 use Rattle.auction.proofs.Repeats.{repeats-refl, repeats-say, repeats-ask, repeats-none}
 use Rattle.auction.proofs.Elsewhere.{none-told}

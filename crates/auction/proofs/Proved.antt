@@ -29,7 +29,7 @@ use Rattle.auction.proofs.Closed.{bid-words, full-roll, decision, all-s
 use Rattle.auction.proofs.Orders.{canonical-run, run-bids, run-messages, run-sheets, run-decisions, run-verdicts, run-askings}
 use Rattle.auction.proofs.Canonical.{canonical-accepted, canonical-bids, canonical-messages, canonical-sheets, canonical-decisions, canonical-many, canonical-askings}
 use Rattle.auction.proofs.Search.{probes-trail, probes-few, probes-some}
-use Rattle.auction.proofs.Totals.{each-replicate}
+use Rattle.comparison.proofs.Plain.{each-replicate}
 use Rattle.auction.proofs.Rounds.{end, end-answer}
 use Rattle.auction.proofs.Falling.{few-fall}
 use Rattle.auction.proofs.Match.{Match, matching}

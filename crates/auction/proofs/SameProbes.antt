@@ -25,14 +25,16 @@ use Rattle.comparison.specs.Probe.{SheetCoins, Each, Probe, SheetInRange, sheet
 use Rattle.comparison.proofs.Matched.{moved, matched}
 use Rattle.comparison.proofs.Promise.{Compares, probe-shared, sum-law, promised}
 use Rattle.comparison.proofs.Agreement.{In, map-same, same-map}
-use Rattle.comparison.proofs.Hiding.{Other, Matches, hides}
+use Rattle.comparison.proofs.Hiding.{Other, Matches, append-parts, hides}
 use Rattle.search.proofs.Trails.{trail-over, trail-going}
 use Rattle.auction.specs.Auction.{Auction, Bid, demand, supply}
 use Rattle.auction.specs.Coins.{flat}
 use Rattle.auction.specs.Demands.{stays}
 use Rattle.auction.proofs.Matched.{opening, matched-sheet, matched-sheets}
 use Rattle.auction.proofs.Closed.{probe-at, Made, made, spoken}
-use Rattle.auction.proofs.SameSheets.{append-parts, words-long, sheet-fixed, spoken-long, spoken-heard}
+use Rattle.auction.proofs.Sheets.{words-long}
+use Rattle.auction.proofs.Search.{made-over}
+use Rattle.auction.proofs.SameSheets.{sheet-fixed, spoken-long, spoken-heard}
 
 -- ---- the search, probe by probe
 
@@ -48,11 +50,6 @@ module _ (a : Auction) (fs : List (List ℕ)) (br : Bracket) where
   made-none : made a fs br [] ≡ []
   unfolding made
   made-none = refl
-
-  made-over : (ss : List SheetCoins) → over br ≡ true → made a fs br ss ≡ []
-  unfolding made
-  made-over [] e = refl
-  made-over (s ∷ ss) e = rw (e, made)
 
   made-going : (s : SheetCoins) (ss : List SheetCoins) {next : Bracket} → over br ≡ false → step br (canonical-at a fs br s) ≡ next
       → made a fs br (s ∷ ss) ≡ probing-at a fs br s ∷ made a fs next ss

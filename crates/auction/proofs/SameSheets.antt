@@ -1,14 +1,13 @@
--- A sheet is 127 words a party, and the words of all n parties fix its coins; a probe is 33 messages a party, read round by round.
--- Assumes nothing.
+-- The words of all n parties fix the coins of a sheet; a probe is 33 messages a party, read round by round. Assumes nothing.
 use mathlib.Core.Path.{_≡_, refl, sym, ap, ap₂, fun-ext, _∙_}
-use mathlib.Core.List.{List, [], _∷_, _++_, map, head-eq-of-cons-eq, tail-eq-of-cons-eq, List·Memᴰ·head, List·Memᴰ·tail}
-use Prim.Native.Nat.{ℕ, zero, suc, _+_, _*_, _≤_, _<_}
+use mathlib.Core.List.{List, [], _∷_, map, head-eq-of-cons-eq, tail-eq-of-cons-eq, List·Memᴰ·head, List·Memᴰ·tail}
+use Prim.Native.Nat.{ℕ, zero, suc, _+_, _≤_, _<_}
 use native.Mathlib.Nat.{suc-inj}
 use native.Mathlib.Decide.{decLe}
 use native.Mathlib.Omega.{arith}
-use lib.ListN.{length, take, drop, getD, length-map, length-append}
-use lib.Seq.{take-at, drop-at, ext-getD}
-use Rattle.ranges.specs.Sizes.{sheet-size, probe-rounds}
+use lib.ListN.{length, getD, length-map, length-append}
+use lib.Seq.{ext-getD}
+use Rattle.ranges.specs.Sizes.{probe-rounds}
 use Rattle.fields.specs.Byte.{product, bytes}
 use Rattle.fields.proofs.Fields.{amount-field, byte-field}
 use Rattle.sharing.specs.Polynomial.{value}
@@ -17,19 +16,14 @@ use Rattle.sharing.specs.Scheme.{points}
 use Rattle.ranges.proofs.Loops.{length-from}
 use Rattle.fields.specs.Bits.{bit}
 use Rattle.comparison.specs.Rounds.{both}
-use Rattle.comparison.specs.Probe.{Triple, Sheet, TripleCoins, SheetCoins, Group, Each, TripleInRange, SheetInRange, Probe, bit-polynomials, triple-polynomials, sheet-polynomials, triple-words, sheet-shares, probe-messages, product-rounds, last-polynomial}
+use Rattle.comparison.specs.Probe.{TripleCoins, SheetCoins, Group, Each, TripleInRange, SheetInRange, Probe, bit-polynomials, triple-polynomials, sheet-polynomials, triple-words, sheet-shares, probe-messages, product-rounds, last-polynomial}
 use Rattle.comparison.proofs.Values.{bit-byte}
-use Rattle.comparison.proofs.Dealt.{SheetShared, ProbeShared, TripleShared, shared-cons, triple-polynomials-shared, bit-polynomials-length, dealt-shared, product-rounds-long}
+use Rattle.comparison.proofs.Dealt.{ProbeShared, TripleShared, shared-cons, triple-polynomials-shared, bit-polynomials-length, product-rounds-long}
 use Rattle.comparison.proofs.Agreement.{In, same-map, heard}
+use Rattle.comparison.proofs.Hiding.{append-parts}
 use Rattle.auction.proofs.Closed.{spoken}
 
 -- ---- lists
-
-pub append-parts : {A : Type 0} (ks ks′ ls ls′ : List A) → length ks ≡ length ks′ → ks ++ ls ≡ ks′ ++ ls′ → (ks ≡ ks′) × (ls ≡ ls′)
-append-parts ks ks′ ls ls′ h e = (
-  sym (take-at ks ls (length ks′) h) ∙ ap (take (length ks′)) e ∙ take-at ks′ ls′ (length ks′) refl,
-  sym (drop-at ks ls (length ks′) h) ∙ ap (drop (length ks′)) e ∙ drop-at ks′ ls′ (length ks′) refl,
-)
 
 from-in : (a m x : ℕ) → a ≤ x → x < a + m → In x (from a m)
 unfolding from
@@ -39,28 +33,6 @@ from-in a (suc m) x h k =
       | yes le ↦ let e : x ≡ a = omega arith in List·Memᴰ·head e
       | no gt ↦ List·Memᴰ·tail (from-in (suc a) m x (omega arith) (omega arith))
     ]
-
--- ---- 127 words
-
-triple-words-long : (j : ℕ) (ts : List (Triple (List ℕ))) → length (triple-words j ts) ≡ 3 * length ts
-unfolding triple-words
-triple-words-long j [] = refl
-triple-words-long j (t ∷ ts) = omega (arith, triple-words-long j ts)
-
-sheet-shares-long : (t j : ℕ) (s : Sheet (List ℕ)) → SheetShared t s → length (sheet-shares j s) ≡ sheet-size
-unfolding sheet-shares
-sheet-shares-long t j s h =
-    omega (
-      arith,
-      length-append (map (λ b. value bytes b j) (s .bits)) (triple-words j (s .triples)),
-      length-map (s .bits) (λ b. value bytes b j),
-      triple-words-long j (s .triples),
-      h .bits-long,
-      h .triples-long,
-    )
-
-pub words-long : (t j : ℕ) (c : SheetCoins) → SheetInRange t c → length (sheet-shares j (sheet-polynomials c)) ≡ sheet-size
-words-long t j c h = sheet-shares-long t j (sheet-polynomials c) (dealt-shared t c h)
 
 -- ---- the words of all n parties fix the coins
 

@@ -51,7 +51,7 @@ drop-next (suc m) [] s ss e = absurd (nil≢cons e)
 drop-next (suc m) (x ∷ xs) s ss e = drop-next m xs s ss e
 
 module _ (a : Auction) (fs : List (List ℕ)) where
-  made-over : (b : Bracket) (ss : List SheetCoins) → over b ≡ true → made a fs b ss ≡ []
+  pub made-over : (b : Bracket) (ss : List SheetCoins) → over b ≡ true → made a fs b ss ≡ []
   unfolding made
   made-over b [] e = refl
   made-over b (s ∷ ss) e = rw (e, made)

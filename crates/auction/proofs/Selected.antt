@@ -1,14 +1,10 @@
 -- The calls of a list that pass a test, with one call more. Assumes nothing.
 use mathlib.Core.Path.{_≡_, refl}
-use mathlib.Core.Bool.{Bool, true, false, cond, _&&_}
+use mathlib.Core.Bool.{Bool, false, cond}
 use mathlib.Core.List.{List, _∷_, _++_}
 use Rattle.auction.specs.Call.{Call, given}
 use Rattle.auction.specs.Run.{select}
 use Rattle.auction.proofs.Calls.{select-append}
-
-pub and-false : (s t : Bool) → t ≡ false → s && t ≡ false
-and-false true t e = e
-and-false false t e = refl
 
 -- one call more, if it passes
 abbrev pub with-call : Bool → Call → List Call → List Call

@@ -2,11 +2,10 @@
 -- words of the totals' polynomials and of the dealt ones. Assumes nothing.
 use mathlib.Core.Path.{_≡_, refl, sym, ap, ap₂, _∙_}
 use mathlib.Core.Bool.{true}
-use mathlib.Core.List.{List, [], _∷_, _++_, map, zip, zipWith, append-assoc, append-nil}
+use mathlib.Core.List.{List, [], _∷_, _++_, map, zip, append-assoc, append-nil}
 use Prim.Native.Nat.{ℕ, _≤_}
-use native.Mathlib.Nat.{suc-inj}
-use native.Mathlib.Omega.{arith}
 use lib.ListN.{length, replicate, length-replicate}
+use Rattle.refusal.specs.declared.Judgement.the-variants.{Accepted}
 use Rattle.ranges.specs.Sizes.{sheet-size}
 use Rattle.sharing.specs.Polynomial.{value}
 use Rattle.sharing.specs.Scheme.{threshold, points}
@@ -16,17 +15,16 @@ use Rattle.roll.specs.declared.Roll.{Roll}
 use Rattle.roll.specs.Marks.{empty, mark}
 use Rattle.roll.proofs.Laws.{Proper, Free, proper-mark, proper-empty}
 use Rattle.roll.proofs.Entry.{enter, Enters, all-enter}
-use Rattle.auction.specs.Auction.{Auction, Bid, bidders, IsAuction}
+use Rattle.auction.specs.Auction.{Auction, bidders, IsAuction}
 use Rattle.auction.specs.Coins.{Coins, DrawnBid, InRange, flat, coin-words, coin-bytes}
-use Rattle.auction.specs.Call.{Call, open-call, split-call, deal-call, add-call, judgement, accepted, whose, of-party, given}
+use Rattle.auction.specs.Call.{Call, open-call, split-call, deal-call, add-call, judgement, is-accepted, accepted, whose, of-party, given}
 use Rattle.auction.specs.Canonical.{Seat, zeros, seated, split-for, add-by, after-adding, deal-for, sheet-for, after-dealing, enough-rounds, from-rounds, deals, from-bids, canonical}
 use Rattle.auction.specs.Run.{select, own}
 use Rattle.auction.specs.Received.{collect, bid-in, hearing-in, asking-in}
 use Rattle.auction.specs.Demands.{all-accepted}
 use Rattle.auction.proofs.Closed.{entries, added-polynomials, totals-after, at-party, bid-for, bid-words, no-totals, polynomials, full-roll, fresh-stage, record-at, sheets-at, seat}
 use Rattle.auction.proofs.Calls.{own-append, all-accepted-append, all-accepted-map, all-accepted-points, each-point, map-each, map-points, map-through, Own, own-points, own-none}
-use Rattle.auction.proofs.Totals.{each-imp, GoodBid, Held, entries-held, added-held, no-totals-held, all-good}
-use Rattle.auction.proofs.Judging.{accepts}
+use Rattle.auction.proofs.Totals.{each-imp, map-zip, GoodBid, Held, entries-held, added-held, no-totals-held, all-good}
 use Rattle.ranges.proofs.Ranges.{one-of-n}
 use Rattle.auction.proofs.Bidding.{holding, holding-seat, member, opened, seated-holding, splitting-accepted, shares-for-party, adding-accepted, added-holding}
 use Rattle.auction.proofs.Dealing.{deals-sheet, deal-writes}
@@ -35,12 +33,6 @@ use Rattle.auction.proofs.Dealing.{deals-sheet, deal-writes}
 
 abbrev pub bidders-of : List DrawnBid → List ℕ
 bidders-of bs = map (λ b. b .0 .bidder) bs
-
-zip-bidders : (bids : List Bid) (gss : List (List (List ℕ))) → length gss ≡ length bids → bidders-of (zip bids gss) ≡ map (λ b. b .bidder) bids
-unfolding zip zipWith
-zip-bidders [] gss l = refl
-zip-bidders (b ∷ bids) [] l = absurd (omega arith)
-zip-bidders (b ∷ bids) (gs ∷ gss) l = ap (λ (z : List ℕ). b .bidder ∷ z) (zip-bidders bids gss (suc-inj l))
 
 -- those on the roll have entered, and the bidders of bs are still to
 pub record Entering (a : Auction) (roll : Roll) (bs : List DrawnBid) : Type 0 where
@@ -62,10 +54,14 @@ module _ (a : Auction) (roll : Roll) where
 pub entering-all : {a : Auction} → IsAuction a → (gss : List (List (List ℕ))) → length gss ≡ length (a .bids) → Entering a empty (zip (a .bids) gss)
 unfolding full-roll
 entering-all {a} A gss l =
-    let same : bidders-of (zip (a .bids) gss) ≡ bidders a = zip-bidders (a .bids) gss l in
+    let same : bidders-of (zip (a .bids) gss) ≡ bidders a = map-zip (λ b. b .bidder) (a .bids) gss l in
     record { proper = proper-empty; enters = rw same (all-enter (bidders a) (A .bidders)); full = ap (enter empty) same }
 
 -- ---- the calls
+
+accepts : (c : Call) → judgement c ≡ Accepted → accepted c ≡ true
+unfolding is-accepted
+accepts c e = rw e
 
 module _ (a : Auction) (c : Coins) where
   -- the seats after these bids

@@ -1,6 +1,6 @@
 -- The words of the current sheet: those of the sheet that the dealer made of its coins, at a party's point. Assumes nothing.
 use mathlib.Core.Path.{_≡_, refl, sym, ap, _∙_}
-use mathlib.Core.List.{List, [], _∷_, _++_, map, nil≢cons, head-eq-of-cons-eq}
+use mathlib.Core.List.{List, [], _∷_, map, nil≢cons, head-eq-of-cons-eq}
 use Prim.Native.Nat.{ℕ, zero, suc, _+_, _-_, _*_, _<_}
 use native.Mathlib.Nat.{mul-zero, le-of-suc-le-suc}
 use native.Mathlib.Omega.{arith}
@@ -10,12 +10,13 @@ use Rattle.ranges.specs.Sizes.{sheet-size}
 use Rattle.fields.specs.Amount.{p, amounts}
 use Rattle.fields.specs.Byte.{bytes}
 use Rattle.ranges.specs.Below.{AllBelow}
+use Rattle.ranges.proofs.Ranges.{below-append}
 use Rattle.fields.proofs.Fields.{amount-field, byte-field}
 use Rattle.sharing.specs.Polynomial.{value}
 use Rattle.sharing.proofs.Laws.{value-lt}
-use Rattle.comparison.specs.Probe.{sheet-shares, Triple, Sheet, Each, triple-words}
+use Rattle.comparison.specs.Probe.{SheetCoins, SheetInRange, sheet-polynomials, sheet-shares, Triple, Sheet, Each, triple-words}
 use Rattle.comparison.proofs.Values.{Shared}
-use Rattle.comparison.proofs.Dealt.{TripleShared, SheetShared}
+use Rattle.comparison.proofs.Dealt.{TripleShared, SheetShared, dealt-shared}
 use Rattle.auction.specs.Coins.{flat}
 
 -- ---- one of many lists of the same length
@@ -121,11 +122,10 @@ module _ (t j : ℕ) (s : Sheet (List ℕ)) (h : SheetShared t s) where
     pub gamma-word : getD (sheet-shares j s) (34 + 3 * (i + 2 - 2) + 2) 0 ≡ value bytes (getD (s .triples) i no-triple .gamma) j
     gamma-word = late-word (3 * i + 2) _ (omega arith) ∙ gamma-in j (s .triples) i (omega (arith, h .triples-long))
 
--- ---- its words are in their fields
+pub words-long : (t j : ℕ) (c : SheetCoins) → SheetInRange t c → length (sheet-shares j (sheet-polynomials c)) ≡ sheet-size
+words-long t j c h = sheet-length t j (sheet-polynomials c) (dealt-shared t c h)
 
-pub below-append : (size : ℕ) (xs ys : List ℕ) → AllBelow size xs → AllBelow size ys → AllBelow size (xs ++ ys)
-below-append size [] ys h k = k
-below-append size (x ∷ xs) ys h k = (h .0, below-append size xs ys (h .1) k)
+-- ---- its words are in their fields
 
 module _ (j : ℕ) (l : j < 10) where
   pub amount-below : (f : List ℕ) → AllBelow p f → value amounts f j < p

@@ -35,7 +35,7 @@ use Rattle.auction.specs.Call.{accepted, is-accepted, judgement}
 use Rattle.auction.specs.Canonical.{word, say-by, word-by, hear-by, after-hearing}
 use Rattle.auction.proofs.Closed.{at-party, polynomials, full-roll, Stage, fresh-stage, record-at, sheets-at, seat}
 use Rattle.auction.proofs.Totals.{each-imp, polynomials-length}
-use Rattle.auction.proofs.Sheets.{flat-length, flat-at, sheet-length, mask-word, getD-amounts, amount-below, byte-below, sheet-bytes-below}
+use Rattle.auction.proofs.Sheets.{flat-length, flat-at, words-long, mask-word, getD-amounts, amount-below, byte-below, sheet-bytes-below}
 use Rattle.auction.proofs.Comparing.{demand-shared, supply-shared, index-least, index-most}
 
 -- ---- one round
@@ -125,11 +125,8 @@ module _ (a : Auction) (c : Coins) (A : IsAuction a) (C : InRange a c) where
   abbrev t : ℕ
   t = threshold (a .n)
 
-  sheet-long : (j : ℕ) (s : SheetCoins) → SheetInRange t s → length (sheet-shares j (sheet-polynomials s)) ≡ sheet-size
-  sheet-long j s h = sheet-length t j (sheet-polynomials s) (dealt-shared t s h)
-
   sheets-long : (j : ℕ) → Each (λ s. length (sheet-shares j (sheet-polynomials s)) ≡ sheet-size) (c .sheets)
-  sheets-long j = each-imp (SheetInRange t) (λ s. length (sheet-shares j (sheet-polynomials s)) ≡ sheet-size) (c .sheets) (sheet-long j) (C .sheets)
+  sheets-long j = each-imp (SheetInRange t) (λ s. length (sheet-shares j (sheet-polynomials s)) ≡ sheet-size) (c .sheets) (words-long t j) (C .sheets)
 
   pub sheets-length : (j : ℕ) → length (sheets-at a c j) ≡ sheet-size * limit (a .k)
   unfolding sheets-at

@@ -11,7 +11,6 @@ use lib.ListN.{length, replicate, take, drop, getD, length-map, length-replicate
 use lib.Seq.{length-take-le, getD-take, getD-drop}
 use borrow.Author.Tests.{leb-true}
 use Rattle.fields.specs.Amount.{p, amounts}
-use Rattle.ranges.specs.Below.{AllBelow}
 use Rattle.fields.proofs.Fields.{amount-field}
 use Rattle.ranges.specs.Lists.{every}
 use Rattle.sharing.specs.Linear.{sums}
@@ -22,6 +21,7 @@ use Rattle.search.specs.Clearing.{Monotone}
 use Rattle.comparison.specs.Probe.{Each, Group, secret}
 use Rattle.comparison.proofs.Values.{Shared}
 use Rattle.comparison.proofs.Dealt.{each-at, shared-cons}
+use Rattle.comparison.proofs.Plain.{each-replicate, zeros-group}
 use Rattle.ranges.specs.Steps.{steps}
 use Rattle.bid.specs.Table.{most, monotone}
 use Rattle.roll.proofs.Entry.{bidders-few}
@@ -35,13 +35,11 @@ pub each-imp : {A : Type 0} (P Q : A → Type 0) (xs : List A) → ((x : A) → 
 each-imp P Q [] f h = tt
 each-imp P Q (x ∷ xs) f h = (f x (h .0), each-imp P Q xs f (h .1))
 
-pub each-replicate : {A : Type 0} (P : A → Type 0) (m : ℕ) (x : A) → P x → Each P (replicate m x)
-each-replicate P zero x h = tt
-each-replicate P (suc m) x h = (h, each-replicate P m x h)
-
-pub zeros-below : (q m : ℕ) → 0 < q → AllBelow q (replicate m 0)
-zeros-below q zero h = tt
-zeros-below q (suc m) h = (h, zeros-below q m h)
+pub map-zip : {A B C : Type 0} (f : A → C) (xs : List A) (ys : List B) → length ys ≡ length xs → map (λ e. f (e .0)) (zip xs ys) ≡ map f xs
+unfolding zip zipWith
+map-zip f [] ys l = refl
+map-zip f (x ∷ xs) [] l = absurd (omega arith)
+map-zip f (x ∷ xs) (y ∷ ys) l = ap (λ z. f x ∷ z) (map-zip f xs ys (suc-inj l))
 
 pub length-zip : {A B : Type 0} (xs : List A) (ys : List B) → length ys ≡ length xs → length (zip xs ys) ≡ length xs
 unfolding zip zipWith
@@ -61,12 +59,6 @@ module _ {A : Type 0} where
   unfolding sum
   sum-rises f g [] h = omega arith
   sum-rises f g (x ∷ xs) h = omega (arith, h .0, sum-rises f g xs (h .1))
-
-  pub sum-zip : {B : Type 0} (f : A → ℕ) (xs : List A) (ys : List B) → length ys ≡ length xs → sum (map (λ b. f (b .0)) (zip xs ys)) ≡ sum (map f xs)
-  unfolding zip zipWith sum
-  sum-zip f [] ys l = refl
-  sum-zip f (x ∷ xs) [] l = absurd (omega arith)
-  sum-zip f (x ∷ xs) (y ∷ ys) l = ap (λ (z : ℕ). f x + z) (sum-zip f xs ys (suc-inj l))
 
 -- ---- one table
 
@@ -261,9 +253,7 @@ module _ (k t : ℕ) where
   no-totals-held =
       record {
         many = length-replicate (2 * k) (replicate (suc t) 0);
-        shared =
-            each-replicate (Shared p t) (2 * k) (replicate (suc t) 0)
-            (length-replicate (suc t) 0, zeros-below p (suc t) (lit< tt));
+        shared = each-replicate (Shared p t) (2 * k) (replicate (suc t) 0) (zeros-group p (suc t) (lit< tt));
       }
 
   pub totals-held : (bs : List DrawnBid) (fs : List (List ℕ)) → Each (GoodBid k t) bs → Held fs → Held (totals-after bs fs)
@@ -315,7 +305,7 @@ module _ {a : Auction} {c : Coins} (A : IsAuction a) (C : InRange a c) where
       let e : secret (getD (no-totals a) i []) ≡ 0 = ap secret (getD-replicate (2 * a .k) i (replicate (suc (threshold (a .n))) 0) [] l) in
       secret-totals (a .k) (threshold (a .n)) (zip (a .bids) (c .bids)) (no-totals a) i all-good (no-totals-held (a .k) (threshold (a .n))) l
       (omega (arith, few-bids A, length-zip (a .bids) (c .bids) (C .bids-many)))
-      ∙ ap₂ _+_ e (sum-zip (λ b. getD (b .table) i 0) (a .bids) (c .bids) (C .bids-many))
+      ∙ ap₂ _+_ e (ap sum (map-zip (λ b. getD (b .table) i 0) (a .bids) (c .bids) (C .bids-many)))
       ∙ omega arith
 
   -- the totals are the bids' amounts, "added in tenths unrounded"

@@ -96,7 +96,7 @@ module _ (T T′ base mask demand supply demand′ supply′ : ℕ) (stays : dem
 
 -- ---- the sheet of any coins in range
 
-append-parts : (ks ks′ ls ls′ : List ℕ) → length ks ≡ length ks′ → ks ++ ls ≡ ks′ ++ ls′ → (ks ≡ ks′) × (ls ≡ ls′)
+pub append-parts : {A : Type 0} (ks ks′ ls ls′ : List A) → length ks ≡ length ks′ → ks ++ ls ≡ ks′ ++ ls′ → (ks ≡ ks′) × (ls ≡ ls′)
 append-parts ks ks′ ls ls′ h e = (
   sym (take-at ks ls (length ks′) h) ∙ ap (take (length ks′)) e ∙ take-at ks′ ls′ (length ks′) refl,
   sym (drop-at ks ls (length ks′) h) ∙ ap (drop (length ks′)) e ∙ drop-at ks′ ls′ (length ks′) refl,

@@ -8,11 +8,10 @@ use lib.Seq.{length-take-le, take-at, take-all}
 use Rattle.ranges.proofs.Ranges.{IsParty}
 use Rattle.sharing.specs.Scheme.{threshold}
 use Rattle.comparison.specs.Probe.{SheetCoins, sheet-polynomials, sheet-shares}
-use Rattle.comparison.proofs.Dealt.{dealt-shared}
 use Rattle.dealer.specs.Deal.{deal-left}
 use Rattle.auction.specs.Coins.{flat}
 use Rattle.auction.proofs.Dealing.{deal-writes}
-use Rattle.auction.proofs.Sheets.{sheet-length}
+use Rattle.auction.proofs.Sheets.{words-long}
 use Rattle.draws.specs.Draws.{next, next-coin, later, drawn-coins, drawn-bytes, sheet-coins, after-sheet, all-sheets}
 use Rattle.panel.specs.Parties.{sheet-dealt}
 use Rattle.drawn_sheets.specs.Dealt.{sheet-put, sheets-of}
@@ -43,7 +42,7 @@ one-sheet t j state m i xs whole w h l e =
     let front : List ℕ = take (127 * i) xs in
     let rest : List ℕ = sheets-of j (all-sheets t (m - (i + 1)) (after-sheet t state)) in
     let k : m - i ≡ suc (m - (i + 1)) = omega arith in
-    let lw : length W ≡ 127 = sheet-length t j (sheet-polynomials (sheet-coins t state)) (dealt-shared t (sheet-coins t state) (sheet-in-range t state w)) in
+    let lw : length W ≡ 127 = words-long t j (sheet-coins t state) (sheet-in-range t state w) in
     let lf : length (front ++ W) ≡ 127 * (i + 1) = length-append front W ∙ ap₂ _+_ (length-take-le (127 * i) xs (omega arith)) lw ∙ omega arith in
     ap (λ (z : List ℕ). z ++ rest)
     (ap (take (127 * (i + 1))) (sym (append-assoc front W (drop (127 * i + 127) xs))) ∙ take-at (front ++ W) (drop (127 * i + 127) xs) (127 * (i + 1)) lf)

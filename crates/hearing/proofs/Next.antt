@@ -11,8 +11,8 @@ use lib.ListN.{length, getD}
 use Rattle.fields.specs.Byte.{bytes}
 use Rattle.fields.proofs.Fields.{byte-field}
 use Rattle.comparison.specs.Local.{on-shares}
-use Rattle.fields.specs.Bits.{bit}
 use Rattle.comparison.specs.Rounds.{differing, first-carry, next-carry}
+use Rattle.comparison.proofs.Values.{bit-byte}
 use Rattle.search.specs.declared.Bracket.{Bracket}
 use Rattle.search.specs.Bracket.{over, middle, raise, lower, step}
 use Rattle.search.proofs.Narrowing.{over-false, middle-above, middle-below}
@@ -83,14 +83,10 @@ roll-after q sheet Unopened = refl
 
 -- ---- the carry's share is a byte
 
-bit-lt : (i T : ℕ) → bit i T < 256
-unfolding bit
-bit-lt i T = omega arith
-
 pub first-carry-lt : (T b : ℕ) → b < 256 → first-carry (on-shares bytes) T b < 256
 unfolding first-carry differing
 first-carry-lt T b h =
-    let t = bit-lt 1 T in
+    let t = bit-byte 1 T in
     byte-field .ring .add-lt _ _ t (byte-field .ring .mul-lt _ _ t (byte-field .ring .add-lt _ _ t h))
 
 pub next-carry-lt : (T i d e alpha beta gamma : ℕ) → d < 256 → e < 256 → alpha < 256 → beta < 256 → gamma < 256
@@ -98,7 +94,7 @@ pub next-carry-lt : (T i d e alpha beta gamma : ℕ) → d < 256 → e < 256 →
 unfolding next-carry
 next-carry-lt T i d e alpha beta gamma hd he ha hb hg =
     let R = byte-field .ring in
-    R .add-lt _ _ (bit-lt i T) (R .add-lt _ _ (R .mul-lt d e hd he) (R .add-lt _ _ (R .add-lt _ _ hg (R .mul-lt d beta hd hb)) (R .mul-lt e alpha he ha)))
+    R .add-lt _ _ (bit-byte i T) (R .add-lt _ _ (R .mul-lt d e hd he) (R .add-lt _ _ (R .add-lt _ _ hg (R .mul-lt d beta hd hb)) (R .mul-lt e alpha he ha)))
 
 -- ---- a verdict keeps the bracket inside the list, and halves it
 

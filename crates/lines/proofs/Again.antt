@@ -34,6 +34,9 @@ pub bytes-one : (bytes : List ℕ) → bytes-of 1 bytes ≡ line-length bytes
 unfolding bytes-of
 bytes-one bytes = add-zero _
 
+pub past-one : (bytes : List ℕ) → past 1 bytes ≡ rest bytes
+past-one bytes = ap (λ (j : ℕ). drop j bytes) (bytes-one bytes)
+
 pub bytes-first : (m : ℕ) (bytes : List ℕ) → line-length bytes + bytes-of m (rest bytes) ≡ bytes-of (m + 1) bytes
 unfolding bytes-of
 bytes-first m bytes = sym (ap (λ (j : ℕ). bytes-of j bytes) (add-one m))
@@ -71,14 +74,15 @@ formed-more (suc i) bytes =
         out true = refl
         out false = refl
 
+-- counted from the left until one fails
+pub counted-most : (t : Bool) {r m : ℕ} → r ≤ m → cond t (suc r) 0 ≤ suc m
+counted-most true h = omega arith
+counted-most false h = omega arith
+
 pub formed-most : (m : ℕ) (bytes : List ℕ) → formed m bytes ≤ m
 unfolding formed
 formed-most zero bytes = omega arith
-formed-most (suc m) bytes = cases (shaped (first-line bytes)) (formed-most m (rest bytes))
-  where
-    cases : (a : Bool) {s : ℕ} → s ≤ m → cond a (suc s) 0 ≤ suc m
-    cases true h = omega arith
-    cases false h = omega arith
+formed-most (suc m) bytes = counted-most (shaped (first-line bytes)) (formed-most m (rest bytes))
 
 pub length-numbers : (m : ℕ) (bytes : List ℕ) → length (numbers m bytes) ≡ m
 unfolding numbers

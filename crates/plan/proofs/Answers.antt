@@ -4,7 +4,7 @@ use mathlib.Core.Bool.{Bool, true, false, _&&_}
 use mathlib.Core.List.{List}
 use Prim.Native.Nat.{ℕ, _+_, _*_, _≤_, _<_}
 use lib.Dec.{leb}
-use lib.ListN.{length, drop}
+use lib.ListN.{length}
 use borrow.Author.Tests.{le-leb, lt-leb}
 use Rattle.lines.specs.declared.line.Line.{Line}
 use Rattle.lines.specs.declared.line.Line.the-variants.{Number, Misshapen}
@@ -13,7 +13,7 @@ use Rattle.sections.specs.declared.table.Fault.the-variants.{None, At}
 use Rattle.lines.specs.Lines.{lines, first-line, rest, numbers, formed, past}
 use Rattle.plan.specs.Plan.{Reading, faulty, accepted, check, many, prices, bids, or-fault, ending, read, read-prices, read-bids}
 use Rattle.sections.specs.Sections.{tables, good-prices, bids-fault}
-use Rattle.lines.proofs.Again.{bytes-one, after-add}
+use Rattle.lines.proofs.Again.{past-one, after-add}
 use Rattle.plan.proofs.Sections.{needed-number, needed-misshapen, many-all, many-torn, prices-all, prices-bad, ending-none, ending-extra}
 use Rattle.plan.proofs.Bids.{all-bids}
 
@@ -26,7 +26,7 @@ fails t number line go e = ap (λ (s : Bool). check s number line go) e
 -- ---- where the next line begins
 
 pub rest-after : (m : ℕ) (bytes : List ℕ) → rest (past m bytes) ≡ past (m + 1) bytes
-rest-after m bytes = ap (λ (j : ℕ). drop j (past m bytes)) (sym (bytes-one (past m bytes))) ∙ after-add m 1 bytes
+rest-after m bytes = sym (past-one (past m bytes)) ∙ after-add m 1 bytes
 
 -- ---- n and the seeds
 

@@ -21,6 +21,10 @@ and-right false b e = cc
 pub and-true : (a b : Bool) → (a && b) ≡ true → (a ≡ true) × (b ≡ true)
 and-true a b e = (and-left a b e, and-right a b e)
 
+pub and-false : (a b : Bool) → b ≡ false → (a && b) ≡ false
+and-false true b e = e
+and-false false b e = refl
+
 -- one place more of a list that is to be filled
 pub fill : (out target : List ℕ) (i v : ℕ) → i < length out → i < length target → v ≡ getD target i 0 → take i out ≡ take i target
     → take (i + 1) (set out i v) ≡ take (i + 1) target

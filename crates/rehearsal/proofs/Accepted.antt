@@ -34,11 +34,11 @@ use Rattle.rehearsal.specs.Right.{Right}
 use Rattle.probing.specs.Follows.{Follows}
 use Rattle.listing.specs.declared.course.Course.{Course}
 use Rattle.panel.proofs.Parts.{limit-nine}
-use Rattle.lines.proofs.Again.{bytes-one, after-add, formed-most, length-numbers, number-at}
+use Rattle.lines.proofs.Again.{past-one, after-add, formed-most, length-numbers, number-at}
 use Rattle.plan.proofs.Sections.{line-of}
 use Rattle.sections.proofs.Counts.{good-most}
 use Rattle.lines.proofs.Reading.{either}
-use Rattle.sections.proofs.Bids.{torn, whole, length-tables}
+use Rattle.sections.proofs.Bids.{apart, torn, whole, length-tables}
 use Rattle.sections.proofs.Tables.{faultless}
 use Rattle.plan.proofs.Answers.{rest-after, n-misshapen, n-range, seeds-torn, seeds-all, k-misshapen, k-range, price-bad, prices-good, m-misshapen, m-range, bids-bad, one-too-many, all-read}
 
@@ -149,9 +149,6 @@ good-table k line bytes e =
     record { long = length-numbers (2 * k) bytes; small = f .0; monotone = f .1 })
     (λ h. absurd (let z : _≡_ {A = ℕ} 0 1 = apart (torn k line bytes h) e in omega arith))
     (same-or-less (formed (2 * k) bytes) (2 * k) (formed-most (2 * k) bytes))
-  where
-    apart : {f : Fault} {number at : ℕ} → f ≡ At number at → f ≡ None → _≡_ {A = ℕ} 0 1
-    apart e g = cc
 
 -- and the bids have bidders of their own
 good-bids : (k m line b : ℕ) (bytes : List ℕ) → bids-fault k m line bytes ≡ None → Each (λ x. GoodTable k (x .table)) (numbered b (tables k m bytes))
@@ -185,9 +182,6 @@ pub record Accepted (bytes : List ℕ) (p : Plan) : Type 0 where
   pub prices : p .prices ≡ prices-of (p .n) (p .k) bytes
   pub bids : p .bids ≡ tables (p .k) (length (p .bids)) (past (p .n + p .k + 3) bytes)
 
-one : (bytes : List ℕ) → rest bytes ≡ past 1 bytes
-one bytes = ap (λ (j : ℕ). drop j bytes) (sym (bytes-one bytes))
-
 pub accepted-plan : (bytes : List ℕ) (p : Plan) → read (lines bytes) ≡ accepted p → Accepted bytes p
 accepted-plan bytes p e =
     let a = n-read bytes p e in
@@ -198,7 +192,7 @@ accepted-plan bytes p e =
     let b3 = past k (rest b2) in
     let c = m-read n (numbers n (rest bytes)) k (numbers k (rest b2)) b3 p (b .next) in
     let m = c .m in
-    let e2 : b2 ≡ past (1 + n) bytes = ap (past n) (one bytes) ∙ after-add 1 n bytes in
+    let e2 : b2 ≡ past (1 + n) bytes = ap (past n) (sym (past-one bytes)) ∙ after-add 1 n bytes in
     let e3 : rest b2 ≡ past (1 + n + 1) bytes = ap rest e2 ∙ rest-after (1 + n) bytes in
     let e4 : b3 ≡ past (1 + n + 1 + k) bytes = ap (past k) e3 ∙ after-add (1 + n + 1) k bytes in
     let e5 : rest b3 ≡ past (1 + n + 1 + k + 1) bytes = ap rest e4 ∙ rest-after (1 + n + 1 + k) bytes in
@@ -208,7 +202,7 @@ accepted-plan bytes p e =
     subst (Accepted bytes) (sym (c .plan)) (record {
       an-auction = good-auction n k m (n + k + 4) (rest b3) (a .least) (a .most) (b .least) (b .most) (c .few) (c .sound-bids);
       few-prices = b .most;
-      seeds = ap (numbers n) (one bytes);
+      seeds = ap (numbers n) (sym (past-one bytes));
       prices = ap (numbers k) (e3 ∙ ap (λ (j : ℕ). past j bytes) i2);
       bids = ap₂ (tables k) (sym l) (e5 ∙ ap (λ (j : ℕ). past j bytes) i3);
     })

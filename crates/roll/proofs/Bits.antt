@@ -12,6 +12,7 @@ use lib.Dec.{eqb, ltb}
 use lib.Pow.{pow-pos, pow-lt, pow-add, shl-shr, shr-shr}
 use borrow.Author.Tests.{eqb-true, eqb-false, eq-eqb, ltb-true, ltb-false, lt-ltb, le-ltb}
 use Rattle.ranges.specs.Lists.{from, every, count}
+use Rattle.ranges.proofs.Loops.{and-false}
 use Rattle.ranges.proofs.Counting.{count-same, count-add}
 use Rattle.roll.specs.Marks.{is-set}
 
@@ -53,11 +54,7 @@ below w i k = split (ltb (w / 2 ^ i) k) refl
 neither : (q : ℕ) → not (eqb (q % 2) 1) && ltb q 2 ≡ ltb q 1
 neither zero = refl
 neither (suc zero) = refl
-neither (suc (suc q)) = and-false (not (eqb (suc (suc q) % 2) 1)) ∙ sym (le-ltb (suc (suc q)) 1 (omega arith))
-  where
-    and-false : (t : Bool) → t && ltb (suc (suc q)) 2 ≡ false
-    and-false true = le-ltb (suc (suc q)) 2 (omega arith)
-    and-false false = refl
+neither (suc (suc q)) = and-false (not (eqb (suc (suc q) % 2) 1)) _ (le-ltb (suc (suc q)) 2 (omega arith)) ∙ sym (le-ltb (suc (suc q)) 1 (omega arith))
 
 pub none-from : (i m w : ℕ) → w < 2 ^ (i + m) → every (λ j. not (is-set w j)) (from i m) ≡ ltb w (2 ^ i)
 unfolding from every

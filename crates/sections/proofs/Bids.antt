@@ -11,6 +11,10 @@ use Rattle.lines.specs.Lines.{numbers, bytes-of, formed, past}
 use Rattle.sections.specs.Sections.{table-fault, tables, bid-fault, bids-fault, or-else}
 use Rattle.lines.proofs.Again.{bytes-add, here}
 
+-- not both a fault and none
+pub apart : {f : Fault} {number line : ℕ} → f ≡ At number line → f ≡ None → _≡_ {A = ℕ} 0 1
+apart e g = cc
+
 -- ---- one bid
 
 module _ (k line : ℕ) (bytes : List ℕ) where

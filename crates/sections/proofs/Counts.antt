@@ -9,7 +9,7 @@ use lib.ListN.{length, take, drop, getD, drop-of-length-le, length-take}
 use Rattle.ranges.specs.Lists.{every}
 use Rattle.ranges.proofs.Bends.{first}
 use Rattle.lines.specs.Lines.{numbers, formed}
-use Rattle.lines.proofs.Again.{formed-most}
+use Rattle.lines.proofs.Again.{counted-most, formed-most}
 use Rattle.sections.specs.Sections.{next-price, passed, rising, xor-of, good-prices}
 
 module _ (test : ℕ → Bool) (xs : List ℕ) (i : ℕ) where
@@ -65,20 +65,12 @@ every-passed test (x ∷ xs) h = cases (test x) (λ e. every-passed test xs e) h
 pub rising-most : (last : ℕ) (xs : List ℕ) → rising last xs ≤ length xs
 unfolding rising
 rising-most last [] = omega arith
-rising-most last (x ∷ xs) = cases (next-price last x) (rising-most x xs)
-  where
-    cases : (t : Bool) {r : ℕ} → r ≤ length xs → cond t (suc r) 0 ≤ suc (length xs)
-    cases true h = omega arith
-    cases false h = omega arith
+rising-most last (x ∷ xs) = counted-most (next-price last x) (rising-most x xs)
 
 pub passed-most : (test : ℕ → Bool) (xs : List ℕ) → passed test xs ≤ length xs
 unfolding passed
 passed-most test [] = omega arith
-passed-most test (x ∷ xs) = cases (test x) (passed-most test xs)
-  where
-    cases : (t : Bool) {r : ℕ} → r ≤ length xs → cond t (suc r) 0 ≤ suc (length xs)
-    cases true h = omega arith
-    cases false h = omega arith
+passed-most test (x ∷ xs) = counted-most (test x) (passed-most test xs)
 
 -- of k prices, no more are good
 pub good-most : (k last : ℕ) (bytes : List ℕ) → good-prices k last bytes ≤ k

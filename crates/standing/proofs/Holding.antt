@@ -7,11 +7,13 @@ use native.Mathlib.Numerals.{add-one}
 use native.Mathlib.Omega.{arith}
 use lib.ListN.{length, drop, getD, replicate, length-map}
 use lib.Seq.{drop-drop}
+use Rattle.refusal.proofs.Judging.{kept-new}
 use Rattle.ranges.specs.Lists.{from}
 use Rattle.ranges.proofs.Loops.{length-from}
 use Rattle.sharing.specs.Scheme.{threshold}
 use Rattle.comparison.specs.Probe.{Each}
 use Rattle.record.specs.declared.Party.{Party}
+use Rattle.record.proofs.Replies.{next-party}
 use Rattle.session.specs.Add.{add-reply, add-left}
 use Rattle.roll.specs.declared.Roll.{Roll}
 use Rattle.roll.specs.Marks.{empty, mark}
@@ -20,7 +22,6 @@ use Rattle.auction.specs.Auction.{Auction, Bid, IsAuction}
 use Rattle.auction.specs.Coins.{Coins, DrawnBid, flat}
 use Rattle.auction.specs.Canonical.{Seat, shares-for, after-adding}
 use Rattle.auction.proofs.Closed.{entries, added-polynomials, totals-after, at-party, no-totals, polynomials, full-roll}
-use Rattle.auction.proofs.Judging.{kept-new, replied-next}
 use Rattle.auction.proofs.Totals.{GoodBid, bids-good, Held, entries-held, added-held, no-totals-held}
 use Rattle.auction.proofs.Bidding.{opening-accepted, holding, fresh-holding, holding-seat, at-party-zeros, added-holding}
 use Rattle.auction.proofs.Setup.{Entering, entering-more, all-entered, entering-all}
@@ -46,8 +47,8 @@ module _ {a : Auction} (A : IsAuction a) where
       → Holds a empty (no-totals a) parties totals
   opened-holds old totals parties l e i h =
       let ok = opening-accepted A (i + 1) (omega arith) (omega arith) (part (2 * a .k) i old) (part-length (2 * a .k) (a .n) i old l h) in (
-        e i h .0 ∙ replied-next _ ok (fresh (a .n) (i + 1) (a .k)) blank ∙ fresh-holding (a .n) (a .k) (i + 1),
-        e i h .1 ∙ kept-new _ ok (replicate (2 * a .k) 0) (part (2 * a .k) i old) ∙ sym (at-party-zeros (threshold (a .n)) (i + 1) (2 * a .k)),
+        e i h .0 ∙ next-party _ (fresh (a .n) (i + 1) (a .k)) blank ok ∙ fresh-holding (a .n) (a .k) (i + 1),
+        e i h .1 ∙ kept-new _ (replicate (2 * a .k) 0) (part (2 * a .k) i old) ok ∙ sym (at-party-zeros (threshold (a .n)) (i + 1) (2 * a .k)),
       )
 
   -- what `add_all` leaves

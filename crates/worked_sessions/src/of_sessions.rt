@@ -17,8 +17,8 @@ use panel::open_all;
 use panel_rounds::hear_all;
 use panel_rounds::say_all;
 use record::Party;
+use record::bracket;
 use roll::Roll;
-use search::Bracket;
 use session::Answer;
 use sharing::threshold;
 
@@ -207,10 +207,6 @@ fn probe_all(
         probe += 1;
     }
     now
-}
-
-fn bracket(q: Party) -> Bracket {
-    Bracket { lo: q.lo, hi: q.hi }
 }
 
 // The probed index has become the lower end or the upper one.

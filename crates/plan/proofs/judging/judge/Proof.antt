@@ -11,11 +11,11 @@ use borrow.Author.Tests.{not-true, not-false, leb-true}
 use Rattle.ranges.proofs.Loops.{and-right}
 use Rattle.lines.specs.declared.line.Line.the-variants.{Number}
 use Rattle.plan.specs.declared.judging.Judged.the-variants.{Faulty}
-use Rattle.lines.specs.Lines.{lines, first-line, line-length, rest, numbers, bytes-of, formed, past}
+use Rattle.lines.specs.Lines.{lines, first-line, line-length, rest, numbers, bytes-of, formed}
 use Rattle.plan.specs.Plan.{read-prices}
 use Rattle.sections.specs.Sections.{xor-of}
 use Rattle.plan.specs.Judged.{as-judged}
-use Rattle.lines.proofs.Again.{bytes-one, bytes-first, formed-most}
+use Rattle.lines.proofs.Again.{past-one, bytes-first, formed-most}
 use Rattle.plan.proofs.Answers.{n-misshapen, n-range, seeds-torn, seeds-all}
 use borrow.Author.Needs.{needs}
 use Rattle.plan.proofs.judging.judge.Statement.{statement}
@@ -69,10 +69,6 @@ nxt c =
     c .read-seeds .ensures .2
     ∙ ap₂ (λ (m j : ℕ). j + bytes-of m (drop j (lent (line (passed c .before))))) (length-take-le _ _ (at-most (passed c))) (second (line (passed c .before)))
 
--- the first line is one line
-one : (bytes : List ℕ) → past 1 bytes ≡ rest bytes
-one bytes = ap (λ (j : ℕ). drop j bytes) (bytes-one bytes)
-
 read-line-requires : tie.Need-read-line-requires
 read-line-requires c κs = search needs
 
@@ -121,7 +117,7 @@ judge-prices-requires : tie.Need-judge-prices-requires
 judge-prices-requires c κs =
     let r = c .before .before .before in
     let k = passed r .before in
-    (at-most (passed r), nxt r ∙ bytes-first (n-of k) (lent (line k)), xor r ∙ ap (λ (l : List ℕ). xor-of (numbers (n-of k) l)) (sym (one (lent (line k)))))
+    (at-most (passed r), nxt r ∙ bytes-first (n-of k) (lent (line k)), xor r ∙ ap (λ (l : List ℕ). xor-of (numbers (n-of k) l)) (sym (past-one (lent (line k)))))
 
 returns-4 : tie.Need-returns-4
 returns-4 c =
@@ -130,7 +126,7 @@ returns-4 c =
     let bytes = lent (line k) in
     let h = sym (snd r) ∙ c .before .if2 .left in
     c .judge-prices .ensures
-    ∙ ap₂ (λ (vs bs : List ℕ). as-judged bytes (read-prices (n-of k) vs (lines bs))) (ap (numbers (n-of k)) (one bytes))
+    ∙ ap₂ (λ (vs bs : List ℕ). as-judged bytes (read-prices (n-of k) vs (lines bs))) (ap (numbers (n-of k)) (past-one bytes))
     (ap (λ (j : ℕ). drop j bytes) (nxt r) ∙ sym (drop-drop (bytes-of (n-of k) (rest bytes)) (line-length bytes) bytes))
     ∙ sym (ap (as-judged bytes) (seeds-all bytes (n-of k) (is-n k) (in-range (passed r)) h))
 

@@ -5,11 +5,9 @@ use Prim.Native.Nat.{ℕ, _+_, _-_, _*_, _≤_, _<_}
 use native.Mathlib.Nat.{zero-mul, add-zero, mul-le-mul}
 use native.Mathlib.Omega.{arith}
 use lib.ListN.{length, drop}
-use Rattle.sections.specs.declared.table.Fault.{Fault}
-use Rattle.sections.specs.declared.table.Fault.the-variants.{None, At}
 use Rattle.lines.specs.Lines.{bytes-of}
 use Rattle.sections.specs.Sections.{bids-fault}
-use Rattle.sections.proofs.Bids.{bad-bid, led-bid, good-bids}
+use Rattle.sections.proofs.Bids.{apart, bad-bid, led-bid, good-bids}
 use borrow.Author.Needs.{needs}
 use Rattle.sections.proofs.reading.read_bids.Statement.{statement}
 use Rattle.sections.proofs.reading.read_bids.Tie as tie
@@ -24,9 +22,6 @@ small-line k i hk hi =
 start-bids : (at k : ℕ) (bytes : List ℕ) → at ≡ at + bytes-of (0 * (2 * k)) bytes
 unfolding bytes-of
 start-bids at k bytes = sym (ap (λ (j : ℕ). at + bytes-of j bytes) (zero-mul (2 * k)) ∙ add-zero at)
-
-apart : {f : Fault} {number line : ℕ} → f ≡ At number line → f ≡ None → _≡_ {A = ℕ} 0 1
-apart e g = cc
 
 abbrev Inv-loop : tie.InvT-loop
 Inv-loop input at k bids line table₀ next₀ first₀ i₀ table next first i =
