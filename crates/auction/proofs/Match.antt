@@ -99,12 +99,15 @@ module _ (n k : ℕ) (bids bids′ : List Bid) (A : IsAuction (auction n k bids)
 
   -- ---- bids and totals
 
-  many-bids : length bids′ ≡ length bids
-  many-bids = sym (length-map bids′ (λ b. b .bidder)) ∙ ap length (alike .bidders) ∙ length-map bids (λ b. b .bidder)
-
   -- the second's bids, with sheets of which only the range counts
   abbrev c₀ : Coins
   c₀ = record { bids = matched-bids xs bids bids′ (c .bids); sheets = c .sheets }
+
+  same-bids : (j : ℕ) → In j xs → bid-words j bids′ (c₀ .bids) ≡ bid-words j bids (c .bids)
+  same-bids j i = bids-words t xs D (pool .many) k j i bids bids′ (c .bids) (A .tables) (B .tables) (C .bids) (alike .bidders) (C .bids-many)
+
+  many-bids : length bids′ ≡ length bids
+  many-bids = sym (length-map bids′ (λ b. b .bidder)) ∙ ap length (alike .bidders) ∙ length-map bids (λ b. b .bidder)
 
   first-ranged : InRange b c₀
   first-ranged =
@@ -114,9 +117,6 @@ module _ (n k : ℕ) (bids bids′ : List Bid) (A : IsAuction (auction n k bids)
         sheets-many = C .sheets-many;
         sheets = C .sheets;
       }
-
-  same-bids : (j : ℕ) → In j xs → bid-words j bids′ (c₀ .bids) ≡ bid-words j bids (c .bids)
-  same-bids j i = bids-words t xs D (pool .many) k j i bids bids′ (c .bids) (A .tables) (B .tables) (C .bids) (alike .bidders) (C .bids-many)
 
   same-totals : (j : ℕ) → In j xs → at-party j (polynomials b c₀) ≡ at-party j (polynomials a c)
   unfolding polynomials

@@ -18,13 +18,13 @@ use Rattle.record.proofs.Replies.{next-party}
 use Rattle.record.proofs.Updates.{entered-same, entered-probes, entered-round, bidder-marked, others-kept, entered-sound, entered-swap}
 use Rattle.session.specs.Add.{add-judgement}
 use Rattle.session.proofs.Laws.{Adds, adds, add-accepted}
-use Rattle.resending.specs.AnyOrder.{BidFor, Held, with-bid, with-bids, AllAccepted, AnyOrder}
+use Rattle.resending.specs.AnyOrder.{BidFor, Account, with-bid, with-bids, AllAccepted, AnyOrder}
 
 -- what an accepted bid leaves
-abbrev entering : BidFor → Held → Held
+abbrev entering : BidFor → Account → Account
 entering b h = (entered (h .0) (b .0), sums amounts (h .1) (b .1))
 
-enters : (b : BidFor) (h : Held) → add-judgement (h .0) (h .1) (b .0) (b .1) ≡ Accepted → with-bid b h ≡ entering b h
+enters : (b : BidFor) (h : Account) → add-judgement (h .0) (h .1) (b .0) (b .1) ≡ Accepted → with-bid b h ≡ entering b h
 unfolding with-bid
 enters b h e = ap₂ (λ (q : Party) (totals : List ℕ). (q, totals)) (next-party _ _ _ e) (kept-new _ _ _ e)
 
@@ -77,14 +77,14 @@ module _ (q : Party) (totals : List ℕ) (b c : BidFor)
         shares-below = B .shares-below;
       }
 
-  same-held : entering b (entering c (q, totals)) ≡ entering c (entering b (q, totals))
-  same-held =
+  same-account : entering b (entering c (q, totals)) ≡ entering c (entering b (q, totals))
+  same-account =
       ap₂ (λ (q : Party) (totals : List ℕ). (q, totals)) (entered-swap q (c .0) (b .0) (B .sound) (C .free .most))
       (sums-swap amount-field totals (c .1) (b .1) (B .totals-below) (C .shares-below) (B .shares-below)
       (as-long (c .1) (sooner .shares-long)) (as-long (b .1) (B .shares-long)))
 
 -- two neighbours change places
-swap-two : (h : Held) (b c : BidFor) (rest : List BidFor) → AllAccepted (b ∷ c ∷ rest) h
+swap-two : (h : Account) (b c : BidFor) (rest : List BidFor) → AllAccepted (b ∷ c ∷ rest) h
     → AllAccepted (c ∷ b ∷ rest) h × (with-bid b (with-bid c h) ≡ with-bid c (with-bid b h))
 swap-two h b c rest e =
     let after-b = enters b h (e .0) in
@@ -95,14 +95,14 @@ swap-two h b c rest e =
     let b-second : add-judgement (with-bid c h .0) (with-bid c h .1) (b .0) (b .1) ≡ Accepted = rw after-c (add-accepted _ _ _ _ (later (h .0) (h .1) b c B C)) in
     let same : with-bid b (with-bid c h) ≡ with-bid c (with-bid b h) =
     enters b (with-bid c h) b-second ∙ ap (entering b) after-c
-    ∙ same-held (h .0) (h .1) b c B C
+    ∙ same-account (h .0) (h .1) b c B C
     ∙ sym (enters c (with-bid b h) (e .1 .0) ∙ ap (entering c) after-b) in
     ((c-first, (b-second, subst (AllAccepted rest) (sym same) (e .1 .1))), same)
 
 -- ---- any order
 
 -- a bid comes later
-put-off : (b : BidFor) (ds es : List BidFor) (h : Held) → AllAccepted (b ∷ (ds ++ es)) h
+put-off : (b : BidFor) (ds es : List BidFor) (h : Account) → AllAccepted (b ∷ (ds ++ es)) h
     → AllAccepted (ds ++ (b ∷ es)) h × (with-bids (ds ++ (b ∷ es)) h ≡ with-bids (b ∷ (ds ++ es)) h)
 unfolding with-bids
 put-off b [] es h e = (e, refl)

@@ -13,24 +13,24 @@ abbrev pub BidFor : Type 0
 BidFor = ℕ × List ℕ
 
 -- what a party holds: its record and its totals
-abbrev pub Held : Type 0
-Held = Party × List ℕ
+abbrev pub Account : Type 0
+Account = Party × List ℕ
 
 -- after a bid, and after all of these
-unfoldable pub with-bid : BidFor → Held → Held
+unfoldable pub with-bid : BidFor → Account → Account
 with-bid b h = (add-reply (h .0) (h .1) (b .0) (b .1) .party, add-left (h .0) (h .1) (b .0) (b .1))
 
-unfoldable pub with-bids : List BidFor → Held → Held
+unfoldable pub with-bids : List BidFor → Account → Account
 with-bids [] h = h
 with-bids (b ∷ bs) h = with-bids bs (with-bid b h)
 
 -- each is accepted in its turn
-abbrev pub AllAccepted : List BidFor → Held → Type 0
+abbrev pub AllAccepted : List BidFor → Account → Type 0
 AllAccepted [] h = Unit {0}
 AllAccepted (b ∷ bs) h = (add-judgement (h .0) (h .1) (b .0) (b .1) ≡ Accepted) × AllAccepted bs (with-bid b h)
 
 -- bids that are accepted in one order are accepted in any other, and leave the same record and totals
 abbrev pub AnyOrder : Type 0
 AnyOrder =
-    (h : Held) (bids others : List BidFor) → Shuffle bids others → AllAccepted bids h
+    (h : Account) (bids others : List BidFor) → Shuffle bids others → AllAccepted bids h
     → AllAccepted others h × (with-bids others h ≡ with-bids bids h)

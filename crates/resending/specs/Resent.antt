@@ -31,7 +31,7 @@ Once =
 
 -- ---- a bid that is sent again
 
--- how a bid is judged by a party with k prices whose bidder is in, whatever its shares: 2 and 3 come first, and then it is "14 Already in"
+-- How a party with k prices judges a bid of a bidder who is in, whatever its shares: 2 and 3 come first, and then it is "14 Already in".
 abbrev pub again : (k : ℕ) (q : Party) (totals shares : List ℕ) → Judgement
 again k q totals shares =
     judged
