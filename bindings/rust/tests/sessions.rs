@@ -337,6 +337,50 @@ fn a_bid_is_judged_in_its_order() {
     }
 }
 
+#[test]
+fn bids_in_another_order_leave_the_same() {
+    let bids: [(u64, [u64; 4]); 3] = [
+        (BIDDER, [PRIME - 1, 2, 3, PRIME - 4]),
+        (64, [5, PRIME - 6, 7, 8]),
+        (1_000, [9, 10, PRIME - 11, 12]),
+    ];
+    let left = |order: [usize; 3]| {
+        let mut totals = [0; 4];
+        let mut session = Collecting::open(N, 1, K, &mut totals).unwrap();
+        for (bidder, shares) in order.map(|place| bids[place]) {
+            session.add(&mut totals, bidder, &shares).unwrap();
+        }
+        (session.store(), totals)
+    };
+    for order in [[0, 2, 1], [1, 0, 2], [1, 2, 0], [2, 0, 1], [2, 1, 0]] {
+        assert_eq!(left(order), left([0, 1, 2]));
+    }
+}
+
+/// Why rolls are compared before the first message: what one party lacks shows
+/// only in round 1, when no bid may be added any more.
+#[test]
+fn a_bid_missing_at_one_party_is_found_in_round_1() {
+    let mut kept = [1, 2, 3].map(collected);
+    for (own, (session, kept)) in (1..).zip(&mut kept[..2]) {
+        let mut shares = [0; 4];
+        split(N, own, K, &TABLE, &[21, 22, 23, 24], &mut shares).unwrap();
+        session.add(&mut kept.totals, 1, &shares).unwrap();
+    }
+    let (sessions, kept): (Vec<_>, Vec<_>) = kept.into_iter().unzip();
+    assert_eq!(sessions[0].record().roll, sessions[1].record().roll);
+    assert_ne!(sessions[1].record().roll, sessions[2].record().roll);
+    let mut parties: Vec<Speaking> = sessions
+        .into_iter()
+        .zip(&kept)
+        .map(|(session, kept)| session.speak(&kept.totals, &kept.sheets))
+        .collect();
+    let messages = messages(&parties);
+    for party in &mut parties {
+        assert_eq!(party.hear(&messages), Err(Refusal::Inconsistent));
+    }
+}
+
 /// Why session and totals are stored as one: an older session passes every
 /// judgement, and does not know of the bid that the totals hold.
 #[test]
@@ -373,6 +417,19 @@ fn neither_totals_nor_sheets_are_shown() {
     let party = session.speak(&kept.totals, &kept.sheets);
     let expected = format!("Speaking {{ record: {:?}, .. }}", party.record());
     assert_eq!(format!("{party:?}"), expected);
+}
+
+/// Why a session that starts anew gets new sheets: with those of one that has
+/// spoken, its message differs from the other's by a share of the new bid.
+#[test]
+fn a_bid_is_given_away_by_sheets_used_again() {
+    let (session, kept) = collected(1);
+    let before = session.speak(&kept.totals, &kept.sheets).say().unwrap();
+    let (mut anew, mut again) = collected(1);
+    let bid = [9_000, 8_000, 70, 60];
+    anew.add(&mut again.totals, 1, &bid).unwrap();
+    let after = anew.speak(&again.totals, &kept.sheets).say().unwrap();
+    assert_eq!((after + PRIME - before) % PRIME, bid[0] - bid[2]);
 }
 
 /// Why a session that speaks takes no bids: on plain words the library accepts
