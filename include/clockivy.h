@@ -53,15 +53,18 @@
  *     splitting: shares of a table split anew do not fit those that other
  *     parties have added. Compare the rolls before the first message is said;
  *     who is in is no secret among the parties. Where a bid is missing at some
- *     of them, or split anew for some, hearing round 1 is all but surely 10, and
- *     by then no bid may be added: start anew, with new sheets.
- *   - A bid that is in is not replaced: another bid of its bidder is 14 too.
+ *     of them, or split anew for some, hearing round 1 is all but surely 10,
+ *     and by then no bid may be added: start anew, with new sheets.
+ *   - A bid that is in is not replaced: another bid of its bidder is 14 too,
+ *     whoever sends it. A call does not know its sender, so see that a bid
+ *     comes from the bidder whose number it has, before it is added: a number
+ *     that somebody else has used keeps its own bidder out.
  *   - A record and its totals belong together from opening on, and are stored
  *     as one. Where totals hold a bid that the roll does not mark, the bid sent
  *     again counts double; where the roll marks a bid that the totals do not
  *     hold, it is missing there, and is 14 when sent again. clockivy_add cannot
- *     tell. Round 1 does, by 10 as above, unless all parties make the same slip:
- *     then the price is wrong and nothing tells.
+ *     tell. Round 1 does, by 10 as above, unless all parties make the same
+ *     slip: then the price is wrong and nothing tells.
  *
  * Secrets
  *   Coins are drawn by the caller: each uniform over its range, independent,

@@ -42,7 +42,9 @@
 //!   [`Inconsistent`](Refusal::Inconsistent), and by then no bid may be added:
 //!   start anew, with new sheets.
 //! * A bid that is in is not replaced: another bid of its bidder is
-//!   `AlreadyEntered` too.
+//!   `AlreadyEntered` too, whoever sends it. A call does not know its sender, so
+//!   see that a bid comes from the bidder whose number it has, before it is
+//!   added: a number that somebody else has used keeps its own bidder out.
 //! * A session and its totals belong together from opening on, and are stored as
 //!   one. Where totals hold a bid that the roll does not mark, the bid sent
 //!   again counts double; where the roll marks a bid that the totals do not

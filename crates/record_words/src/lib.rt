@@ -46,8 +46,9 @@ fn word(words: &[u64], at: usize) -> u64
     if at < words.len() { words[at] } else { 0 }
 }
 
-// A word of the roll that the slice does not reach is 0. The loop asks for their end, where `word` would ask for
-// each: so `read` is small enough to be inlined, and a call that knows the length copies nothing.
+// A word of the roll that the slice does not reach is 0. The loop asks for the slice's end, where
+// `word` would ask at each: so `read` is small enough to be inlined, and a call that knows the length
+// asks no more.
 fn read_roll(words: &[u64]) -> Roll
     ensures { λ r. ⌜ r ≡ party-of (now (words .entry)) .roll ⌝ }
 {
