@@ -1,12 +1,13 @@
 /*
  * clockivy.h - a sealed-bid uniform-price auction among parties who hold every
- * amount in shares, as seven calls. Link with libexchange.a, which is for
+ * amount in shares, as eight calls. Link with libexchange.a, which is for
  * x86-64.
  *
  * Terms
  *   n       the number of parties, 3 to 9; t is (n - 1) / 2 rounded down
  *   own     the number of the party that a call is for, 1 to n
  *   k       the number of listed prices, 1 to 1,024; indices start from 1
+ *   entry   the number of an amount in a bidder's table, 1 to 2k
  *   P       the most probes of a search: log2(k + 1) rounded up
  *   prime   2^61 - 1; shares of amounts and their coefficients are below it
  *   totals  a party's shares of total demand at each price, then of supply
@@ -18,8 +19,9 @@
  *           (clockivy_party)
  *
  * An auction
- *   Each party opens a session. A bidder splits its table once for each party,
- *   with the same coins, and each party adds its shares under the bidder's
+ *   Each party opens a session. A bidder splits its table for each party, with
+ *   the same coins: at once (clockivy_split), or entry by entry with t coins at
+ *   a time (clockivy_split_entry). Each party adds its shares under the bidder's
  *   number. The dealer writes every party's sheets for P probes, from new coins
  *   for each probe. Then, round after round, each party says a message and
  *   hears all n of them, 33 rounds to a probe, until the answer is there.
@@ -40,6 +42,28 @@
  *   applies; but where a record has not CLOCKIVY_RECORD_LEN words, nothing
  *   else can be judged and the reply is 2 (clockivy_open, which only writes the
  *   record, judges 1 first). A refused call has changed nothing.
+ *
+ * A bid entry by entry
+ *   clockivy_split is lent all 2kt coins of a bid at once. A desk that cannot
+ *   hold so many calls clockivy_split_entry for each entry and party, with the
+ *   t coins of that entry alone. All 2k entries, in any order, leave a party
+ *   the shares that clockivy_split writes from the same coins, whatever stood
+ *   there before. A call knows nothing of the calls before it. What the desk
+ *   has to see to:
+ *   - Every entry has t new coins, or amounts are given away: see "Three uses
+ *     that give bids away".
+ *   - The shares of an entry are made from the same t coins for all n parties,
+ *     so write an entry for every party before drawing for the next one. Shares
+ *     from other coins do not fit: where that entry is probed, hearing round 1
+ *     is all but surely 10. An entry that is written anew with other coins is
+ *     written anew for every party, before any shares are handed out.
+ *   - The same table is lent to all 2kn calls. Each judges the table that it is
+ *     lent and takes one amount of it: amounts of several tables make a bid
+ *     that nothing has judged.
+ *   - Shares are handed out once all 2k entries are written for every party
+ *     and no call was refused. A place that is not written holds what stood
+ *     there before. Where that fits at all parties, as zeros do or the shares
+ *     of an older bid, another amount counts and nothing tells.
  *
  * A bid sent again
  *   A desk that does not know whether its bid arrived sends the same shares
@@ -74,11 +98,12 @@
  *   the sum they open to: it knows the mask, and so would learn total demand
  *   minus total supply at the probed index.
  *
- * Two uses that give bids away
+ * Three uses that give bids away
  *   A sheet hides one message of each round. Saying that message again is
  *   harmless: the same record, totals and sheets give the same one. Another
  *   message of the same round, from the same sheet, gives away the difference
- *   of what the two hide. No call refuses these two uses:
+ *   of what the two hide. So it is with the t coins of an entry, which hide one
+ *   amount. No call refuses these three uses:
  *   - Say, add, say. A bid is refused only once a round is heard. The messages
  *     before and after it have one mask, so they differ by the party's share
  *     of the bid's demand minus supply at the probed index, and any t other
@@ -92,6 +117,11 @@
  *     said from it leaves, and go on from the newest one only, with the totals
  *     and the sheets that belong to it. A session that starts anew gets new
  *     sheets from the dealer.
+ *   - Coins used again: for another entry of the bid, for another bid, or for
+ *     an entry that is written anew with another amount. A party's two shares
+ *     then differ by just what the two amounts differ by, so that a single
+ *     party that has both reads it. Draw t new coins for each entry: where one
+ *     buffer is lent for entry after entry, that is easily forgotten.
  */
 #ifndef CLOCKIVY_H
 #define CLOCKIVY_H
@@ -106,7 +136,8 @@ extern "C" {
 /* The replies. */
 enum {
     CLOCKIVY_DONE = 0,
-    CLOCKIVY_OUT_OF_RANGE = 1,        /* n, own, k, bidder or a field of the record */
+    CLOCKIVY_OUT_OF_RANGE = 1,        /* n, own, k, entry, bidder or a field of the
+                                         record */
     CLOCKIVY_WRONG_LENGTH = 2,        /* a slice is not as long as stated */
     CLOCKIVY_OUT_OF_TURN = 3,         /* a bid after the first heard round; a round
                                          when over; the answer before it is over */
@@ -161,7 +192,8 @@ uint64_t clockivy_open(uint64_t n, uint64_t own, uint64_t k,
 
 /*
  * Writes party own's shares of a bid. Call it once for each party with the
- * same table and coins.
+ * same table and coins, and draw new coins for each bid: see "Three uses that
+ * give bids away".
  *
  *   table   2k amounts in tenths of an hour, 0 to 4,194,303: demand at indices
  *           1 to k, never rising, then supply, never falling
@@ -178,6 +210,31 @@ uint64_t clockivy_split(uint64_t n, uint64_t own, uint64_t k,
                         const uint64_t *table, size_t table_len,
                         const uint64_t *coins, size_t coins_len,
                         uint64_t *shares, size_t shares_len);
+
+/*
+ * Writes one of party own's shares of a bid from the t coins of that entry; no
+ * other place changes. Call it once for each party with the same table and
+ * coins, and draw new coins for each entry: see "Three uses that give bids
+ * away". All 2k entries, in any order, leave what clockivy_split writes from the
+ * coins of entry 1, then those of entry 2, and so on. What that rests on is
+ * under "A bid entry by entry".
+ *
+ *   entry   which amount, 1 to 2k: demand at indices 1 to k, then supply
+ *   table   2k amounts, all of the bid's, as in clockivy_split; the entry's is
+ *           at place entry - 1
+ *   coins   t words below the prime: the coefficients of this entry
+ *   shares  2k words; the one at place entry - 1 is written
+ *
+ *   1  n, own or k is out of range, or entry is outside 1 to 2k
+ *   2  table has not 2k words, coins not t, or shares not 2k
+ *   5  a coin is at or above the prime
+ *   6  an amount is above 4,194,303, the entry's or any other
+ *   7  demand rises or supply falls, anywhere in the table
+ */
+uint64_t clockivy_split_entry(uint64_t n, uint64_t own, uint64_t k, uint64_t entry,
+                              const uint64_t *table, size_t table_len,
+                              const uint64_t *coins, size_t coins_len,
+                              uint64_t *shares, size_t shares_len);
 
 /*
  * Writes party own's sheet for one probe. Call it once for each party with the
@@ -210,7 +267,7 @@ uint64_t clockivy_deal(uint64_t n, uint64_t own,
  *
  * Call it only before the party has said its first message. A bid between that
  * and the first heard round is not refused, and is given away by the next
- * message: see "Two uses that give bids away".
+ * message: see "Three uses that give bids away".
  *
  *   record  bids grows by one, and the roll has the bidder's mark
  *   totals  2k words, those that this record was opened with; each has its
@@ -233,7 +290,7 @@ uint64_t clockivy_add(uint64_t *record, size_t record_len,
  * Writes the party's message of the current round. The record stays. The same
  * record, totals and sheets give the same message, so that saying may be
  * repeated with these; but add no bid from now on, and never say a round again
- * with another record or other totals: see "Two uses that give bids away".
+ * with another record or other totals: see "Three uses that give bids away".
  *
  *   record   as it was last written
  *   totals   2k words
@@ -303,7 +360,7 @@ uint64_t clockivy_answer(const uint64_t *record, size_t record_len,
  * A party's record by names. Where it is stored, store it together with the
  * totals, and before the message said from it leaves. Read back only the newest
  * one, and lend the totals and the sheets that belong to it. Every call judges
- * the fields, but an older record passes: see "Two uses that give bids away",
+ * the fields, but an older record passes: see "Three uses that give bids away",
  * and "A bid sent again" for what then counts double.
  *
  * A field is out of range (refusal 1) where n, own or k is; bids is not the

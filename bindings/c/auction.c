@@ -1,9 +1,9 @@
 /*
  * A whole auction of five parties in one process: four bids, eight listed
- * prices. A line drops while a bid is sent, and the bid is sent again when the
- * others are in. Prints that, each probe and the clearing price, and checks all
- * of it against the tables, which only a program that plays every role can add
- * up.
+ * prices. One bid is split entry by entry. A line drops while a bid is sent, and
+ * the bid is sent again when the others are in. Prints that, each probe and the
+ * clearing price, and checks all of it against the tables, which only a program
+ * that plays every role can add up.
  *
  *   cc -O2 -I../../include auction.c -L../../target/staticlib -lexchange -o auction
  *
@@ -16,7 +16,7 @@
 
 #include "clockivy.h"
 
-enum { N = 5, K = 8, PROBES = 4, BIDS = 4, TABLE = 2 * K };
+enum { N = 5, K = 8, PROBES = 4, BIDS = 4, TABLE = 2 * K, T = CLOCKIVY_THRESHOLD(N) };
 
 static const int prices[K] = {80, 90, 100, 110, 120, 130, 140, 150};
 
@@ -30,6 +30,9 @@ static const uint64_t tables[BIDS][TABLE] = {
 
 /* The numbers of those who bid. */
 static const uint64_t bidders[BIDS] = {17, 4, 640, CLOCKIVY_MAX_BIDS};
+
+/* The bid that is split entry by entry. */
+enum { BY_ENTRIES = 2 };
 
 /* The bid whose line drops, and the parties that it has reached by then. */
 enum { DROPPED = 1, REACHED = 2 };
@@ -100,6 +103,26 @@ static void split(struct desk *desk, uint64_t bidder, const uint64_t *table)
     for (i = 0; i < N; i++)
         done(clockivy_split(N, i + 1, K, table, TABLE, coins, CLOCKIVY_COINS_LEN(N, K),
                             desk->shares[i], TABLE), "split");
+}
+
+/*
+ * The same, holding the t coins of one entry at a time: every party's share of
+ * it is written before the coins of the next one are drawn.
+ */
+static void split_by_entries(struct desk *desk, uint64_t bidder, const uint64_t *table)
+{
+    uint64_t coins[T];
+    uint64_t entry;
+    size_t i;
+
+    desk->bidder = bidder;
+    for (entry = 1; entry <= TABLE; entry++) {
+        for (i = 0; i < T; i++)
+            coins[i] = draw_coefficient();
+        for (i = 0; i < N; i++)
+            done(clockivy_split_entry(N, i + 1, K, entry, table, TABLE, coins, T,
+                                      desk->shares[i], TABLE), "split_entry");
+    }
 }
 
 /* A party is sent the desk's bid. */
@@ -222,7 +245,10 @@ int main(void)
         done(clockivy_party_open(&seats[i].party, N, i + 1, K, seats[i].totals, TABLE),
              "open");
     for (i = 0; i < BIDS; i++) {
-        split(&desks[i], bidders[i], tables[i]);
+        if (i == BY_ENTRIES)
+            split_by_entries(&desks[i], bidders[i], tables[i]);
+        else
+            split(&desks[i], bidders[i], tables[i]);
         if (i == DROPPED)
             send_bid(&desks[i], REACHED);
         else

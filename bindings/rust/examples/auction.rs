@@ -1,16 +1,19 @@
 //! A whole auction of five parties in one process: four bids, eight listed
-//! prices. A line drops while a bid is sent, and the bid is sent again when the
-//! others are in. Prints that, each probe and the clearing price, and checks all
-//! of it against the tables, which only a program that plays every role can add
-//! up.
+//! prices. One bid is split entry by entry. A line drops while a bid is sent, and
+//! the bid is sent again when the others are in. Prints that, each probe and the
+//! clearing price, and checks all of it against the tables, which only a program
+//! that plays every role can add up.
 //!
 //! The coins here come from a small generator with a fixed seed. A real bidder
 //! or dealer draws them from the operating system.
 
+mod coins;
+
 use clockivy::{
     coins_len, deal, deal_bytes_len, deal_words_len, sheets_len, split, table_len, Collecting,
-    Refusal, Speaking, MASK_LIMIT, MAX_BIDS, PRIME, ROUNDS, SHEET_LEN,
+    Entries, Refusal, Speaking, MASK_LIMIT, MAX_BIDS, ROUNDS, SHEET_LEN,
 };
+use coins::Coins;
 
 const N: u64 = 5;
 const K: u64 = 8;
@@ -25,47 +28,24 @@ const BIDS: [[u64; 2 * K as usize]; 4] = [
 
 /// The numbers of those who bid.
 const BIDDERS: [u64; BIDS.len()] = [17, 4, 640, MAX_BIDS];
+/// The bid that is split entry by entry.
+const BY_ENTRIES: usize = 2;
 /// The bid whose line drops, and the parties that it has reached by then.
 const DROPPED: usize = 1;
 const REACHED: usize = 2;
 
-/// Marsaglia's xorshift64.
-struct Coins(u64);
-
-impl Coins {
-    fn next(&mut self) -> u64 {
-        self.0 ^= self.0 << 13;
-        self.0 ^= self.0 >> 7;
-        self.0 ^= self.0 << 17;
-        self.0
-    }
-
-    fn mask(&mut self) -> u64 {
-        self.next() % MASK_LIMIT
-    }
-
-    fn coefficient(&mut self) -> u64 {
-        loop {
-            let word = self.next() & PRIME;
-            if word != PRIME {
-                return word;
-            }
-        }
-    }
-
-    fn byte(&mut self) -> u8 {
-        self.next() as u8
-    }
-}
-
 fn main() -> Result<(), Refusal> {
-    let mut coins = Coins(0x9E37_79B9_7F4A_7C15);
+    let mut coins = Coins::new();
     let mut totals = vec![vec![0; table_len(K)]; N as usize];
     let mut sessions = open_sessions(&mut totals)?;
     // What each desk keeps until every party has its bid.
     let desks = BIDS
         .iter()
-        .map(|table| split_bid(table, &mut coins))
+        .enumerate()
+        .map(|(place, table)| match place {
+            BY_ENTRIES => split_by_entries(table, &mut coins),
+            _ => split_bid(table, &mut coins),
+        })
         .collect::<Result<Vec<_>, _>>()?;
     for (place, (bidder, shares)) in BIDDERS.into_iter().zip(&desks).enumerate() {
         let reached = if place == DROPPED {
@@ -142,6 +122,13 @@ fn split_bid(table: &[u64], coins: &mut Coins) -> Result<Vec<Vec<u64>>, Refusal>
         .collect()
 }
 
+/// The same, holding the t coins of one entry at a time.
+fn split_by_entries(table: &[u64], coins: &mut Coins) -> Result<Vec<Vec<u64>>, Refusal> {
+    let mut shares = vec![0; N as usize * table_len(K)];
+    Entries::new(N, K, table, &mut shares, || coins.coefficient())?.write_all()?;
+    Ok(shares.chunks(table_len(K)).map(<[u64]>::to_vec).collect())
+}
+
 /// The bid goes to these parties, and each adds its own shares.
 fn send(
     sessions: &mut [Collecting],
@@ -184,9 +171,9 @@ fn send_again(
 fn preprocess(coins: &mut Coins) -> Result<Vec<Vec<u64>>, Refusal> {
     let mut sheets = vec![vec![0; sheets_len(K)]; N as usize];
     for start in (0..sheets_len(K)).step_by(SHEET_LEN) {
-        let mut words = vec![coins.mask()];
+        let mut words = vec![coins.word() % MASK_LIMIT];
         words.resize_with(deal_words_len(N), || coins.coefficient());
-        let bytes: Vec<u8> = (0..deal_bytes_len(N)).map(|_| coins.byte()).collect();
+        let bytes: Vec<u8> = (0..deal_bytes_len(N)).map(|_| coins.word() as u8).collect();
         for (own, sheets) in (1..).zip(&mut sheets) {
             let sheet = &mut sheets[start..start + SHEET_LEN];
             deal(N, own, &words, &bytes, sheet)?;

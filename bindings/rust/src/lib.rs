@@ -7,8 +7,9 @@
 //!
 //! * A **bidder** has a number, 1 to 1,000, and a table: its demand in tenths
 //!   of an hour at each of k listed prices, never rising, then its supply at
-//!   each, never falling. It draws coins for this bid, calls [`split`] once for
-//!   each party and sends each party its shares.
+//!   each, never falling. It draws coins for this bid, splits the table for each
+//!   party with the same coins, at once ([`split`]) or entry by entry
+//!   ([`Entries`]), and sends each party its shares.
 //! * The **dealer** draws coins for each of [`probe_limit`]`(k)` probes, calls
 //!   [`deal`] once for each party and probe, and sends each party its
 //!   preprocessing: a sheet for each probe.
@@ -23,6 +24,33 @@
 //! A call judges all that it is lent, and where something is wrong it answers a
 //! [`Refusal`] and changes nothing. Drawing coins, networks and signatures are
 //! the caller's.
+//!
+//! # A bid entry by entry
+//!
+//! A table has 2k entries, and each takes t coins, t being [`threshold`]`(n)`.
+//! [`split`] is lent all of them at once. A desk that cannot hold so many lets
+//! [`Entries`] draw them, t at a time, and every party's shares are those that
+//! `split` writes from the same coins, whatever stood there before. Below that
+//! is [`split_entry`], which writes one entry for one party; all entries, in any
+//! order, come to the same. A call knows nothing of the calls before it, so
+//! whoever makes these calls has to see to what `Entries` sees to:
+//!
+//! * Every entry has t new coins, or amounts are
+//!   [given away](crate#three-uses-that-give-bids-away).
+//! * The shares of an entry are made from the same t coins for all n parties.
+//!   Shares from other coins do not fit: where that entry is probed, hearing
+//!   round 1 is all but surely [`Inconsistent`](Refusal::Inconsistent). An entry
+//!   that is written anew with other coins is written anew for every party,
+//!   before any shares are handed out.
+//! * The same table is lent to all 2kn calls. Each judges the table that it is
+//!   lent and takes one amount of it: amounts of several tables make a bid that
+//!   nothing has judged.
+//!
+//! Either way, shares are handed out once all 2k entries are written for every
+//! party and none was refused: [`Entries::write_all`] tells. A place that is not
+//! written holds what stood there before. Where that fits at all parties, as
+//! zeros do or the shares of an older bid, another amount counts and nothing
+//! tells.
 //!
 //! # A bid sent again
 //!
@@ -73,12 +101,13 @@
 //! says of the totals: total demand is at least total supply up to the clearing
 //! index, and below it at every higher one.
 //!
-//! # Two uses that give bids away
+//! # Three uses that give bids away
 //!
 //! A sheet hides one message of each round. Saying that message again is
 //! harmless: the same record, totals and sheets give the same one. Another
 //! message of the same round, from the same sheet, gives away the difference of
-//! what the two hide. The library does not refuse these two uses:
+//! what the two hide. So it is with the t coins of an entry, which hide one
+//! amount. The library does not refuse these three uses:
 //!
 //! * **Say, add, say.** The messages before and after the bid have one mask, so
 //!   they differ by the party's share of the bid's demand minus supply at the
@@ -92,6 +121,12 @@
 //!   the newest one, with the totals and the sheets that belong to it
 //!   ([`Speaking::resume`]). A session that starts anew gets new sheets from the
 //!   dealer.
+//! * **Coins used again**: for another entry of the bid, for another bid, or for
+//!   an entry that is written anew with another amount. A party's two shares
+//!   then differ by just what the two amounts differ by, so that a single party
+//!   that has both reads it. [`Entries`] draws t new coins for each entry, so
+//!   that it takes a source that repeats itself to go wrong; with [`split`] and
+//!   [`split_entry`] it is for the caller to see to.
 //!
 //! # A small auction
 //!
@@ -131,11 +166,13 @@
 //! # }
 //! ```
 
+mod entries;
 mod record;
 mod refusal;
 mod session;
 pub mod words;
 
+pub use entries::Entries;
 pub use record::Record;
 pub use refusal::Refusal;
 pub use session::{Answer, Collecting, Speaking};
@@ -211,7 +248,8 @@ pub const fn sheets_len(k: u64) -> usize {
 ///
 /// `table` is demand at prices 1 to k, then supply; `coins` are t coefficients
 /// below [`PRIME`] for each entry in turn. Call this once for each party with
-/// the same table and the same coins.
+/// the same table and the same coins, and draw new coins for each bid: used
+/// again, they [give bids away](crate#three-uses-that-give-bids-away).
 ///
 /// Refused: [`OutOfRange`](Refusal::OutOfRange),
 /// [`WrongLength`](Refusal::WrongLength),
@@ -227,6 +265,53 @@ pub fn split(
     shares: &mut [u64],
 ) -> Result<(), Refusal> {
     outcome(words::split(n, own, k, table, coins, shares))
+}
+
+/// Writes party `own`'s share of one entry of a bid into `shares`, 2k words, at
+/// place `entry` - 1. No other place changes. [`Entries`] makes these calls for
+/// a whole bid.
+///
+/// `table` is that of the whole bid, as for [`split`]; `entry` is 1 to 2k, and
+/// `coins` are its t coefficients below [`PRIME`]. Call this once for each party
+/// with the same table and the same coins, and draw new coins for each entry:
+/// used again, they [give bids away](crate#three-uses-that-give-bids-away). All
+/// 2k entries, in any order, leave what `split` writes from the coins of entry
+/// 1, then those of entry 2, and so on. What that rests on is said of
+/// [a bid entry by entry](crate#a-bid-entry-by-entry).
+///
+/// ```
+/// use clockivy::{split, split_entry};
+///
+/// # fn main() -> Result<(), clockivy::Refusal> {
+/// // Of five parties the second, one listed price, two coins for each entry.
+/// let (n, own, k, table) = (5, 2, 1, [7, 4]);
+/// let mut shares = [0; 2];
+/// split_entry(n, own, k, 2, &table, &[9, 8], &mut shares)?;
+/// assert_eq!(shares, [0, 4 + 9 * 2 + 8 * 4]);
+/// split_entry(n, own, k, 1, &table, &[3, 2], &mut shares)?;
+///
+/// let mut whole = [0; 2];
+/// split(n, own, k, &table, &[3, 2, 9, 8], &mut whole)?;
+/// assert_eq!(shares, whole);
+/// # Ok(())
+/// # }
+/// ```
+///
+/// Refused: [`OutOfRange`](Refusal::OutOfRange),
+/// [`WrongLength`](Refusal::WrongLength),
+/// [`CoinOutOfRange`](Refusal::CoinOutOfRange) for these coins,
+/// [`AmountTooLarge`](Refusal::AmountTooLarge) and
+/// [`NotMonotone`](Refusal::NotMonotone) for the whole table.
+pub fn split_entry(
+    n: u64,
+    own: u64,
+    k: u64,
+    entry: u64,
+    table: &[u64],
+    coins: &[u64],
+    shares: &mut [u64],
+) -> Result<(), Refusal> {
+    outcome(words::split_entry(n, own, k, entry, table, coins, shares))
 }
 
 /// Writes party `own`'s preprocessing for one probe into `sheet`.

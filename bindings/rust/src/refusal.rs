@@ -7,10 +7,10 @@ use std::fmt;
 #[derive(Clone, Copy, Debug, PartialEq, Eq, Hash)]
 #[non_exhaustive]
 pub enum Refusal {
-    /// 1: `n`, `own`, `k` or the bidder's number is outside its range, or a
-    /// field of the record is, or the first word of a stored session; `bids` is
-    /// not the number of marks on the roll, or the roll marks a number outside
-    /// 1 to 1,000.
+    /// 1: `n`, `own`, `k`, the entry's or the bidder's number is outside its
+    /// range, or a field of the record is, or the first word of a stored
+    /// session; `bids` is not the number of marks on the roll, or the roll marks
+    /// a number outside 1 to 1,000.
     OutOfRange = 1,
     /// 2: a slice has not the length that the call states.
     WrongLength = 2,

@@ -15,7 +15,7 @@ const SPEAKING: u64 = 1;
 
 /// A party's session while it collects bids. The totals are kept beside it and
 /// lent to each call. It says nothing yet: a bid added between two messages
-/// [would be given away](crate#two-uses-that-give-bids-away).
+/// [would be given away](crate#three-uses-that-give-bids-away).
 ///
 /// ```
 /// # use clockivy::Collecting;
@@ -87,7 +87,7 @@ impl Collecting {
     /// Ends the collecting. `totals` are this session's, and `sheets` is the
     /// party's preprocessing for all probes in turn, from which no session has
     /// spoken yet: used again, they
-    /// [give bids away](crate#two-uses-that-give-bids-away). Both are lent for
+    /// [give bids away](crate#three-uses-that-give-bids-away). Both are lent for
     /// as long as the session speaks, so that neither changes meanwhile; saying
     /// and hearing judge them.
     pub fn speak<'a>(self, totals: &'a [u64], sheets: &'a [u64]) -> Speaking<'a> {
@@ -120,7 +120,7 @@ impl Collecting {
     /// roll marks, such a bid sent again
     /// [counts double](crate#a-bid-sent-again). Once the session has spoken, a
     /// bid added to an older one that collects
-    /// [is given away](crate#two-uses-that-give-bids-away).
+    /// [is given away](crate#three-uses-that-give-bids-away).
     ///
     /// Refused: [`WrongLength`](Refusal::WrongLength),
     /// [`OutOfRange`](Refusal::OutOfRange) where the first word is above 1, and
@@ -135,7 +135,7 @@ impl Collecting {
 /// A party's session while it speaks: it says and hears messages, and takes no
 /// more bids. It comes of [`Collecting::speak`], or of [`Speaking::resume`] from
 /// the newest session stored: an older one
-/// [gives bids away](crate#two-uses-that-give-bids-away).
+/// [gives bids away](crate#three-uses-that-give-bids-away).
 ///
 /// ```
 /// # use clockivy::Collecting;
@@ -257,7 +257,7 @@ impl<'a> Speaking<'a> {
     /// Resume only the newest session stored, and let only one go on from it.
     /// An older one, or a second one, is not refused, but uses masks and triples
     /// again. With other totals or messages than before that
-    /// [gives bids away](crate#two-uses-that-give-bids-away).
+    /// [gives bids away](crate#three-uses-that-give-bids-away).
     ///
     /// Refused: [`WrongLength`](Refusal::WrongLength),
     /// [`OutOfRange`](Refusal::OutOfRange) where the first word is above 1, and

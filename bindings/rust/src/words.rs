@@ -1,4 +1,4 @@
-//! The seven calls on plain words, as the C library has them. The reply is 0,
+//! The eight calls on plain words, as the C library has them. The reply is 0,
 //! or the number of the [refusal](crate::Refusal), and then nothing that was
 //! lent has changed. Each call's refusals are listed in the order in which it
 //! judges them. But a record may have any length here, and where it has not
@@ -8,9 +8,9 @@
 //! Most callers want [`Collecting`](crate::Collecting) and what stands beside
 //! it. This module serves those who keep records as words, and tests. Nothing
 //! here guards against the
-//! [two uses that give bids away](crate#two-uses-that-give-bids-away), or sees
-//! that a record and its totals
-//! [belong together](crate#a-bid-sent-again).
+//! [three uses that give bids away](crate#three-uses-that-give-bids-away), or
+//! sees that a bid's entries [fit](crate#a-bid-entry-by-entry), or that a record
+//! and its totals [belong together](crate#a-bid-sent-again).
 //!
 //! It is the only module with `unsafe` in it. Each function passes every slice
 //! as its pointer and its length. The library asks nothing else of its caller:
@@ -34,6 +34,18 @@ extern "C" {
         n: u64,
         own: u64,
         k: u64,
+        table: *const u64,
+        table_len: usize,
+        coins: *const u64,
+        coins_len: usize,
+        shares: *mut u64,
+        shares_len: usize,
+    ) -> u64;
+    fn clockivy_split_entry(
+        n: u64,
+        own: u64,
+        k: u64,
+        entry: u64,
         table: *const u64,
         table_len: usize,
         coins: *const u64,
@@ -110,6 +122,33 @@ pub fn split(n: u64, own: u64, k: u64, table: &[u64], coins: &[u64], shares: &mu
             n,
             own,
             k,
+            table.as_ptr(),
+            table.len(),
+            coins.as_ptr(),
+            coins.len(),
+            shares.as_mut_ptr(),
+            shares.len(),
+        )
+    }
+}
+
+/// Writes one party's share of one entry of a bid, from t new coins. Refusals
+/// 1, 2, 5, 6, 7.
+pub fn split_entry(
+    n: u64,
+    own: u64,
+    k: u64,
+    entry: u64,
+    table: &[u64],
+    coins: &[u64],
+    shares: &mut [u64],
+) -> u64 {
+    unsafe {
+        clockivy_split_entry(
+            n,
+            own,
+            k,
+            entry,
             table.as_ptr(),
             table.len(),
             coins.as_ptr(),

@@ -397,6 +397,21 @@ fn a_bid_missing_or_split_anew_at_one_party_is_found_in_round_1() {
     }
 }
 
+/// So it is with one entry that one party has from another coin, once its index
+/// is probed. The first probe is at index 1, whose entries are 1 and 3.
+#[test]
+fn an_entry_split_anew_at_one_party_is_found_where_it_is_probed() {
+    for entry in 1..=4 {
+        let mut third = COINS;
+        third[entry - 1] += 1;
+        let reply = match entry {
+            1 | 3 => Err(Refusal::Inconsistent),
+            _ => Ok(()),
+        };
+        assert_eq!(heard_with(Some(third)), [reply; 3]);
+    }
+}
+
 /// Why session and totals are stored as one: an older session passes every
 /// judgement, and does not know of the bid that the totals hold.
 #[test]

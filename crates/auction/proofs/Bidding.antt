@@ -1,11 +1,14 @@
 -- Opening a session, splitting a bid and adding its shares, for parties that hold the polynomials of the totals between them. Assumes nothing.
 use mathlib.Core.Path.{_≡_, refl, sym, ap, ap₂, _∙_}
+use mathlib.Core.Bool.{true, _&&_}
 use mathlib.Core.List.{List, [], _∷_}
 use Prim.Native.Nat.{ℕ, zero, suc, _+_, _*_, _%_, _≤_, _<_}
 use native.Mathlib.Nat.{suc-inj, mul-zero}
 use native.Mathlib.Omega.{arith}
+use lib.Dec.{leb}
 use lib.ListN.{length, replicate, length-append, length-map, length-replicate}
 use lib.Seq.{take-at, drop-at}
+use borrow.Author.Tests.{leb-true}
 use Rattle.fields.specs.Amount.{p, amounts}
 use Rattle.ranges.specs.Below.{AllBelow}
 use Rattle.fields.proofs.Fields.{amount-field}
@@ -14,12 +17,16 @@ use Rattle.refusal.proofs.Judging.{kept-new}
 use Rattle.sharing.specs.Polynomial.{value, share-each}
 use Rattle.sharing.specs.Linear.{sums}
 use Rattle.sharing.specs.Scheme.{threshold}
+use Rattle.ranges.specs.Lists.{every}
+use Rattle.ranges.proofs.Loops.{and-true}
 use Rattle.ranges.proofs.Ranges.{OnList, below-append}
 use Rattle.sharing.proofs.Laws.{value-lt, value-sums}
 use Rattle.comparison.specs.Probe.{Each, Group}
 use Rattle.comparison.proofs.Values.{Shared}
-use Rattle.bid.specs.Split.{split-judgement, bid-shares, split-left}
-use Rattle.bid.proofs.Laws.{split-accepted}
+use Rattle.bid.specs.Split.{bid-shares, split-left}
+use Rattle.bid.specs.Entry.{is-entry, entry-coins}
+use Rattle.bid.proofs.Laws.{Splits, split-accepted}
+use Rattle.bid.proofs.Entries.{length-left, all-in-order, entry-accepted, any-order}
 use Rattle.roll.specs.declared.Roll.{Roll}
 use Rattle.roll.specs.Marks.{marks, empty, mark}
 use Rattle.roll.proofs.Laws.{Proper, Free, marks-mark, marks-empty}
@@ -34,7 +41,10 @@ use Rattle.session.specs.Add.{add-judgement, add-reply, add-left}
 use Rattle.session.proofs.Laws.{open-accepted, add-accepted}
 use Rattle.auction.specs.Auction.{Auction, IsAuction}
 use Rattle.auction.specs.Coins.{Coins, DrawnBid, flat}
-use Rattle.auction.specs.Canonical.{Seat, zeros, seated, shares-for, after-adding}
+use Rattle.auction.specs.Desk.{Way, whole, by-entries, EachOnce, Desk, Complete}
+use Rattle.auction.specs.Call.{judgement, is-accepted}
+use Rattle.auction.specs.Canonical.{Seat, zeros, seated, entry-calls, bundle-calls, bundle, shares-for, after-adding}
+use Rattle.auction.specs.Demands.{all-accepted}
 use Rattle.auction.proofs.Closed.{entries, added-polynomials, at-party, no-totals}
 use Rattle.auction.proofs.Totals.{GoodBid, Held, entries-held}
 
@@ -64,21 +74,25 @@ shares-written t j (x ∷ xs) (g ∷ gs) l h =
     ∙ ap (λ (z : List ℕ). value amounts (x ∷ g) j ∷ z) (shares-written t j xs gs (suc-inj l) (h .1))
 
 module _ (n j k : ℕ) (L : OnList n j k) (b : DrawnBid) (shares : List ℕ) (B : GoodBid k (threshold n) b) (l : length shares ≡ 2 * k) where
-  pub splits-bid : split-judgement n j k (b .0 .table) (flat (b .1)) shares ≡ Accepted
+  splits-bid : Splits n j k (b .0 .table) (flat (b .1)) shares
   splits-bid =
-      split-accepted n j k (b .0 .table) (flat (b .1)) shares
-      (record {
+      record {
         listed = L;
         table-long = B .table .long;
         coins-long = flat-length p (threshold n) (b .1) (B .groups) ∙ ap (λ (z : ℕ). z * threshold n) (B .many);
         shares-long = l;
-        coins-below = flat-below p (threshold n) (b .1) (B .groups);
-        small = B .table .small;
-        monotone = B .table .monotone;
-      })
+        faultless =
+            record {
+              coins-below = flat-below p (threshold n) (b .1) (B .groups);
+              small = B .table .small;
+              monotone = B .table .monotone;
+            };
+      }
 
-  pub split-writes : split-left n j k (b .0 .table) (flat (b .1)) shares ≡ at-party j (entries (b .0 .table) (b .1))
-  split-writes = kept-new _ _ shares splits-bid ∙ shares-written (threshold n) j (b .0 .table) (b .1) (B .many ∙ sym (B .table .long)) (B .groups)
+  split-writes : split-left n j k (b .0 .table) (flat (b .1)) shares ≡ at-party j (entries (b .0 .table) (b .1))
+  split-writes =
+      kept-new _ _ shares (split-accepted n j k (b .0 .table) (flat (b .1)) shares splits-bid)
+      ∙ shares-written (threshold n) j (b .0 .table) (b .1) (B .many ∙ sym (B .table .long)) (B .groups)
 
 -- the record of party j with the bids of these on the roll held
 unfoldable pub holding : (n k : ℕ) (roll : Roll) (j : ℕ) → Party
@@ -174,14 +188,40 @@ module _ {a : Auction} (c : Coins) (A : IsAuction a) (j : ℕ) (h1 : 1 ≤ j) (h
       (kept-new _ (replicate (2 * a .k) 0) (zeros a c) opened ∙ sym (at-party-zeros (threshold (a .n)) j (2 * a .k)))
 
   module _ (b : DrawnBid) (B : GoodBid (a .k) (threshold (a .n)) b) where
-    pub splitting-accepted : split-judgement (a .n) j (a .k) (b .0 .table) (flat (b .1)) (zeros a c) ≡ Accepted
-    splitting-accepted = splits-bid (a .n) j (a .k) (member A j h1 hn) b (zeros a c) B (length-replicate (2 * a .k) 0)
+    -- the words of a bid make a call for the whole table, whatever the slice holds
+    splits-on : (lent : List ℕ) → length lent ≡ 2 * a .k → Splits (a .n) j (a .k) (b .0 .table) (flat (b .1)) lent
+    splits-on lent l = splits-bid (a .n) j (a .k) (member A j h1 hn) b lent B l
+
+    -- entry after entry, in any order, every call is accepted
+    entries-accepted : (order lent : List ℕ) → every (is-entry (a .k)) order ≡ true → length lent ≡ 2 * a .k
+        → all-accepted (entry-calls a c j (b .0 .table) (flat (b .1)) order lent) ≡ true
+    unfolding entry-calls all-accepted judgement is-accepted every
+    entries-accepted [] lent h l = refl
+    entries-accepted (e ∷ es) lent h l =
+        let w = and-true (is-entry (a .k) e) (every (is-entry (a .k)) es) h in
+        let r = and-true (leb 1 e) (leb e (2 * a .k)) (w .0) in
+        let words = entry-coins (threshold (a .n)) e (flat (b .1)) in
+        ap₂ _&&_ (ap is-accepted (entry-accepted (splits-on lent l) e (leb-true 1 e (r .0)) (leb-true e (2 * a .k) (r .1)) lent l))
+        (entries-accepted es _ (w .1) (length-left (a .n) j (a .k) e (b .0 .table) words lent ∙ l))
+
+    -- either way the calls are accepted, and leave the party's words of the bid's polynomials
+    pub bundle-accepted : (way : Way) → EachOnce (a .k) way → all-accepted (bundle-calls a c j (b .0 .table) (flat (b .1)) way) ≡ true
+    unfolding bundle-calls all-accepted judgement is-accepted
+    bundle-accepted whole w = rw (split-accepted _ _ _ _ _ _ (splits-on (zeros a c) (length-replicate (2 * a .k) 0)))
+    bundle-accepted (by-entries order lent) w = entries-accepted order lent (all-in-order (a .k) order (w .0)) (w .1)
+
+    bundle-written : (way : Way) → EachOnce (a .k) way → bundle a c j (b .0 .table) (flat (b .1)) way ≡ at-party j (entries (b .0 .table) (b .1))
+    unfolding bundle
+    bundle-written whole w = split-writes (a .n) j (a .k) (member A j h1 hn) b (zeros a c) B (length-replicate (2 * a .k) 0)
+    bundle-written (by-entries order lent) w =
+        any-order (splits-on lent (w .1)) order lent (w .0) (w .1) ∙ split-writes (a .n) j (a .k) (member A j h1 hn) b lent B (w .1)
+
+    pub shares-for-party : (desk : Desk) → Complete (a .k) desk → (roll : Roll) (fs : List (List ℕ))
+        → shares-for a c desk b (holding-seat a roll fs j) ≡ at-party j (entries (b .0 .table) (b .1))
+    unfolding shares-for holding-seat holding
+    shares-for-party desk D roll fs = bundle-written (desk (b .0 .bidder) j) (D (b .0 .bidder) j)
 
     module _ (roll : Roll) (fs : List (List ℕ)) (F : Held (a .k) (threshold (a .n)) fs) where
-      pub shares-for-party : shares-for a c b (holding-seat a roll fs j) ≡ at-party j (entries (b .0 .table) (b .1))
-      unfolding shares-for holding-seat holding
-      shares-for-party = split-writes (a .n) j (a .k) (member A j h1 hn) b (zeros a c) B (length-replicate (2 * a .k) 0)
-
       module _ (P : Proper roll) (free : Free roll (b .0 .bidder)) where
         pub adding-accepted : add-judgement (holding (a .n) (a .k) roll j) (at-party j fs) (b .0 .bidder) (at-party j (entries (b .0 .table) (b .1))) ≡ Accepted
         unfolding holding
@@ -200,13 +240,14 @@ module _ {a : Auction} (c : Coins) (A : IsAuction a) (j : ℕ) (h1 : 1 ≤ j) (h
               shares-below = at-party-below (threshold (a .n)) j (entries (b .0 .table) (b .1)) hj (E .shared);
             })
 
-        pub added-holding : after-adding a c b (holding-seat a roll fs j) ≡ holding-seat a (mark roll (b .0 .bidder)) (added-polynomials fs (entries (b .0 .table) (b .1))) j
+        pub added-holding : (desk : Desk) → Complete (a .k) desk
+            → after-adding a c desk b (holding-seat a roll fs j) ≡ holding-seat a (mark roll (b .0 .bidder)) (added-polynomials fs (entries (b .0 .table) (b .1))) j
         unfolding after-adding holding-seat
-        added-holding =
+        added-holding desk D =
             let q : Party = holding (a .n) (a .k) roll j in
             let E : Held (a .k) (threshold (a .n)) (entries (b .0 .table) (b .1)) = entries-held (a .k) (threshold (a .n)) b B in
             ap (λ (shares : List ℕ). record { party = add-reply q (at-party j fs) (b .0 .bidder) shares .party; totals = add-left q (at-party j fs) (b .0 .bidder) shares; sheets = [] })
-            shares-for-party
+            (shares-for-party desk D roll fs)
             ∙ ap₂ (λ (r : Party) (totals : List ℕ). record { party = r; totals = totals; sheets = [] })
             (next-party _ (entered q (b .0 .bidder)) q adding-accepted ∙ one-more (a .n) (a .k) j roll P (b .0 .bidder) free)
             (kept-new _ _ (at-party j fs) adding-accepted

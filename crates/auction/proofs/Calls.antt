@@ -1,7 +1,7 @@
 -- Lists of calls: what is read off a list made of parts, and off one call of each party. Assumes nothing.
 use mathlib.Core.Path.{_≡_, refl, ap, ap₂, _∙_}
 use mathlib.Core.Bool.{Bool, true, false, cond, _&&_}
-use mathlib.Core.List.{List, [], _∷_, _++_, map, map-map}
+use mathlib.Core.List.{List, [], _∷_, _++_, map, flatten, map-map}
 use mathlib.Core.Option.{Option, none, some}
 use Prim.Native.Nat.{ℕ, zero, suc, _+_, _≤_, _<_}
 use native.Mathlib.Decide.{decLt}
@@ -9,10 +9,15 @@ use native.Mathlib.Omega.{arith}
 use lib.Dec.{eqb}
 use borrow.Author.Tests.{eq-eqb, ne-eqb}
 use Rattle.ranges.specs.Lists.{from}
-use Rattle.sharing.specs.Scheme.{points}
+use Rattle.sharing.specs.Scheme.{threshold, points}
+use Rattle.bid.specs.Entry.{split-entry-left, entry-coins}
 use Rattle.ranges.proofs.Loops.{and-left, and-right, and-false}
 use Rattle.comparison.specs.Probe.{Each}
-use Rattle.auction.specs.Call.{Call, accepted, whose, of-party, of-service, given}
+use Rattle.auction.specs.Auction.{Auction}
+use Rattle.auction.specs.Coins.{Coins}
+use Rattle.auction.specs.Desk.{Way, whole, by-entries}
+use Rattle.auction.specs.Call.{Call, split-call, split-entry-call, accepted, whose, of-party, of-service, given}
+use Rattle.auction.specs.Canonical.{zeros, entry-calls, bundle-calls}
 use Rattle.auction.specs.Run.{select, own, services}
 use Rattle.auction.specs.Received.{collect}
 use Rattle.auction.specs.Demands.{all-accepted}
@@ -100,6 +105,16 @@ map-through g f h n e = map-map g f (points n) ∙ map-points (λ i. g (f i)) h 
 pub all-accepted-points : (f : ℕ → Call) (n : ℕ) → ((i : ℕ) → 1 ≤ i → i ≤ n → accepted (f i) ≡ true) → all-accepted (map f (points n)) ≡ true
 all-accepted-points f n h = all-accepted-map f (points n) (each-point (λ i. accepted (f i) ≡ true) n h)
 
+-- where each party has several calls, all of them
+pub all-accepted-flatten : (f : ℕ → List Call) (n : ℕ) → ((i : ℕ) → 1 ≤ i → i ≤ n → all-accepted (f i) ≡ true)
+    → all-accepted (flatten (map f (points n))) ≡ true
+unfolding all-accepted flatten
+all-accepted-flatten f n h = joined (points n) (each-point (λ i. all-accepted (f i) ≡ true) n h)
+  where
+    joined : (is : List ℕ) → Each (λ i. all-accepted (f i) ≡ true) is → all-accepted (flatten (map f is)) ≡ true
+    joined [] e = refl
+    joined (i ∷ is) e = all-accepted-append (f i) (flatten (map f is)) (e .0) (joined is (e .1))
+
 -- ---- one call of each party
 
 -- a party's own call that is accepted
@@ -145,9 +160,30 @@ own-points j n f l k h = own-from j f 1 n l (omega arith) (λ i l k. h i l (omeg
 
 -- ---- calls of no party
 
+own-passed : (j : ℕ) (c : Call) (l : List Call) → of-party j (whose c) ≡ false → own j (c ∷ l) ≡ own j l
+own-passed j c l h = select-left (λ c. accepted c && of-party j (whose c)) c l (and-false (accepted c) _ h)
+
 pub own-none : {A : Type 0} (j : ℕ) (f : A → Call) (xs : List A) → ((x : A) → of-party j (whose (f x)) ≡ false) → own j (map f xs) ≡ []
 unfolding select
 own-none j f [] h = refl
-own-none j f (x ∷ xs) h =
-    select-left (λ c. accepted c && of-party j (whose c)) (f x) (map f xs) (and-false (accepted (f x)) _ (h x))
-    ∙ own-none j f xs h
+own-none j f (x ∷ xs) h = own-passed j (f x) (map f xs) (h x) ∙ own-none j f xs h
+
+pub own-flatten : {A : Type 0} (j : ℕ) (f : A → List Call) (xs : List A) → ((x : A) → own j (f x) ≡ []) → own j (flatten (map f xs)) ≡ []
+unfolding select flatten
+own-flatten j f [] h = refl
+own-flatten j f (x ∷ xs) h = own-append j (f x) (flatten (map f xs)) ∙ ap₂ _++_ (h x) (own-flatten j f xs h)
+
+-- a bundle is written by nobody's own calls
+module _ (a : Auction) (c : Coins) (j party : ℕ) (table coins : List ℕ) where
+  own-entries : (order lent : List ℕ) → own j (entry-calls a c party table coins order lent) ≡ []
+  unfolding entry-calls whose of-party select
+  own-entries [] lent = refl
+  own-entries (e ∷ es) lent =
+      let words = entry-coins (threshold (a .n)) e coins in
+      let left = split-entry-left (a .n) party (a .k) e table words lent in
+      own-passed j (split-entry-call (a .n) party (a .k) e table words lent) (entry-calls a c party table coins es left) refl ∙ own-entries es left
+
+  pub own-bundle : (way : Way) → own j (bundle-calls a c party table coins way) ≡ []
+  unfolding bundle-calls whose of-party select
+  own-bundle whole = own-passed j (split-call (a .n) party (a .k) table coins (zeros a c)) [] refl
+  own-bundle (by-entries order lent) = own-entries order lent

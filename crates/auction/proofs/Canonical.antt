@@ -8,6 +8,7 @@ use lib.ListN.{length, replicate, length-map}
 use Rattle.ranges.specs.Sizes.{probe-rounds}
 use Rattle.auction.specs.Auction.{Auction, IsAuction}
 use Rattle.auction.specs.Coins.{Coins, InRange}
+use Rattle.auction.specs.Desk.{Desk, Complete}
 use Rattle.auction.specs.Call.{Call}
 use Rattle.auction.specs.Canonical.{canonical}
 use Rattle.auction.specs.Run.{own}
@@ -18,39 +19,39 @@ use Rattle.auction.proofs.Calls.{own-append, collect-append, all-accept
 use Rattle.auction.proofs.Setup.{setup-calls, canonical-setup, setup-accepted, setup-bids, setup-hearings, setup-askings}
 use Rattle.auction.proofs.Rounds.{end, round-calls, rounds-accepted, rounds-messages, rounds-sheets, rounds-decisions, rounds-bids, rounds-askings}
 
-module _ (a : Auction) (c : Coins) (A : IsAuction a) (C : InRange a c) where
-  pub canonical-accepted : all-accepted (canonical a c) ≡ true
+module _ (a : Auction) (c : Coins) (A : IsAuction a) (C : InRange a c) (desk : Desk) (D : Complete (a .k) desk) where
+  pub canonical-accepted : all-accepted (canonical a c desk) ≡ true
   canonical-accepted =
-      ap all-accepted (canonical-setup A C) ∙ all-accepted-append (setup-calls a c) (round-calls a c) (setup-accepted A C) (rounds-accepted a c A C)
+      ap all-accepted (canonical-setup A C desk D) ∙ all-accepted-append (setup-calls a c desk) (round-calls a c) (setup-accepted A C desk D) (rounds-accepted a c A C)
 
   module _ (j : ℕ) (j1 : 1 ≤ j) (jn : j ≤ a .n) where
     -- the setup, then the rounds
-    reads : {B : Type 0} (f : Call → Option B) (xs ys : List B) → collect f (own j (setup-calls a c)) ≡ xs
-        → collect f (own j (round-calls a c)) ≡ ys → collect f (own j (canonical a c)) ≡ xs ++ ys
+    reads : {B : Type 0} (f : Call → Option B) (xs ys : List B) → collect f (own j (setup-calls a c desk)) ≡ xs
+        → collect f (own j (round-calls a c)) ≡ ys → collect f (own j (canonical a c desk)) ≡ xs ++ ys
     reads f xs ys e g =
-        ap (λ (l : List Call). collect f (own j l)) (canonical-setup A C)
-        ∙ ap (collect f) (own-append j (setup-calls a c) (round-calls a c))
-        ∙ collect-append f (own j (setup-calls a c)) (own j (round-calls a c))
+        ap (λ (l : List Call). collect f (own j l)) (canonical-setup A C desk D)
+        ∙ ap (collect f) (own-append j (setup-calls a c desk) (round-calls a c))
+        ∙ collect-append f (own j (setup-calls a c desk)) (own j (round-calls a c))
         ∙ ap (λ l. l ++ collect f (own j (round-calls a c))) e
         ∙ ap (λ l. xs ++ l) g
 
-    pub canonical-bids : received-bids j (canonical a c) ≡ bid-words j (a .bids) (c .bids)
-    canonical-bids = reads bid-in _ [] (setup-bids A C j j1 jn) (rounds-bids a c A C j j1 jn) ∙ append-nil _
+    pub canonical-bids : received-bids j (canonical a c desk) ≡ bid-words j (a .bids) (c .bids)
+    canonical-bids = reads bid-in _ [] (setup-bids A C desk j j1 jn) (rounds-bids a c A C j j1 jn) ∙ append-nil _
 
-    canonical-hearings : hearings j (canonical a c) ≡ collect hearing-in (own j (round-calls a c))
-    canonical-hearings = reads hearing-in [] _ (setup-hearings A C j j1 jn) refl
+    canonical-hearings : hearings j (canonical a c desk) ≡ collect hearing-in (own j (round-calls a c))
+    canonical-hearings = reads hearing-in [] _ (setup-hearings A C desk j j1 jn) refl
 
-    pub canonical-messages : messages j (canonical a c) ≡ all-spoken (a .n) (probes a c)
+    pub canonical-messages : messages j (canonical a c desk) ≡ all-spoken (a .n) (probes a c)
     canonical-messages = ap (map (λ h. h .messages)) canonical-hearings ∙ rounds-messages a c A C j j1 jn
 
-    pub canonical-sheets : sheets j (canonical a c) ≡ replicate (probe-rounds * length (probes a c)) (sheets-at a c j)
+    pub canonical-sheets : sheets j (canonical a c desk) ≡ replicate (probe-rounds * length (probes a c)) (sheets-at a c j)
     canonical-sheets = ap (map (λ h. h .sheets)) canonical-hearings ∙ rounds-sheets a c A C j j1 jn
 
-    pub canonical-decisions : decisions j (canonical a c) ≡ map decision (probes a c)
+    pub canonical-decisions : decisions j (canonical a c desk) ≡ map decision (probes a c)
     canonical-decisions = ap (collect _) canonical-hearings ∙ rounds-decisions a c A C j j1 jn
 
-    pub canonical-many : length (verdicts j (canonical a c)) ≡ length (probes a c)
-    canonical-many = length-map (decisions j (canonical a c)) (λ d. d .1) ∙ ap length canonical-decisions ∙ length-map (probes a c) decision
+    pub canonical-many : length (verdicts j (canonical a c desk)) ≡ length (probes a c)
+    canonical-many = length-map (decisions j (canonical a c desk)) (λ d. d .1) ∙ ap length canonical-decisions ∙ length-map (probes a c) decision
 
-    pub canonical-askings : askings j (canonical a c) ≡ record-at a c (end a c A C) j ∷ []
-    canonical-askings = reads asking-in [] _ (setup-askings A C j j1 jn) (rounds-askings a c A C j j1 jn)
+    pub canonical-askings : askings j (canonical a c desk) ≡ record-at a c (end a c A C) j ∷ []
+    canonical-askings = reads asking-in [] _ (setup-askings A C desk j j1 jn) (rounds-askings a c A C j j1 jn)

@@ -1,7 +1,7 @@
 -- Every party's call of the canonical list is for one of the parties 1 to n. Assumes nothing.
 use mathlib.Core.Path.{_≡_, refl, ap, _∙_}
 use mathlib.Core.Bool.{Bool, true, false, not, _&&_, true≢false}
-use mathlib.Core.List.{List, [], _∷_, _++_, map, zip}
+use mathlib.Core.List.{List, [], _∷_, _++_, map, flatten, zip}
 use Prim.Native.Nat.{ℕ, zero, suc, _+_, _≤_}
 use native.Mathlib.Omega.{arith}
 use lib.Dec.{eqb}
@@ -26,11 +26,12 @@ use Rattle.hearing.proofs.Next.{after-same}
 use Rattle.hearing.specs.Hear.{hear-judgement, after}
 use Rattle.round.specs.Round.{heard}
 use Rattle.auction.specs.Auction.{Auction}
-use Rattle.auction.specs.Coins.{Coins, DrawnBid}
+use Rattle.auction.specs.Coins.{Coins, DrawnBid, flat}
+use Rattle.auction.specs.Desk.{Desk}
 use Rattle.auction.specs.Call.{Call, open-call, service, judgement, is-accepted, accepted, whose, of-party}
-use Rattle.auction.specs.Canonical.{Seat, all-over, zeros, seated, shares-for, split-for, add-by, after-adding, deal-for, after-dealing, say-by, word-by, hear-by, after-hearing, ask, enough-rounds, from-rounds, deals, from-bids, canonical}
+use Rattle.auction.specs.Canonical.{Seat, all-over, zeros, seated, shares-for, splits-for, add-by, after-adding, deal-for, after-dealing, say-by, word-by, hear-by, after-hearing, ask, enough-rounds, from-rounds, deals, from-bids, canonical}
 use Rattle.auction.specs.Run.{select, own}
-use Rattle.auction.proofs.Calls.{select-append}
+use Rattle.auction.proofs.Calls.{select-append, own-flatten, own-bundle}
 
 -- ---- on a record that is not sound every call is refused
 
@@ -109,7 +110,7 @@ module _ (j : ℕ) where
   away-map P f g [] h = tt
   away-map P f g (x ∷ xs) h = (g x (h .0), away-map P f g xs (h .1))
 
-  module _ (a : Auction) (c : Coins) where
+  module _ (a : Auction) (c : Coins) (desk : Desk) where
     away-seated : (i : ℕ) → eqb i j ≡ false → Away (seated a c i)
     unfolding seated replied kept fresh
     away-seated i h = split (open-judgement (a .n) i (a .k) (zeros a c))
@@ -118,11 +119,11 @@ module _ (j : ℕ) where
         split Accepted = and-false (sound (fresh (a .n) i (a .k))) (eqb i j) h
         split (Refused why) = rw blank-unsound
 
-    away-added : (b : DrawnBid) (s : Seat) → Away s → Away (after-adding a c b s)
+    away-added : (b : DrawnBid) (s : Seat) → Away s → Away (after-adding a c desk b s)
     unfolding after-adding
     away-added b s h =
-        left-away (s .party) (entered (s .party) (b .0 .bidder)) (add-judgement (s .party) (s .totals) (b .0 .bidder) (shares-for a c b s))
-        (λ e. no-add (s .party) e (s .totals) (b .0 .bidder) (shares-for a c b s)) (entered-same (s .party) (b .0 .bidder) .own) h
+        left-away (s .party) (entered (s .party) (b .0 .bidder)) (add-judgement (s .party) (s .totals) (b .0 .bidder) (shares-for a c desk b s))
+        (λ e. no-add (s .party) e (s .totals) (b .0 .bidder) (shares-for a c desk b s)) (entered-same (s .party) (b .0 .bidder) .own) h
 
     away-heard : (words : List ℕ) (s : Seat) → Away s → Away (after-hearing a c words s)
     unfolding after-hearing
@@ -144,13 +145,14 @@ module _ (j : ℕ) where
     unfolding hear-by judgement whose of-party
     none-hears words ss h = none-map Away (hear-by a c words) (λ s e. none-by (s .party) _ (λ u. no-hear (s .party) u (s .totals) (s .sheets) words) e) ss h
 
-    none-adds : (b : DrawnBid) (ss : List Seat) → Each Away ss → own j (map (add-by a c b) ss) ≡ []
+    none-adds : (b : DrawnBid) (ss : List Seat) → Each Away ss → own j (map (add-by a c desk b) ss) ≡ []
     unfolding add-by judgement whose of-party
-    none-adds b ss h = none-map Away (add-by a c b) (λ s e. none-by (s .party) _ (λ u. no-add (s .party) u (s .totals) (b .0 .bidder) (shares-for a c b s)) e) ss h
+    none-adds b ss h = none-map Away (add-by a c desk b) (λ s e. none-by (s .party) _ (λ u. no-add (s .party) u (s .totals) (b .0 .bidder) (shares-for a c desk b s)) e) ss h
 
-    none-splits : (b : DrawnBid) (ss : List Seat) → own j (map (split-for a c b) ss) ≡ []
-    unfolding split-for whose
-    none-splits b ss = none-served (split-for a c b) (λ s. refl) ss
+    none-splits : (b : DrawnBid) (ss : List Seat) → own j (flatten (map (splits-for a c desk b) ss)) ≡ []
+    unfolding splits-for
+    none-splits b ss =
+        own-flatten j (splits-for a c desk b) ss (λ s. own-bundle a c j (s .party .own) (b .0 .table) (flat (b .1)) (desk (b .0 .bidder) (s .party .own)))
 
     none-deals : (ss : List Seat) → own j (deals a c ss) ≡ []
     unfolding deals deal-for whose
@@ -165,12 +167,12 @@ module _ (j : ℕ) where
         let rest = none-rounds fuel (map (after-hearing a c words) ss) (away-map Away (after-hearing a c words) (away-heard words) ss h) in
         either (own j) (all-over ss) _ _ [] (none-asks ss h) (none-append _ _ (none-says ss h) (none-append _ _ (none-hears words ss h) rest))
 
-    none-bids : (bs : List DrawnBid) (ss : List Seat) → Each Away ss → own j (from-bids a c bs ss) ≡ []
+    none-bids : (bs : List DrawnBid) (ss : List Seat) → Each Away ss → own j (from-bids a c desk bs ss) ≡ []
     unfolding from-bids after-dealing
     none-bids [] ss h =
         none-append _ _ (none-deals ss) (none-rounds (enough-rounds a) (map (after-dealing a c) ss) (away-map Away (after-dealing a c) (λ s e. e) ss h))
     none-bids (b ∷ bs) ss h =
-        let rest = none-bids bs (map (after-adding a c b) ss) (away-map Away (after-adding a c b) (away-added b) ss h) in
+        let rest = none-bids bs (map (after-adding a c desk b) ss) (away-map Away (after-adding a c desk b) (away-added b) ss h) in
         none-append _ _ (none-splits b ss) (none-append _ _ (none-adds b ss h) rest)
 
     module _ (outside : 1 ≤ j → j ≤ a .n → ⊥) where
@@ -188,7 +190,7 @@ module _ (j : ℕ) where
       none-opens = none-map (λ x. eqb x j ≡ false) _ (λ x e. and-false (accepted (open-call (a .n) x (a .k) (zeros a c))) (eqb x j) e) (points (a .n)) away-points
 
       -- no call of the canonical list is party j's own
-      pub none-told : own j (canonical a c) ≡ []
+      pub none-told : own j (canonical a c desk) ≡ []
       unfolding canonical
       none-told =
           none-append _ _ none-opens

@@ -14,6 +14,7 @@ use Rattle.ranges.proofs.Loops.{and-false}
 use Rattle.record.specs.declared.Party.{Party}
 use Rattle.auction.specs.Auction.{Auction}
 use Rattle.auction.specs.Coins.{Coins}
+use Rattle.auction.specs.Desk.{Desk, Complete}
 use Rattle.auction.specs.Call.{Call, say-call, answer-call, accepted, Whose, party, service, whose, of-party, of-service, given}
 use Rattle.auction.specs.Canonical.{canonical}
 use Rattle.auction.specs.Run.{Run, Repeats, select, own, services}
@@ -25,8 +26,14 @@ use Rattle.auction.proofs.Elsewhere.{none-told}
 
 -- ---- the canonical list is a run
 
-pub canonical-run : (a : Auction) (c : Coins) → Run a c (canonical a c)
-canonical-run a c = record { parties = λ j. repeats-refl (own j (canonical a c)); others = shuffle-refl (services (canonical a c)) }
+pub canonical-run : (a : Auction) (c : Coins) (desk : Desk) → Complete (a .k) desk → Run a c (canonical a c desk)
+canonical-run a c desk D =
+    record {
+      desk = desk;
+      complete = D;
+      parties = λ j. repeats-refl (own j (canonical a c desk));
+      others = shuffle-refl (services (canonical a c desk));
+    }
 
 -- ---- what is read off a run
 
@@ -45,30 +52,30 @@ module _ {B : Type 0} (f : Call → Option B) (no-say : (q : Party) (t s : List 
   same-reading (Repeats.ask-again {q} {ds} h) = ap (λ o. with-read o (collect f ds)) (no-ask q) ∙ same-reading h
 
 module _ (a : Auction) (c : Coins) (l : List Call) (run : Run a c l) (j : ℕ) where
-  pub run-bids : received-bids j l ≡ received-bids j (canonical a c)
+  pub run-bids : received-bids j l ≡ received-bids j (canonical a c (run .desk))
   unfolding bid-in
   run-bids = same-reading bid-in (λ q t s. refl) (λ q. refl) (run .parties j)
 
-  pub run-hearings : hearings j l ≡ hearings j (canonical a c)
+  pub run-hearings : hearings j l ≡ hearings j (canonical a c (run .desk))
   unfolding hearing-in
   run-hearings = same-reading hearing-in (λ q t s. refl) (λ q. refl) (run .parties j)
 
-  pub run-messages : messages j l ≡ messages j (canonical a c)
+  pub run-messages : messages j l ≡ messages j (canonical a c (run .desk))
   run-messages = rw run-hearings
 
-  pub run-sheets : sheets j l ≡ sheets j (canonical a c)
+  pub run-sheets : sheets j l ≡ sheets j (canonical a c (run .desk))
   run-sheets = rw run-hearings
 
-  pub run-decisions : decisions j l ≡ decisions j (canonical a c)
+  pub run-decisions : decisions j l ≡ decisions j (canonical a c (run .desk))
   run-decisions = rw run-hearings
 
-  pub run-verdicts : verdicts j l ≡ verdicts j (canonical a c)
+  pub run-verdicts : verdicts j l ≡ verdicts j (canonical a c (run .desk))
   run-verdicts = rw run-hearings
 
-  pub run-indices : indices j l ≡ indices j (canonical a c)
+  pub run-indices : indices j l ≡ indices j (canonical a c (run .desk))
   run-indices = rw run-hearings
 
-  pub run-unused : unused j l ≡ unused j (canonical a c)
+  pub run-unused : unused j l ≡ unused j (canonical a c (run .desk))
   run-unused = rw run-hearings
 
 -- ---- askings repeated
@@ -105,14 +112,19 @@ more-askings (Repeats.ask-again h) x e =
     (suc (w .0), ap₂ (λ y ys. y ∷ ys) (head-eq-of-cons-eq e) (w .1))
 
 -- a party that asks once in the canonical list asks once or more with the same record
-pub run-askings : (a : Auction) (c : Coins) (l : List Call) → Run a c l → (j : ℕ) (x : Party)
-    → askings j (canonical a c) ≡ x ∷ [] → (m : ℕ) × (askings j l ≡ replicate (suc m) x)
+pub run-askings : (a : Auction) (c : Coins) (l : List Call) (run : Run a c l) (j : ℕ) (x : Party)
+    → askings j (canonical a c (run .desk)) ≡ x ∷ [] → (m : ℕ) × (askings j l ≡ replicate (suc m) x)
 run-askings a c l run j x e = more-askings (run .parties j) x e
 
 -- ---- parties that there are not
 
 pub run-none-else : (a : Auction) (c : Coins) (l : List Call) → Run a c l → (j : ℕ) → (1 ≤ j → j ≤ a .n → ⊥) → own j l ≡ []
-run-none-else a c l run j outside = repeats-none (rw (none-told j a c outside) at (run .parties j))
+run-none-else a c l run j outside = repeats-none (rw (none-told j a c (run .desk) outside) at (run .parties j))
+
+-- another list is a run too, with the bundles written in the same ways
+with-calls : {a : Auction} {c : Coins} {l m : List Call} (r : Run a c l) → ((j : ℕ) → Repeats (own j (canonical a c (r .desk))) (own j m))
+    → Shuffle (services (canonical a c (r .desk))) (services m) → Run a c m
+with-calls r parties others = record { desk = r .desk; complete = r .complete; parties = parties; others = others }
 
 -- the tests that tell whose calls are taken
 abbrev owned : ℕ → Call → Bool
@@ -133,8 +145,8 @@ module _ (x : Call) (refused : accepted x ≡ false) (l m : List Call) where
 pub refusals-anywhere : (a : Auction) (c : Coins) (x : Call) → accepted x ≡ false → (l m : List Call)
     → Run a c (l ++ m) ↔ Run a c (l ++ (x ∷ m))
 refusals-anywhere a c x e l m = (
-  (λ r. record { parties = λ j. rw (own-skip x e l m j) at (r .parties j); others = rw (services-skip x e l m) at (r .others) }),
-  (λ r. record { parties = λ j. rw (own-skip x e l m j) (r .parties j); others = rw (services-skip x e l m) (r .others) }),
+  (λ r. with-calls r (λ j. rw (own-skip x e l m j) at (r .parties j)) (rw (services-skip x e l m) at (r .others))),
+  (λ r. with-calls r (λ j. rw (own-skip x e l m j) (r .parties j)) (rw (services-skip x e l m) (r .others))),
 )
 
 -- ---- neighbours change places
@@ -183,10 +195,7 @@ module _ (x y : Call) (l m : List Call) where
 pub swap-parties : (a : Auction) (c : Coins) (x y : Call) (l m : List Call) → ((j : ℕ) → whose x ≡ party j → whose y ≡ party j → ⊥)
     → Run a c (l ++ (x ∷ y ∷ m)) → Run a c (l ++ (y ∷ x ∷ m))
 swap-parties a c x y l m apart r =
-    record {
-      parties = λ j. rw (own-swap x y l m j (apart j)) at (r .parties j);
-      others = services-swap x y l m (services (canonical a c)) (r .others);
-    }
+    with-calls r (λ j. rw (own-swap x y l m j (apart j)) at (r .parties j)) (services-swap x y l m (services (canonical a c (r .desk))) (r .others))
 
 -- two neighbours of the bidders and the dealer
 pub swap-services : (a : Auction) (c : Coins) (x y : Call) (l m : List Call) → whose x ≡ service → whose y ≡ service
@@ -208,12 +217,11 @@ module _ (a : Auction) (c : Coins) (x : Call) (l m : List Call)
 
   twice : (i : ℕ) → whose x ≡ party i → Run a c (l ++ (x ∷ m)) → Run a c (l ++ (x ∷ x ∷ m))
   twice i e r =
-      record {
-        parties = λ j.
-            rw (select-two (owned j) l m x x)
-            (with-twice (owned j x) (own j (canonical a c)) (own j l) (own j m) (rw (select-one (owned j) l m x) at (r .parties j)));
-        others = rw (select-skip served x (not-served i (whose x) (accepted x) e) l (x ∷ m)) at (r .others);
-      }
+      with-calls r
+      (λ j.
+      rw (select-two (owned j) l m x x)
+      (with-twice (owned j x) (own j (canonical a c (r .desk))) (own j l) (own j m) (rw (select-one (owned j) l m x) at (r .parties j))))
+      (rw (select-skip served x (not-served i (whose x) (accepted x) e) l (x ∷ m)) at (r .others))
 
 -- accepted or not
 pub say-twice : (a : Auction) (c : Coins) (q : Party) (t s : List ℕ) (l m : List Call)

@@ -54,22 +54,22 @@ pooled n j (x ∷ xs) P m =
 
 module _ (a : Auction) (c : Coins) (A : IsAuction a) (C : InRange a c) (l : List Call) (run : Run a c l) (j : ℕ) (j1 : 1 ≤ j) (jn : j ≤ a .n) where
   bids-are : received-bids j l ≡ bid-words j (a .bids) (c .bids)
-  bids-are = run-bids a c l run j ∙ canonical-bids a c A C j j1 jn
+  bids-are = run-bids a c l run j ∙ canonical-bids a c A C (run .desk) (run .complete) j j1 jn
 
   messages-are : messages j l ≡ all-spoken (a .n) (probes a c)
-  messages-are = run-messages a c l run j ∙ canonical-messages a c A C j j1 jn
+  messages-are = run-messages a c l run j ∙ canonical-messages a c A C (run .desk) (run .complete) j j1 jn
 
   sheets-are : sheets j l ≡ replicate (probe-rounds * length (probes a c)) (sheets-at a c j)
-  sheets-are = run-sheets a c l run j ∙ canonical-sheets a c A C j j1 jn
+  sheets-are = run-sheets a c l run j ∙ canonical-sheets a c A C (run .desk) (run .complete) j j1 jn
 
   decisions-are : decisions j l ≡ map decision (probes a c)
-  decisions-are = run-decisions a c l run j ∙ canonical-decisions a c A C j j1 jn
+  decisions-are = run-decisions a c l run j ∙ canonical-decisions a c A C (run .desk) (run .complete) j j1 jn
 
   verdicts-are : verdicts j l ≡ map (λ d. d .1) (map decision (probes a c))
   verdicts-are = ap (map (λ d. d .1)) decisions-are
 
   many : length (verdicts j l) ≡ length (probes a c)
-  many = ap length (run-verdicts a c l run j) ∙ canonical-many a c A C j j1 jn
+  many = ap length (run-verdicts a c l run j) ∙ canonical-many a c A C (run .desk) (run .complete) j j1 jn
 
   unused-are : unused j l ≡ replicate (probe-rounds * length (probes a c)) (drop (sheet-size * length (probes a c)) (sheets-at a c j))
   unused-are =
@@ -88,7 +88,7 @@ module _ (a : Auction) (c : Coins) (A : IsAuction a) (C : InRange a c) (l : List
       let given : ℕ → ℕ = promise (demand a) (supply a) in
       let e : decisions j l ≡ trail given (limit (a .k)) (start (a .k)) = decisions-are ∙ probes-trail a c A C in
       let q : Party = record-at a c (end a c A C) j in
-      let r = run-askings a c l run j q (canonical-askings a c A C j j1 jn) in
+      let r = run-askings a c l run j q (canonical-askings a c A C (run .desk) (run .complete) j j1 jn) in
       record {
         promised = ap (map (λ d. d .1)) e ∙ trail-given given (limit (a .k)) (start (a .k)) ∙ ap (λ ds. map given (map (λ d. d .0) ds)) (sym e);
         asked = r .0;
@@ -192,5 +192,5 @@ demand-3 =
     record {
       matched = λ a b A B alike pool P c C stay. matched a b A B alike pool P c C (matching a b A B alike pool P c C stay);
       few-fall = λ a b A B alike i. few-fall a b A B i;
-      runs = λ a A c C. canonical-run a c;
+      runs = λ a A c C desk D. canonical-run a c desk D;
     }

@@ -2,7 +2,7 @@
 -- words of the totals' polynomials and of the dealt ones. Assumes nothing.
 use mathlib.Core.Path.{_≡_, refl, sym, ap, ap₂, _∙_}
 use mathlib.Core.Bool.{true}
-use mathlib.Core.List.{List, [], _∷_, _++_, map, zip, append-assoc, append-nil}
+use mathlib.Core.List.{List, [], _∷_, _++_, map, flatten, zip, append-assoc, append-nil}
 use Prim.Native.Nat.{ℕ, _≤_}
 use lib.ListN.{length, replicate, length-replicate}
 use Rattle.refusal.specs.declared.Judgement.the-variants.{Accepted}
@@ -17,16 +17,17 @@ use Rattle.roll.proofs.Laws.{Proper, Free, proper-mark, proper-empty}
 use Rattle.roll.proofs.Entry.{enter, Enters, all-enter}
 use Rattle.auction.specs.Auction.{Auction, bidders, IsAuction}
 use Rattle.auction.specs.Coins.{Coins, DrawnBid, InRange, flat, coin-words, coin-bytes}
-use Rattle.auction.specs.Call.{Call, open-call, split-call, deal-call, add-call, judgement, is-accepted, accepted, whose, of-party, given}
-use Rattle.auction.specs.Canonical.{Seat, zeros, seated, split-for, add-by, after-adding, deal-for, sheet-for, after-dealing, enough-rounds, from-rounds, deals, from-bids, canonical}
+use Rattle.auction.specs.Call.{Call, open-call, deal-call, add-call, judgement, is-accepted, accepted, whose, of-party, given}
+use Rattle.auction.specs.Desk.{Desk, Complete}
+use Rattle.auction.specs.Canonical.{zeros, seated, bundle-calls, splits-for, add-by, after-adding, deal-for, sheet-for, after-dealing, enough-rounds, from-rounds, deals, from-bids, canonical}
 use Rattle.auction.specs.Run.{select, own}
 use Rattle.auction.specs.Received.{collect, bid-in, hearing-in, asking-in}
 use Rattle.auction.specs.Demands.{all-accepted}
 use Rattle.auction.proofs.Closed.{entries, added-polynomials, totals-after, at-party, bid-for, bid-words, no-totals, polynomials, full-roll, fresh-stage, record-at, sheets-at, seat}
-use Rattle.auction.proofs.Calls.{own-append, all-accepted-append, all-accepted-map, all-accepted-points, each-point, map-each, map-points, map-through, Own, own-points, own-none}
+use Rattle.auction.proofs.Calls.{own-append, all-accepted-append, all-accepted-map, all-accepted-points, each-point, map-each, map-points, map-through, Own, own-points, own-none, all-accepted-flatten, own-flatten, own-bundle}
 use Rattle.auction.proofs.Totals.{each-imp, map-zip, GoodBid, Held, entries-held, added-held, no-totals-held, all-good}
 use Rattle.ranges.proofs.Ranges.{one-of-n}
-use Rattle.auction.proofs.Bidding.{holding, holding-seat, member, opened, seated-holding, splitting-accepted, shares-for-party, adding-accepted, added-holding}
+use Rattle.auction.proofs.Bidding.{holding, holding-seat, member, opened, seated-holding, bundle-accepted, shares-for-party, adding-accepted, added-holding}
 use Rattle.auction.proofs.Dealing.{deals-sheet, deal-writes}
 
 -- ---- who enters
@@ -64,16 +65,11 @@ unfolding is-accepted
 accepts c e = rw e
 
 module _ (a : Auction) (c : Coins) where
-  -- the seats after these bids
-  unfoldable pub seats-after : List DrawnBid → List Seat → List Seat
-  seats-after [] ss = ss
-  seats-after (b ∷ bs) ss = seats-after bs (map (after-adding a c b) ss)
-
   unfoldable pub open-at : ℕ → Call
   open-at j = open-call (a .n) j (a .k) (zeros a c)
 
-  unfoldable pub split-at : DrawnBid → ℕ → Call
-  split-at b j = split-call (a .n) j (a .k) (b .0 .table) (flat (b .1)) (zeros a c)
+  unfoldable pub splits-at : Desk → DrawnBid → ℕ → List Call
+  splits-at desk b j = bundle-calls a c j (b .0 .table) (flat (b .1)) (desk (b .0 .bidder) j)
 
   -- with the bids of these on the roll held and the polynomials fs behind the totals
   unfoldable pub add-at : DrawnBid → (roll : Roll) (fs : List (List ℕ)) → ℕ → Call
@@ -82,18 +78,18 @@ module _ (a : Auction) (c : Coins) where
   unfoldable pub deal-at : ℕ → SheetCoins → Call
   deal-at j s = deal-call (a .n) j (coin-words s) (coin-bytes s) (replicate sheet-size 0)
 
-  unfoldable pub bid-calls : List DrawnBid → (roll : Roll) (fs : List (List ℕ)) → List Call
-  bid-calls [] roll fs = []
-  bid-calls (b ∷ bs) roll fs =
-      map (split-at b) (points (a .n))
-      ++ (map (add-at b roll fs) (points (a .n)) ++ bid-calls bs (mark roll (b .0 .bidder)) (added-polynomials fs (entries (b .0 .table) (b .1))))
+  unfoldable pub bid-calls : Desk → List DrawnBid → (roll : Roll) (fs : List (List ℕ)) → List Call
+  bid-calls desk [] roll fs = []
+  bid-calls desk (b ∷ bs) roll fs =
+      flatten (map (splits-at desk b) (points (a .n)))
+      ++ (map (add-at b roll fs) (points (a .n)) ++ bid-calls desk bs (mark roll (b .0 .bidder)) (added-polynomials fs (entries (b .0 .table) (b .1))))
 
   unfoldable pub deal-calls : List ℕ → List Call
   deal-calls [] = []
   deal-calls (j ∷ js) = map (deal-at j) (c .sheets) ++ deal-calls js
 
-  unfoldable pub setup-calls : List Call
-  setup-calls = map open-at (points (a .n)) ++ (bid-calls (zip (a .bids) (c .bids)) empty (no-totals a) ++ deal-calls (points (a .n)))
+  unfoldable pub setup-calls : Desk → List Call
+  setup-calls desk = map open-at (points (a .n)) ++ (bid-calls desk (zip (a .bids) (c .bids)) empty (no-totals a) ++ deal-calls (points (a .n)))
 
   -- party j's own calls of the bids
   unfoldable pub adds-of : (j : ℕ) → List DrawnBid → (roll : Roll) (fs : List (List ℕ)) → List Call
@@ -105,19 +101,6 @@ module _ {a : Auction} {c : Coins} (A : IsAuction a) (C : InRange a c) where
   t = threshold (a .n)
 
   -- ---- the seats
-
-  pub seats-holding : (bs : List DrawnBid) (roll : Roll) (fs : List (List ℕ)) → Each (GoodBid (a .k) t) bs → Held (a .k) t fs
-      → Entering a roll bs
-      → seats-after a c bs (map (holding-seat a roll fs) (points (a .n))) ≡ map (holding-seat a (full-roll a) (totals-after bs fs)) (points (a .n))
-  unfolding seats-after totals-after
-  seats-holding [] roll fs B F l =
-      ap (λ (z : Roll). map (holding-seat a z fs) (points (a .n))) (all-entered a roll l)
-  seats-holding (b ∷ bs) roll fs B F l =
-      ap (seats-after a c bs)
-      (map-through (after-adding a c b) (holding-seat a roll fs) (holding-seat a (mark roll (b .0 .bidder)) (added-polynomials fs (entries (b .0 .table) (b .1)))) (a .n)
-      (λ j h1 hn. added-holding c A j h1 hn b (B .0) roll fs F (l .proper) (l .enters .0)))
-      ∙ seats-holding bs (mark roll (b .0 .bidder)) (added-polynomials fs (entries (b .0 .table) (b .1))) (B .1)
-      (added-held (a .k) t fs (entries (b .0 .table) (b .1)) F (entries-held (a .k) t b (B .0))) (entering-more a roll b bs l)
 
   pub seated-all : map (seated a c) (points (a .n)) ≡ map (holding-seat a empty (no-totals a)) (points (a .n))
   seated-all = map-points (seated a c) (holding-seat a empty (no-totals a)) (a .n) (λ j h1 hn. seated-holding c A j h1 hn)
@@ -138,14 +121,6 @@ module _ {a : Auction} {c : Coins} (A : IsAuction a) (C : InRange a c) where
   dealt-all =
       map-through (after-dealing a c) (holding-seat a (full-roll a) (polynomials a c)) (seat a c (fresh-stage (start (a .k)) 0)) (a .n) dealt-seat
 
-  pub setup-seats : map (after-dealing a c) (seats-after a c (zip (a .bids) (c .bids)) (map (seated a c) (points (a .n))))
-      ≡ map (seat a c (fresh-stage (start (a .k)) 0)) (points (a .n))
-  unfolding polynomials
-  setup-seats =
-      ap (λ (z : List Seat). map (after-dealing a c) (seats-after a c (zip (a .bids) (c .bids)) z)) seated-all
-      ∙ ap (map (after-dealing a c)) (seats-holding (zip (a .bids) (c .bids)) empty (no-totals a) (all-good A C) (no-totals-held (a .k) t) all-entering)
-      ∙ dealt-all
-
   -- ---- the list of calls
 
   abbrev after : List Call
@@ -156,59 +131,11 @@ module _ {a : Auction} {c : Coins} (A : IsAuction a) (C : InRange a c) where
   deals-holding roll fs [] = refl
   deals-holding roll fs (j ∷ js) = ap (λ (z : List Call). map (deal-at a c j) (c .sheets) ++ z) (deals-holding roll fs js)
 
-  splits-holding : (b : DrawnBid) (roll : Roll) (fs : List (List ℕ))
-      → map (split-for a c b) (map (holding-seat a roll fs) (points (a .n))) ≡ map (split-at a c b) (points (a .n))
-  unfolding split-for split-at holding-seat holding
-  splits-holding b roll fs = map-through (split-for a c b) (holding-seat a roll fs) (split-at a c b) (a .n) (λ j h1 hn. refl)
-
-  adds-holding : (b : DrawnBid) → GoodBid (a .k) t b → (roll : Roll) (fs : List (List ℕ)) → Held (a .k) t fs
-      → map (add-by a c b) (map (holding-seat a roll fs) (points (a .n))) ≡ map (add-at a c b roll fs) (points (a .n))
-  unfolding add-by add-at holding-seat
-  adds-holding b B roll fs F =
-      map-through (add-by a c b) (holding-seat a roll fs) (add-at a c b roll fs) (a .n)
-      (λ j h1 hn. ap (add-call (holding (a .n) (a .k) roll j) (at-party j fs) (b .0 .bidder)) (shares-for-party c A j h1 hn b B roll fs F))
-
-  from-bids-calls : (bs : List DrawnBid) (roll : Roll) (fs : List (List ℕ)) → Each (GoodBid (a .k) t) bs → Held (a .k) t fs
-      → Entering a roll bs → totals-after bs fs ≡ polynomials a c
-      → from-bids a c bs (map (holding-seat a roll fs) (points (a .n))) ≡ bid-calls a c bs roll fs ++ (deal-calls a c (points (a .n)) ++ after)
-  unfolding from-bids bid-calls totals-after
-  from-bids-calls [] roll fs B F l e =
-      let e′ : roll ≡ full-roll a = all-entered a roll l in
-      ap₂ _++_ (deals-holding roll fs (points (a .n)))
-      (ap (from-rounds a c (enough-rounds a))
-      (ap₂ (λ (z : Roll) (zs : List (List ℕ)). map (after-dealing a c) (map (holding-seat a z zs) (points (a .n)))) e′ e ∙ dealt-all))
-  from-bids-calls (b ∷ bs) roll fs B F l e =
-      let rest : List Call = deal-calls a c (points (a .n)) ++ after in
-      let gs : List (List ℕ) = added-polynomials fs (entries (b .0 .table) (b .1)) in
-      let splits : List Call = map (split-at a c b) (points (a .n)) in
-      let adds : List Call = map (add-at a c b roll fs) (points (a .n)) in
-      ap₂ _++_ (splits-holding b roll fs)
-      (ap₂ _++_ (adds-holding b (B .0) roll fs F)
-      (ap (from-bids a c bs)
-      (map-through (after-adding a c b) (holding-seat a roll fs) (holding-seat a (mark roll (b .0 .bidder)) gs) (a .n)
-      (λ j h1 hn. added-holding c A j h1 hn b (B .0) roll fs F (l .proper) (l .enters .0)))
-      ∙ from-bids-calls bs (mark roll (b .0 .bidder)) gs (B .1) (added-held (a .k) t fs (entries (b .0 .table) (b .1)) F (entries-held (a .k) t b (B .0))) (entering-more a roll b bs l) e))
-      ∙ sym (append-assoc splits (adds ++ bid-calls a c bs (mark roll (b .0 .bidder)) gs) rest ∙ ap (λ (z : List Call). splits ++ z) (append-assoc adds (bid-calls a c bs (mark roll (b .0 .bidder)) gs) rest))
-
-  pub canonical-setup : canonical a c ≡ setup-calls a c ++ from-rounds a c (enough-rounds a) (map (seat a c (fresh-stage (start (a .k)) 0)) (points (a .n)))
-  unfolding canonical setup-calls open-at polynomials
-  canonical-setup =
-      let opens : List Call = map (open-at a c) (points (a .n)) in
-      let bids : List Call = bid-calls a c (zip (a .bids) (c .bids)) empty (no-totals a) in
-      ap (λ (z : List Call). opens ++ z)
-      (ap (from-bids a c (zip (a .bids) (c .bids))) seated-all
-      ∙ from-bids-calls (zip (a .bids) (c .bids)) empty (no-totals a) (all-good A C) (no-totals-held (a .k) t) all-entering refl)
-      ∙ sym (append-assoc opens (bids ++ deal-calls a c (points (a .n))) after ∙ ap (λ (z : List Call). opens ++ z) (append-assoc bids (deal-calls a c (points (a .n))) after))
-
   -- ---- every call is accepted
 
   pub open-own : (j : ℕ) → 1 ≤ j → j ≤ a .n → Own j (open-at a c j)
   unfolding open-at judgement whose of-party
   open-own j h1 hn = record { accepted = accepts (open-at a c j) (opened c A j h1 hn); whose = λ i. refl }
-
-  pub split-at-accepted : (b : DrawnBid) → GoodBid (a .k) t b → (j : ℕ) → 1 ≤ j → j ≤ a .n → accepted (split-at a c b j) ≡ true
-  unfolding split-at judgement
-  split-at-accepted b B j h1 hn = accepts (split-at a c b j) (splitting-accepted c A j h1 hn b B)
 
   pub add-own : (b : DrawnBid) → GoodBid (a .k) t b → (roll : Roll) (fs : List (List ℕ)) → Held (a .k) t fs → Proper roll → Free roll (b .0 .bidder)
       → (j : ℕ) → 1 ≤ j → j ≤ a .n → Own j (add-at a c b roll fs j)
@@ -220,18 +147,6 @@ module _ {a : Auction} {c : Coins} (A : IsAuction a) (C : InRange a c) where
   unfolding deal-at judgement
   deal-at-accepted j h1 hn s h = accepts (deal-at a c j s) (deals-sheet (a .n) j (one-of-n _ _ _ (member A j h1 hn)) s h (replicate sheet-size 0) (length-replicate {A = ℕ} sheet-size 0))
 
-  bids-accepted : (bs : List DrawnBid) (roll : Roll) (fs : List (List ℕ)) → Each (GoodBid (a .k) t) bs → Held (a .k) t fs
-      → Entering a roll bs → all-accepted (bid-calls a c bs roll fs) ≡ true
-  unfolding bid-calls all-accepted
-  bids-accepted [] roll fs B F l = refl
-  bids-accepted (b ∷ bs) roll fs B F l =
-      all-accepted-append (map (split-at a c b) (points (a .n))) _
-      (all-accepted-points (split-at a c b) (a .n) (split-at-accepted b (B .0)))
-      (all-accepted-append (map (add-at a c b roll fs) (points (a .n))) _
-      (all-accepted-points (add-at a c b roll fs) (a .n) (λ j h1 hn. add-own b (B .0) roll fs F (l .proper) (l .enters .0) j h1 hn .accepted))
-      (bids-accepted bs (mark roll (b .0 .bidder)) (added-polynomials fs (entries (b .0 .table) (b .1))) (B .1)
-      (added-held (a .k) t fs (entries (b .0 .table) (b .1)) F (entries-held (a .k) t b (B .0))) (entering-more a roll b bs l)))
-
   deals-accepted : (js : List ℕ) → Each (λ j. (1 ≤ j) × (j ≤ a .n)) js → all-accepted (deal-calls a c js) ≡ true
   unfolding deal-calls all-accepted
   deals-accepted [] h = refl
@@ -240,21 +155,84 @@ module _ {a : Auction} {c : Coins} (A : IsAuction a) (C : InRange a c) where
       (all-accepted-map (deal-at a c j) (c .sheets) (each-imp (SheetInRange t) (λ s. accepted (deal-at a c j s) ≡ true) (c .sheets) (deal-at-accepted j (h .0 .0) (h .0 .1)) (C .sheets)))
       (deals-accepted js (h .1))
 
-  pub setup-accepted : all-accepted (setup-calls a c) ≡ true
-  unfolding setup-calls
-  setup-accepted =
-      all-accepted-append (map (open-at a c) (points (a .n))) _
-      (all-accepted-points (open-at a c) (a .n) (λ j h1 hn. open-own j h1 hn .accepted))
-      (all-accepted-append (bid-calls a c (zip (a .bids) (c .bids)) empty (no-totals a)) (deal-calls a c (points (a .n)))
-      (bids-accepted (zip (a .bids) (c .bids)) empty (no-totals a) (all-good A C) (no-totals-held (a .k) t) all-entering)
-      (deals-accepted (points (a .n)) (each-point (λ j. (1 ≤ j) × (j ≤ a .n)) (a .n) (λ j h1 hn. (h1, hn)))))
+  -- ---- with the bundles written in these ways
+
+  module _ (desk : Desk) (D : Complete (a .k) desk) where
+    splits-holding : (b : DrawnBid) (roll : Roll) (fs : List (List ℕ))
+        → map (splits-for a c desk b) (map (holding-seat a roll fs) (points (a .n))) ≡ map (splits-at a c desk b) (points (a .n))
+    unfolding splits-for splits-at holding-seat holding
+    splits-holding b roll fs = map-through (splits-for a c desk b) (holding-seat a roll fs) (splits-at a c desk b) (a .n) (λ j h1 hn. refl)
+
+    adds-holding : (b : DrawnBid) → GoodBid (a .k) t b → (roll : Roll) (fs : List (List ℕ)) → Held (a .k) t fs
+        → map (add-by a c desk b) (map (holding-seat a roll fs) (points (a .n))) ≡ map (add-at a c b roll fs) (points (a .n))
+    unfolding add-by add-at holding-seat
+    adds-holding b B roll fs F =
+        map-through (add-by a c desk b) (holding-seat a roll fs) (add-at a c b roll fs) (a .n)
+        (λ j h1 hn. ap (add-call (holding (a .n) (a .k) roll j) (at-party j fs) (b .0 .bidder)) (shares-for-party c A j h1 hn b B desk D roll fs))
+
+    from-bids-calls : (bs : List DrawnBid) (roll : Roll) (fs : List (List ℕ)) → Each (GoodBid (a .k) t) bs → Held (a .k) t fs
+        → Entering a roll bs → totals-after bs fs ≡ polynomials a c
+        → from-bids a c desk bs (map (holding-seat a roll fs) (points (a .n))) ≡ bid-calls a c desk bs roll fs ++ (deal-calls a c (points (a .n)) ++ after)
+    unfolding from-bids bid-calls totals-after
+    from-bids-calls [] roll fs B F l e =
+        let e′ : roll ≡ full-roll a = all-entered a roll l in
+        ap₂ _++_ (deals-holding roll fs (points (a .n)))
+        (ap (from-rounds a c (enough-rounds a))
+        (ap₂ (λ (z : Roll) (zs : List (List ℕ)). map (after-dealing a c) (map (holding-seat a z zs) (points (a .n)))) e′ e ∙ dealt-all))
+    from-bids-calls (b ∷ bs) roll fs B F l e =
+        let rest : List Call = deal-calls a c (points (a .n)) ++ after in
+        let gs : List (List ℕ) = added-polynomials fs (entries (b .0 .table) (b .1)) in
+        let splits : List Call = flatten (map (splits-at a c desk b) (points (a .n))) in
+        let adds : List Call = map (add-at a c b roll fs) (points (a .n)) in
+        ap₂ _++_ (ap flatten (splits-holding b roll fs))
+        (ap₂ _++_ (adds-holding b (B .0) roll fs F)
+        (ap (from-bids a c desk bs)
+        (map-through (after-adding a c desk b) (holding-seat a roll fs) (holding-seat a (mark roll (b .0 .bidder)) gs) (a .n)
+        (λ j h1 hn. added-holding c A j h1 hn b (B .0) roll fs F (l .proper) (l .enters .0) desk D))
+        ∙ from-bids-calls bs (mark roll (b .0 .bidder)) gs (B .1) (added-held (a .k) t fs (entries (b .0 .table) (b .1)) F (entries-held (a .k) t b (B .0))) (entering-more a roll b bs l) e))
+        ∙ sym (append-assoc splits (adds ++ bid-calls a c desk bs (mark roll (b .0 .bidder)) gs) rest ∙ ap (λ (z : List Call). splits ++ z) (append-assoc adds (bid-calls a c desk bs (mark roll (b .0 .bidder)) gs) rest))
+
+    pub canonical-setup : canonical a c desk ≡ setup-calls a c desk ++ from-rounds a c (enough-rounds a) (map (seat a c (fresh-stage (start (a .k)) 0)) (points (a .n)))
+    unfolding canonical setup-calls open-at polynomials
+    canonical-setup =
+        let opens : List Call = map (open-at a c) (points (a .n)) in
+        let bids : List Call = bid-calls a c desk (zip (a .bids) (c .bids)) empty (no-totals a) in
+        ap (λ (z : List Call). opens ++ z)
+        (ap (from-bids a c desk (zip (a .bids) (c .bids))) seated-all
+        ∙ from-bids-calls (zip (a .bids) (c .bids)) empty (no-totals a) (all-good A C) (no-totals-held (a .k) t) all-entering refl)
+        ∙ sym (append-assoc opens (bids ++ deal-calls a c (points (a .n))) after ∙ ap (λ (z : List Call). opens ++ z) (append-assoc bids (deal-calls a c (points (a .n))) after))
+
+    splits-at-accepted : (b : DrawnBid) → GoodBid (a .k) t b → (j : ℕ) → 1 ≤ j → j ≤ a .n → all-accepted (splits-at a c desk b j) ≡ true
+    unfolding splits-at
+    splits-at-accepted b B j h1 hn = bundle-accepted c A j h1 hn b B (desk (b .0 .bidder) j) (D (b .0 .bidder) j)
+
+    bids-accepted : (bs : List DrawnBid) (roll : Roll) (fs : List (List ℕ)) → Each (GoodBid (a .k) t) bs → Held (a .k) t fs
+        → Entering a roll bs → all-accepted (bid-calls a c desk bs roll fs) ≡ true
+    unfolding bid-calls all-accepted
+    bids-accepted [] roll fs B F l = refl
+    bids-accepted (b ∷ bs) roll fs B F l =
+        all-accepted-append (flatten (map (splits-at a c desk b) (points (a .n)))) _
+        (all-accepted-flatten (splits-at a c desk b) (a .n) (splits-at-accepted b (B .0)))
+        (all-accepted-append (map (add-at a c b roll fs) (points (a .n))) _
+        (all-accepted-points (add-at a c b roll fs) (a .n) (λ j h1 hn. add-own b (B .0) roll fs F (l .proper) (l .enters .0) j h1 hn .accepted))
+        (bids-accepted bs (mark roll (b .0 .bidder)) (added-polynomials fs (entries (b .0 .table) (b .1))) (B .1)
+        (added-held (a .k) t fs (entries (b .0 .table) (b .1)) F (entries-held (a .k) t b (B .0))) (entering-more a roll b bs l)))
+
+    pub setup-accepted : all-accepted (setup-calls a c desk) ≡ true
+    unfolding setup-calls
+    setup-accepted =
+        all-accepted-append (map (open-at a c) (points (a .n))) _
+        (all-accepted-points (open-at a c) (a .n) (λ j h1 hn. open-own j h1 hn .accepted))
+        (all-accepted-append (bid-calls a c desk (zip (a .bids) (c .bids)) empty (no-totals a)) (deal-calls a c (points (a .n)))
+        (bids-accepted (zip (a .bids) (c .bids)) empty (no-totals a) (all-good A C) (no-totals-held (a .k) t) all-entering)
+        (deals-accepted (points (a .n)) (each-point (λ j. (1 ≤ j) × (j ≤ a .n)) (a .n) (λ j h1 hn. (h1, hn)))))
 
 -- ---- what a party receives in them
 
 module _ (a : Auction) (c : Coins) (j : ℕ) where
-  pub own-splits : (b : DrawnBid) → own j (map (split-at a c b) (points (a .n))) ≡ []
-  unfolding split-at whose of-party
-  own-splits b = own-none j (split-at a c b) (points (a .n)) (λ i. refl)
+  own-splits : (desk : Desk) (b : DrawnBid) → own j (flatten (map (splits-at a c desk b) (points (a .n)))) ≡ []
+  unfolding splits-at
+  own-splits desk b = own-flatten j (splits-at a c desk b) (points (a .n)) (λ i. own-bundle a c j i (b .0 .table) (flat (b .1)) (desk (b .0 .bidder) i))
 
   pub own-deals : (js : List ℕ) → own j (deal-calls a c js) ≡ []
   unfolding deal-calls deal-at whose of-party select
@@ -283,18 +261,18 @@ module _ (a : Auction) (c : Coins) (j : ℕ) where
   adds-askings [] roll fs = refl
   adds-askings (b ∷ bs) roll fs = adds-askings bs (mark roll (b .0 .bidder)) (added-polynomials fs (entries (b .0 .table) (b .1)))
 
-module _ {a : Auction} {c : Coins} (A : IsAuction a) (C : InRange a c) (j : ℕ) (h1 : 1 ≤ j) (hn : j ≤ a .n) where
+module _ {a : Auction} {c : Coins} (A : IsAuction a) (C : InRange a c) (desk : Desk) (j : ℕ) (h1 : 1 ≤ j) (hn : j ≤ a .n) where
   own-bids : (bs : List DrawnBid) (roll : Roll) (fs : List (List ℕ)) → Each (GoodBid (a .k) (threshold (a .n))) bs
-      → Held (a .k) (threshold (a .n)) fs → Entering a roll bs → own j (bid-calls a c bs roll fs) ≡ adds-of a c j bs roll fs
+      → Held (a .k) (threshold (a .n)) fs → Entering a roll bs → own j (bid-calls a c desk bs roll fs) ≡ adds-of a c j bs roll fs
   unfolding bid-calls adds-of select
   own-bids [] roll fs B F l = refl
   own-bids (b ∷ bs) roll fs B F l =
       let gs : List (List ℕ) = added-polynomials fs (entries (b .0 .table) (b .1)) in
-      let splits : List Call = map (split-at a c b) (points (a .n)) in
+      let splits : List Call = flatten (map (splits-at a c desk b) (points (a .n))) in
       let adds : List Call = map (add-at a c b roll fs) (points (a .n)) in
-      own-append j splits (adds ++ bid-calls a c bs (mark roll (b .0 .bidder)) gs)
-      ∙ ap₂ _++_ (own-splits a c j b)
-      (own-append j adds (bid-calls a c bs (mark roll (b .0 .bidder)) gs)
+      own-append j splits (adds ++ bid-calls a c desk bs (mark roll (b .0 .bidder)) gs)
+      ∙ ap₂ _++_ (own-splits a c j desk b)
+      (own-append j adds (bid-calls a c desk bs (mark roll (b .0 .bidder)) gs)
       ∙ ap₂ _++_
       (own-points j (a .n) (add-at a c b roll fs) h1 hn (add-own A C b (B .0) roll fs F (l .proper) (l .enters .0))
       ∙ ap (λ (z : Call). z ∷ []) (given-add a c j b roll fs))
@@ -302,11 +280,11 @@ module _ {a : Auction} {c : Coins} (A : IsAuction a) (C : InRange a c) (j : ℕ)
       (added-held (a .k) (threshold (a .n)) fs (entries (b .0 .table) (b .1)) F (entries-held (a .k) (threshold (a .n)) b (B .0))) (entering-more a roll b bs l)))
 
   -- its own calls: it opens a session, and adds its shares of each bid
-  pub own-setup : own j (setup-calls a c) ≡ given (open-at a c j) ∷ adds-of a c j (zip (a .bids) (c .bids)) empty (no-totals a)
+  pub own-setup : own j (setup-calls a c desk) ≡ given (open-at a c j) ∷ adds-of a c j (zip (a .bids) (c .bids)) empty (no-totals a)
   unfolding setup-calls
   own-setup =
       let opens : List Call = map (open-at a c) (points (a .n)) in
-      let bids : List Call = bid-calls a c (zip (a .bids) (c .bids)) empty (no-totals a) in
+      let bids : List Call = bid-calls a c desk (zip (a .bids) (c .bids)) empty (no-totals a) in
       own-append j opens (bids ++ deal-calls a c (points (a .n)))
       ∙ ap₂ _++_ (own-points j (a .n) (open-at a c) h1 hn (open-own A C))
       (own-append j bids (deal-calls a c (points (a .n)))
@@ -315,14 +293,14 @@ module _ {a : Auction} {c : Coins} (A : IsAuction a) (C : InRange a c) (j : ℕ)
       (own-deals a c j (points (a .n)))
       ∙ append-nil (adds-of a c j (zip (a .bids) (c .bids)) empty (no-totals a)))
 
-  pub setup-bids : collect bid-in (own j (setup-calls a c)) ≡ bid-words j (a .bids) (c .bids)
+  pub setup-bids : collect bid-in (own j (setup-calls a c desk)) ≡ bid-words j (a .bids) (c .bids)
   unfolding open-at given bid-in collect
   setup-bids = ap (collect bid-in) own-setup ∙ adds-bids a c j (zip (a .bids) (c .bids)) empty (no-totals a)
 
-  pub setup-hearings : collect hearing-in (own j (setup-calls a c)) ≡ []
+  pub setup-hearings : collect hearing-in (own j (setup-calls a c desk)) ≡ []
   unfolding open-at given hearing-in collect
   setup-hearings = ap (collect hearing-in) own-setup ∙ adds-hearings a c j (zip (a .bids) (c .bids)) empty (no-totals a)
 
-  pub setup-askings : collect asking-in (own j (setup-calls a c)) ≡ []
+  pub setup-askings : collect asking-in (own j (setup-calls a c desk)) ≡ []
   unfolding open-at given asking-in collect
   setup-askings = ap (collect asking-in) own-setup ∙ adds-askings a c j (zip (a .bids) (c .bids)) empty (no-totals a)

@@ -1,4 +1,4 @@
--- The calls of document 01, each with what it was given, and whether it is accepted. Assumes nothing.
+-- The calls, each with what it was given, and whether it is accepted. Assumes nothing.
 use mathlib.Core.Bool.{Bool, true, false}
 use mathlib.Core.List.{List, []}
 use Prim.Native.Nat.{ℕ}
@@ -6,6 +6,7 @@ use lib.Dec.{eqb}
 use Rattle.refusal.specs.declared.Judgement.{Judgement}
 use Rattle.refusal.specs.declared.Judgement.the-variants.{Accepted, Refused}
 use Rattle.bid.specs.Split.{split-judgement}
+use Rattle.bid.specs.Entry.{split-entry-judgement}
 use Rattle.dealer.specs.Deal.{deal-judgement}
 use Rattle.record.specs.declared.Party.{Party}
 use Rattle.session.specs.Open.{open-judgement}
@@ -17,6 +18,7 @@ use Rattle.session.specs.Answer.{answer-judgement}
 pub data Call : Type 0 where
   open-call : (n own k : ℕ) (totals : List ℕ) → Call
   split-call : (n own k : ℕ) (table coins shares : List ℕ) → Call
+  split-entry-call : (n own k entry : ℕ) (table coins shares : List ℕ) → Call
   deal-call : (n own : ℕ) (words drawn sheet : List ℕ) → Call
   add-call : (q : Party) (totals : List ℕ) (bidder : ℕ) (shares : List ℕ) → Call
   say-call : (q : Party) (totals sheets : List ℕ) → Call
@@ -26,6 +28,7 @@ pub data Call : Type 0 where
 unfoldable pub judgement : Call → Judgement
 judgement (open-call n own k totals) = open-judgement n own k totals
 judgement (split-call n own k table coins shares) = split-judgement n own k table coins shares
+judgement (split-entry-call n own k entry table coins shares) = split-entry-judgement n own k entry table coins shares
 judgement (deal-call n own words drawn sheet) = deal-judgement n own words drawn sheet
 judgement (add-call q totals bidder shares) = add-judgement q totals bidder shares
 judgement (say-call q totals sheets) = say-judgement q totals sheets
@@ -47,6 +50,7 @@ pub data Whose : Type 0 where
 unfoldable pub whose : Call → Whose
 whose (open-call n own k totals) = party own
 whose (split-call n own k table coins shares) = service
+whose (split-entry-call n own k entry table coins shares) = service
 whose (deal-call n own words drawn sheet) = service
 whose (add-call q totals bidder shares) = party (q .own)
 whose (say-call q totals sheets) = party (q .own)
@@ -65,6 +69,7 @@ of-service service = true
 unfoldable pub given : Call → Call
 given (open-call n own k totals) = open-call n own k []
 given (split-call n own k table coins shares) = split-call n own k table coins []
+given (split-entry-call n own k entry table coins shares) = split-entry-call n own k entry table coins shares
 given (deal-call n own words drawn sheet) = deal-call n own words drawn []
 given (add-call q totals bidder shares) = add-call q totals bidder shares
 given (say-call q totals sheets) = say-call q totals sheets

@@ -1,15 +1,16 @@
--- The list of calls as document 01 tells it: each call is given what the calls before it returned, wrote, said or left, by the very
+-- The list of calls as document 01 tells it, with either way of writing a bundle: each call is given what the calls before it returned, wrote, said or left, by the very
 -- definitions that the contracts cite. Assumes nothing.
 use mathlib.Core.Bool.{Bool, true, false, _&&_}
-use mathlib.Core.List.{List, [], _∷_, _++_, map, zip}
+use mathlib.Core.List.{List, [], _∷_, _++_, map, flatten, zip}
 use Prim.Native.Nat.{ℕ, zero, suc, _*_}
 use lib.ListN.{replicate}
 use Rattle.ranges.specs.Sizes.{sheet-size, probe-rounds}
-use Rattle.sharing.specs.Scheme.{points}
+use Rattle.sharing.specs.Scheme.{threshold, points}
 use Rattle.search.specs.Bracket.{over}
 use Rattle.search.specs.Limit.{limit}
 use Rattle.comparison.specs.Probe.{SheetCoins}
 use Rattle.bid.specs.Split.{split-left}
+use Rattle.bid.specs.Entry.{split-entry-left, entry-coins, entries-left}
 use Rattle.dealer.specs.Deal.{deal-left}
 use Rattle.record.specs.declared.Party.{Party}
 use Rattle.saying.specs.declared.Said.{Said}
@@ -20,7 +21,8 @@ use Rattle.saying.specs.Say.{say-reply, said-word}
 use Rattle.hearing.specs.Hear.{hear-reply}
 use Rattle.auction.specs.Auction.{Auction}
 use Rattle.auction.specs.Coins.{Coins, DrawnBid, flat, coin-words, coin-bytes}
-use Rattle.auction.specs.Call.{Call, open-call, split-call, deal-call, add-call, say-call, hear-call, answer-call}
+use Rattle.auction.specs.Desk.{Way, whole, by-entries, Desk}
+use Rattle.auction.specs.Call.{Call, open-call, split-call, split-entry-call, deal-call, add-call, say-call, hear-call, answer-call}
 
 -- what a party said
 unfoldable pub word : Said → ℕ
@@ -54,12 +56,30 @@ module _ (a : Auction) (c : Coins) where
         sheets = [];
       }
 
-  -- "For each bid in turn the desk writes every keeper's bundle from the same draws, and each keeper adds its own."
-  unfoldable pub shares-for : DrawnBid → Seat → List ℕ
-  shares-for b s = split-left (a .n) (s .party .own) (a .k) (b .0 .table) (flat (b .1)) zeros
+  -- a bundle written "entry after entry", each call lent what the last one left
+  unfoldable pub entry-calls : (own : ℕ) (table coins order lent : List ℕ) → List Call
+  entry-calls own table coins [] lent = []
+  entry-calls own table coins (entry ∷ order) lent =
+      let words = entry-coins (threshold (a .n)) entry coins in
+      split-entry-call (a .n) own (a .k) entry table words lent
+      ∷ entry-calls own table coins order (split-entry-left (a .n) own (a .k) entry table words lent)
 
-  unfoldable pub split-for : DrawnBid → Seat → Call
-  split-for b s = split-call (a .n) (s .party .own) (a .k) (b .0 .table) (flat (b .1)) zeros
+  -- the calls that write a bundle in either way, and what the slice then holds
+  unfoldable pub bundle-calls : (own : ℕ) (table coins : List ℕ) → Way → List Call
+  bundle-calls own table coins whole = split-call (a .n) own (a .k) table coins zeros ∷ []
+  bundle-calls own table coins (by-entries order lent) = entry-calls own table coins order lent
+
+  unfoldable pub bundle : (own : ℕ) (table coins : List ℕ) → Way → List ℕ
+  bundle own table coins whole = split-left (a .n) own (a .k) table coins zeros
+  bundle own table coins (by-entries order lent) = entries-left (a .n) own (a .k) table coins order lent
+
+module _ (a : Auction) (c : Coins) (desk : Desk) where
+  -- "For each bid in turn the desk writes every keeper's bundle from the same draws, and each keeper adds its own."
+  unfoldable pub splits-for : DrawnBid → Seat → List Call
+  splits-for b s = bundle-calls a c (s .party .own) (b .0 .table) (flat (b .1)) (desk (b .0 .bidder) (s .party .own))
+
+  unfoldable pub shares-for : DrawnBid → Seat → List ℕ
+  shares-for b s = bundle a c (s .party .own) (b .0 .table) (flat (b .1)) (desk (b .0 .bidder) (s .party .own))
 
   unfoldable pub add-by : DrawnBid → Seat → Call
   add-by b s = add-call (s .party) (s .totals) (b .0 .bidder) (shares-for b s)
@@ -72,6 +92,7 @@ module _ (a : Auction) (c : Coins) where
         sheets = s .sheets;
       }
 
+module _ (a : Auction) (c : Coins) where
   -- "The dealer writes every keeper's sheets, from one set of draws per probe."
   unfoldable pub deal-for : Seat → SheetCoins → Call
   deal-for s k = deal-call (a .n) (s .party .own) (coin-words k) (coin-bytes k) (replicate sheet-size 0)
@@ -117,9 +138,13 @@ module _ (a : Auction) (c : Coins) where
   deals [] = []
   deals (s ∷ ss) = map (deal-for s) (c .sheets) ++ deals ss
 
+module _ (a : Auction) (c : Coins) (desk : Desk) where
   unfoldable pub from-bids : List DrawnBid → List Seat → List Call
-  from-bids [] ss = deals ss ++ from-rounds (enough-rounds a) (map after-dealing ss)
-  from-bids (b ∷ bs) ss = map (split-for b) ss ++ (map (add-by b) ss ++ from-bids bs (map (after-adding b) ss))
+  from-bids [] ss = deals a c ss ++ from-rounds a c (enough-rounds a) (map (after-dealing a c) ss)
+  from-bids (b ∷ bs) ss =
+      flatten (map (splits-for a c desk b) ss) ++ (map (add-by a c desk b) ss ++ from-bids bs (map (after-adding a c desk b) ss))
 
   unfoldable pub canonical : List Call
-  canonical = map (λ j. open-call (a .n) j (a .k) zeros) (points (a .n)) ++ from-bids (zip (a .bids) (c .bids)) (map seated (points (a .n)))
+  canonical =
+      map (λ j. open-call (a .n) j (a .k) (zeros a c)) (points (a .n))
+      ++ from-bids (zip (a .bids) (c .bids)) (map (seated a c) (points (a .n)))

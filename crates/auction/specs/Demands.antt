@@ -17,6 +17,7 @@ use Rattle.comparison.specs.Probe.{Each}
 use Rattle.session.specs.declared.reply.Answer.the-variants.{Cleared}
 use Rattle.auction.specs.Auction.{Auction, IsAuction, bidders, demand, supply, clearing-answer}
 use Rattle.auction.specs.Coins.{Coins, InRange}
+use Rattle.auction.specs.Desk.{Complete, Desk}
 use Rattle.auction.specs.Call.{Call, accepted}
 use Rattle.auction.specs.Canonical.{canonical}
 use Rattle.auction.specs.Run.{Run}
@@ -41,8 +42,8 @@ pub record Outcome (a : Auction) (l : List Call) (j : ℕ) : Type 0 where
   pub rolled : Each (λ q. (b : ℕ) → marked (q .roll) b ≡ member b (bidders a)) (askings j l)
 
 pub record Demand2 (a : Auction) (c : Coins) : Type 0 where
-  -- no call of the run is refused, but those that stand between
-  pub none-refused : all-accepted (canonical a c) ≡ true
+  -- no call of the run is refused, but those that stand between, in whichever way the desk writes each bundle
+  pub none-refused : (desk : Desk) → Complete (a .k) desk → all-accepted (canonical a c desk) ≡ true
   pub outcome : (l : List Call) → Run a c l → (j : ℕ) → 1 ≤ j → j ≤ a .n → Outcome a l j
 
 -- ---- demand 3
@@ -97,5 +98,6 @@ pub record Demand3 : Type 0 where
       → (c : Coins) → InRange a c → Stay a b c → Matched a b pool c
   -- "At each probe at most 2^33 - 2 of the 2^58 masks fall outside when so moved."
   pub few-fall : (a b : Auction) → IsAuction a → IsAuction b → Alike a b → (i : ℕ) → count (λ mask. not (stays a b i mask)) (2 ^ 58) ≤ 2 ^ 33 - 2
-  -- every auction with coins in range has a run
-  pub runs : (a : Auction) → IsAuction a → (c : Coins) → InRange a c → Run a c (canonical a c)
+  -- every auction with coins in range has a run, in whichever way the desk writes each bundle
+  pub runs : (a : Auction) → IsAuction a → (c : Coins) → InRange a c → (desk : Desk) → Complete (a .k) desk
+      → Run a c (canonical a c desk)

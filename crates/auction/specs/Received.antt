@@ -12,7 +12,7 @@ use Rattle.session.specs.declared.reply.Answer.{Answer}
 use Rattle.record.specs.Record.{bracket}
 use Rattle.round.specs.Round.{heard}
 use Rattle.session.specs.Answer.{answer-reply}
-use Rattle.auction.specs.Call.{Call, open-call, split-call, deal-call, add-call, say-call, hear-call, answer-call}
+use Rattle.auction.specs.Call.{Call, open-call, split-call, split-entry-call, deal-call, add-call, say-call, hear-call, answer-call}
 use Rattle.auction.specs.Run.{own}
 
 -- a party's own calls, refused ones left out, as a reader takes them
@@ -24,6 +24,7 @@ collect f (x ∷ xs) = elim (f x) [ none ↦ collect f xs | some y ↦ y ∷ col
 unfoldable pub bid-in : Call → Option (ℕ × List ℕ)
 bid-in (open-call n own k totals) = none
 bid-in (split-call n own k table coins shares) = none
+bid-in (split-entry-call n own k entry table coins shares) = none
 bid-in (deal-call n own words drawn sheet) = none
 bid-in (add-call q totals bidder shares) = some (bidder, shares)
 bid-in (say-call q totals sheets) = none
@@ -39,6 +40,7 @@ pub record Hearing : Type 0 where
 unfoldable pub hearing-in : Call → Option Hearing
 hearing-in (open-call n own k totals) = none
 hearing-in (split-call n own k table coins shares) = none
+hearing-in (split-entry-call n own k entry table coins shares) = none
 hearing-in (deal-call n own words drawn sheet) = none
 hearing-in (add-call q totals bidder shares) = none
 hearing-in (say-call q totals sheets) = none
@@ -49,6 +51,7 @@ hearing-in (answer-call q) = none
 unfoldable pub asking-in : Call → Option Party
 asking-in (open-call n own k totals) = none
 asking-in (split-call n own k table coins shares) = none
+asking-in (split-entry-call n own k entry table coins shares) = none
 asking-in (deal-call n own words drawn sheet) = none
 asking-in (add-call q totals bidder shares) = none
 asking-in (say-call q totals sheets) = none

@@ -1,3 +1,4 @@
 -- Splitting a bid: what the contracts cite.
 pub mod Table
 pub mod Split
+pub mod Entry

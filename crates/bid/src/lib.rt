@@ -1,11 +1,17 @@
-// Splitting a bid among the parties (the paper's desk): one party's share of every amount.
+// Splitting a bid among the parties (the paper's desk): one party's share of every amount, by one call
+// for the whole table or by one for each entry.
 ghost use mathlib.Core.Path.{_≡_};
 ghost use mathlib.Core.List.{_∷_};
 ghost use Prim.Native.Nat.{_*_, _≤_};
+ghost use lib.Dec.{leb};
 ghost use lib.ListN.{length};
 ghost use Rattle.fields.specs.Amount.{amounts};
+ghost use Rattle.ranges.specs.Lists.{every};
+ghost use Rattle.refusal.specs.Judging.{judged};
 ghost use Rattle.sharing.specs.Polynomial.{value};
-ghost use Rattle.bid.specs.Split.{split-judgement, bid-shares, split-left};
+ghost use Rattle.bid.specs.Table.{most, monotone};
+ghost use Rattle.bid.specs.Split.{faults, split-judgement, bid-shares, split-left};
+ghost use Rattle.bid.specs.Entry.{split-entry-judgement, split-entry-left};
 use fields::AmountShare;
 use fields::HALF;
 use fields::P;
@@ -39,6 +45,28 @@ pub fn split(
     judgement
 }
 
+// Writes a party's share of one entry, made with t coins of its own, and no other place of the lent
+// shares. The whole table is judged first.
+pub fn split_entry(
+    n: u64,
+    own: u64,
+    k: u64,
+    entry: u64,
+    table: &[u64],
+    coins: &[u64],
+    shares: &mut [u64],
+) -> Judgement
+    ensures { λ r. ⌜ (r ≡ split-entry-judgement n own k entry (now (table .entry)) (now (coins .entry)) (now (shares .entry)))
+        × (now (shares .exit) ≡ split-entry-left n own k entry (now (table .entry)) (now (coins .entry)) (now (shares .entry))) ⌝ }
+{
+    let judgement = judge_entry(n, own, k, entry, table, coins, &shares[..]);
+    if let Judgement::Accepted = judgement {
+        let place = entry as usize - 1;
+        shares[place] = share(table[place], coins, own);
+    }
+    judgement
+}
+
 // The first refusal that applies. The lengths are computed only of an n and a k in their ranges.
 fn judge(n: u64, own: u64, k: u64, table: &[u64], coins: &[u64], shares: &[u64]) -> Judgement
     ensures { λ r. ⌜ r ≡ split-judgement n own k (now (table .entry)) (now (coins .entry)) (now (shares .entry)) ⌝ }
@@ -51,17 +79,62 @@ fn judge(n: u64, own: u64, k: u64, table: &[u64], coins: &[u64], shares: &[u64])
     if !((table.len() == entries) & (coins.len() == entries * t) & (shares.len() == entries)) {
         return Judgement::Refused(Refusal::WrongLength);
     }
+    judge_lent(k as usize, table, coins)
+}
+
+fn judge_entry(
+    n: u64,
+    own: u64,
+    k: u64,
+    entry: u64,
+    table: &[u64],
+    coins: &[u64],
+    shares: &[u64],
+) -> Judgement
+    ensures { λ r. ⌜ r ≡ split-entry-judgement n own k entry (now (table .entry)) (now (coins .entry)) (now (shares .entry)) ⌝ }
+{
+    if !on_list(n, own, k) {
+        return Judgement::Refused(Refusal::OutOfRange);
+    }
+    if !((1 <= entry) & (entry <= 2 * k)) {
+        return Judgement::Refused(Refusal::OutOfRange);
+    }
+    let entries = 2 * k as usize;
+    let t = threshold(n) as usize;
+    if !((table.len() == entries) & (coins.len() == t) & (shares.len() == entries)) {
+        return Judgement::Refused(Refusal::WrongLength);
+    }
+    judge_lent(k as usize, table, coins)
+}
+
+// The refusals of what the slices hold.
+fn judge_lent(half: usize, table: &[u64], coins: &[u64]) -> Judgement
+    requires { ⌜ (1 ≤ half) × (length (now table) ≡ 2 * half) ⌝ }
+    ensures { λ r. ⌜ r ≡ judged (faults half (now (table .entry)) (now (coins .entry))) ⌝ }
+{
     if !all_below(coins, P) {
         return Judgement::Refused(Refusal::CoinOutOfRange);
     }
-    if !all_below(table, MOST + 1) {
+    let in_order = (first_bend(&table[..half], false) == half)
+        & (first_bend(&table[half..], true) == half);
+    if !is_small(table, half, in_order) {
         return Judgement::Refused(Refusal::AmountTooLarge);
     }
-    let half = k as usize;
-    if !((first_bend(&table[..half], false) == half) & (first_bend(&table[half..], true) == half)) {
+    if !in_order {
         return Judgement::Refused(Refusal::NotMonotone);
     }
     Judgement::Accepted
+}
+
+// A table in order has its largest amounts at its two ends, so that it is walked through only once.
+fn is_small(table: &[u64], half: usize, in_order: bool) -> bool
+    requires { ⌜ (1 ≤ half) × (length (now table) ≡ 2 * half) × (in_order ≡ monotone half (now table)) ⌝ }
+    ensures { λ r. ⌜ r ≡ every (λ a. leb a most) (now (table .entry)) ⌝ }
+{
+    if in_order {
+        return (table[0] <= MOST) & (table[table.len() - 1] <= MOST);
+    }
+    all_below(table, MOST + 1)
 }
 
 // Each amount takes the next t coins.

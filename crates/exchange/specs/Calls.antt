@@ -5,6 +5,7 @@ use Prim.Native.Nat.{ℕ}
 use Rattle.refusal.specs.Refusal.{codeOf}
 use Rattle.refusal.specs.Judging.{then}
 use Rattle.bid.specs.Split.{split-judgement}
+use Rattle.bid.specs.Entry.{split-entry-judgement}
 use Rattle.dealer.specs.Deal.{deal-judgement}
 use Rattle.session.specs.Open.{open-judgement, open-reply, open-left}
 use Rattle.session.specs.Add.{add-reply, add-left}
@@ -25,10 +26,13 @@ module _ (n own k : ℕ) (totals words : List ℕ) where
   abbrev pub open-record : List ℕ
   open-record = on-record words (stored (open-reply n own k totals) words) words
 
--- ---- splitting and dealing: what is left is `split-left` and `deal-left`
+-- ---- splitting and dealing: what is left is `split-left`, `split-entry-left` and `deal-left`
 
 abbrev pub split-code : (n own k : ℕ) (table coins shares : List ℕ) → ℕ
 split-code n own k table coins shares = codeOf (split-judgement n own k table coins shares)
+
+abbrev pub split-entry-code : (n own k entry : ℕ) (table coins shares : List ℕ) → ℕ
+split-entry-code n own k entry table coins shares = codeOf (split-entry-judgement n own k entry table coins shares)
 
 abbrev pub deal-code : (n own : ℕ) (words drawn sheet : List ℕ) → ℕ
 deal-code n own words drawn sheet = codeOf (deal-judgement n own words drawn sheet)

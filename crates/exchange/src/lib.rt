@@ -2,8 +2,9 @@
 // what it is lent; a refused call changes nothing that is lent. A record is lent as its 26 words.
 ghost use mathlib.Core.Path.{_≡_};
 ghost use Rattle.bid.specs.Split.{split-left};
+ghost use Rattle.bid.specs.Entry.{split-entry-left};
 ghost use Rattle.dealer.specs.Deal.{deal-left};
-ghost use Rattle.exchange.specs.Calls.{open-code, open-totals, open-record, split-code, deal-code, add-code, add-totals, add-record, say-code, say-message, hear-code, hear-record, answer-code, answer-index, answer-probes};
+ghost use Rattle.exchange.specs.Calls.{open-code, open-totals, open-record, split-code, split-entry-code, deal-code, add-code, add-totals, add-record, say-code, say-message, hear-code, hear-record, answer-code, answer-index, answer-probes};
 use hearing::hear;
 use ranges::on_list;
 use record_words::is_record;
@@ -56,6 +57,23 @@ pub extern "C" fn clockivy_split(
         × (now (shares .exit) ≡ split-left n own k (now (table .entry)) (now (coins .entry)) (now (shares .entry))) ⌝ }
 {
     code(bid::split(n, own, k, table, coins, shares))
+}
+
+// A party's share of one entry of a bid.
+#[no_mangle]
+pub extern "C" fn clockivy_split_entry(
+    n: u64,
+    own: u64,
+    k: u64,
+    entry: u64,
+    table: &[u64],
+    coins: &[u64],
+    shares: &mut [u64],
+) -> u64
+    ensures { λ r. ⌜ (r ≡ split-entry-code n own k entry (now (table .entry)) (now (coins .entry)) (now (shares .entry)))
+        × (now (shares .exit) ≡ split-entry-left n own k entry (now (table .entry)) (now (coins .entry)) (now (shares .entry))) ⌝ }
+{
+    code(bid::split_entry(n, own, k, entry, table, coins, shares))
 }
 
 // A party's preprocessing of one probe.

@@ -36,6 +36,20 @@ module _ (test : ℕ → ℕ → Bool) (xs : List ℕ) (i : ℕ) where
       short (y ∷ []) h = refl
       short (y ∷ z ∷ zs) h = absurd (omega arith)
 
+module _ (test : ℕ → ℕ → Bool) (xs : List ℕ) (i : ℕ) where
+  pub steps-more : i + 1 < length xs → steps test (drop i xs) ≡ test (getD xs i 0) (getD xs (i + 1) 0) && steps test (drop (i + 1) xs)
+  unfolding steps
+  steps-more h = rw (two test xs i h, first xs (i + 1) h)
+
+  pub steps-end : length xs ≤ i + 1 → steps test (drop i xs) ≡ true
+  unfolding steps
+  steps-end l = short (drop i xs) (omega (arith, length-drop i xs))
+    where
+      short : (ys : List ℕ) → length ys ≤ 1 → steps test ys ≡ true
+      short [] h = refl
+      short (y ∷ []) h = refl
+      short (y ∷ z ∷ zs) h = absurd (omega arith)
+
 pub bend-steps : (test : ℕ → ℕ → Bool) (xs : List ℕ) → bend test xs ≡ length xs → steps test xs ≡ true
 unfolding bend steps
 bend-steps test [] h = refl

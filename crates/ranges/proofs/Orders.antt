@@ -1,7 +1,13 @@
--- Lists in another order: two neighbours may change places. Assumes nothing.
-use mathlib.Core.Path.{_≡_, refl, ap}
+-- Lists in another order: two neighbours may change places, and what is in the one is in the other. Assumes nothing.
+use mathlib.Core.Path.{_≡_, refl, sym, ap, ap₂}
+use mathlib.Core.Bool.{Bool, true, false, _&&_, _||_}
 use mathlib.Core.List.{List, [], _∷_, _++_}
+use Prim.Native.Nat.{ℕ}
+use lib.Dec.{eqb}
+use borrow.Author.Tests.{eqb-true, eq-eqb}
+use Rattle.ranges.specs.Lists.{every, member}
 use Rattle.ranges.specs.Orders.{Shuffle}
+use Rattle.ranges.proofs.Loops.{and-true}
 
 module _ {A : Type 0} where
   -- two neighbours may have changed places
@@ -49,3 +55,46 @@ module _ {A : Type 0} where
   pub shuffle-refl : (l : List A) → Shuffle l l
   shuffle-refl [] = Shuffle.end
   shuffle-refl (c ∷ cs) = Shuffle.next [] cs (shuffle-refl cs)
+
+-- ---- numbers
+
+module _ (test : ℕ → Bool) where
+  put-every : (x : ℕ) (ys zs : List ℕ) → test x ≡ true → every test (ys ++ zs) ≡ true → every test (ys ++ (x ∷ zs)) ≡ true
+  unfolding every
+  put-every x [] zs e h = ap₂ _&&_ e h
+  put-every x (y ∷ ys) zs e h = let w = and-true (test y) (every test (ys ++ zs)) h in ap₂ _&&_ (w .0) (put-every x ys zs e (w .1))
+
+  pub shuffle-every : {xs ys : List ℕ} → Shuffle xs ys → every test xs ≡ true → every test ys ≡ true
+  unfolding every
+  shuffle-every Shuffle.end h = h
+  shuffle-every (Shuffle.next {x} {xs} ys zs s) h =
+      let w = and-true (test x) (every test xs) h in
+      put-every x ys zs (w .0) (shuffle-every s (w .1))
+
+or-true : (a b : Bool) → b ≡ true → a || b ≡ true
+or-true true b e = refl
+or-true false b e = e
+
+or-more : (a : Bool) {b c : Bool} → (b ≡ true → c ≡ true) → a || b ≡ true → a || c ≡ true
+or-more true go h = refl
+or-more false go h = go h
+
+module _ (e : ℕ) where
+  put-here : (ys zs : List ℕ) → member e (ys ++ (e ∷ zs)) ≡ true
+  unfolding member
+  put-here [] zs = ap (λ b. b || member e zs) (eq-eqb e e refl)
+  put-here (y ∷ ys) zs = or-true (eqb e y) _ (put-here ys zs)
+
+  put-member : (x : ℕ) (ys zs : List ℕ) → member e (ys ++ zs) ≡ true → member e (ys ++ (x ∷ zs)) ≡ true
+  unfolding member
+  put-member x [] zs h = or-true (eqb e x) _ h
+  put-member x (y ∷ ys) zs h = or-more (eqb e y) (λ k. put-member x ys zs k) h
+
+  pub shuffle-member : {xs ys : List ℕ} → Shuffle xs ys → member e xs ≡ true → member e ys ≡ true
+  unfolding member
+  shuffle-member Shuffle.end h = h
+  shuffle-member (Shuffle.next {x} {xs} ys zs s) h = cases (eqb e x) refl h (λ k. shuffle-member s k)
+    where
+      cases : (b : Bool) → eqb e x ≡ b → b || member e xs ≡ true → (member e xs ≡ true → member e (ys ++ zs) ≡ true) → member e (ys ++ (x ∷ zs)) ≡ true
+      cases true f k go = rw (sym (eqb-true e x f)) (put-here ys zs)
+      cases false f k go = put-member x ys zs (go k)

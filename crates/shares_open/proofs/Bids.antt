@@ -26,9 +26,9 @@ module _ {n own k : ℕ} {table coins shares : List ℕ} (h : Splits n own k tab
   entry-opens e l =
       let t = threshold n in
       let there : e < length table = omega (arith, h .table-long) in
-      let amount : getD table e 0 ≤ most = leb-true _ _ (every-at (λ a. leb a most) table e (h .small) there) in
+      let amount : getD table e 0 ≤ most = leb-true _ _ (every-at (λ a. leb a most) table e (h .faultless .small) there) in
       let within : (e + 1) * t ≤ 2 * k * t = mul-le-mul-right t (omega arith) in
       ap (λ (f : ℕ → ℕ). opened amount-scheme n (map f (points n))) (fun-ext (λ j. entry t j table coins e there))
       ∙ opens amount-fits n (getD table e 0) (take t (drop (e * t) coins)) (h .listed .parties-least) (h .listed .parties-most)
-      (lt-of-le-of-lt amount (lit< tt)) (below-take p t (drop (e * t) coins) (below-drop p (e * t) coins (h .coins-below)))
+      (lt-of-le-of-lt amount (lit< tt)) (below-take p t (drop (e * t) coins) (below-drop p (e * t) coins (h .faultless .coins-below)))
       (length-take-le t (drop (e * t) coins) (omega (arith, length-drop (e * t) coins, h .coins-long)))

@@ -20,7 +20,8 @@ use Rattle.roll.specs.Marks.{empty, mark}
 use Rattle.roll.proofs.Laws.{Proper, Free}
 use Rattle.auction.specs.Auction.{Auction, Bid, IsAuction}
 use Rattle.auction.specs.Coins.{Coins, DrawnBid, flat}
-use Rattle.auction.specs.Canonical.{Seat, shares-for, after-adding}
+use Rattle.auction.specs.Desk.{whole}
+use Rattle.auction.specs.Canonical.{Seat, bundle, shares-for, after-adding}
 use Rattle.auction.proofs.Closed.{entries, added-polynomials, totals-after, at-party, no-totals, polynomials, full-roll}
 use Rattle.auction.proofs.Totals.{GoodBid, bids-good, Held, entries-held, added-held, no-totals-held}
 use Rattle.auction.proofs.Bidding.{opening-accepted, holding, fresh-holding, holding-seat, at-party-zeros, added-holding}
@@ -59,10 +60,10 @@ module _ {a : Auction} (A : IsAuction a) where
       (λ i. (getD after i blank ≡ party-added (a .n) (a .k) (b .0 .bidder) (b .0 .table) (flat (b .1)) parties totals i)
       × (part (2 * a .k) i new ≡ totals-added (a .n) (a .k) (b .0 .bidder) (b .0 .table) (flat (b .1)) parties totals i))
       → Holds a (mark roll (b .0 .bidder)) (added-polynomials fs (entries (b .0 .table) (b .1))) after new
-  unfolding party-added totals-added shares-of after-adding shares-for holding-seat holding
+  unfolding party-added totals-added shares-of after-adding shares-for bundle holding-seat holding
   added-holds c b B roll fs F P free parties after totals new H e i h =
       let w : List ℕ = shares-of (a .n) (a .k) (i + 1) (b .0 .table) (flat (b .1)) in
-      let s = added-holding c A (i + 1) (omega arith) (omega arith) b B roll fs F P free in (
+      let s = added-holding c A (i + 1) (omega arith) (omega arith) b B roll fs F P free (λ bidder own. whole) (λ bidder own. tt) in (
         e i h .0 ∙ ap₂ (λ (q : Party) (x : List ℕ). add-reply q x (b .0 .bidder) w .party) (H i h .0) (H i h .1) ∙ ap (λ (s : Seat). s .party) s,
         e i h .1 ∙ ap₂ (λ (q : Party) (x : List ℕ). add-left q x (b .0 .bidder) w) (H i h .0) (H i h .1) ∙ ap (λ (s : Seat). s .totals) s,
       )

@@ -1,6 +1,6 @@
-//! Whole auctions: every call is compared, each verdict and the answer are
-//! checked against the totals of the bids, and damaged calls and bids that are
-//! sent again stand in between.
+//! Whole auctions: every call is compared, shares that are split at once are
+//! checked against their entries, each verdict and the answer against the totals
+//! of the bids, and damaged calls and bids that are sent again stand in between.
 
 use clockivy::Refusal;
 use clockivy_reference::{probe_limit, threshold, LAST_ROUND, MAX_BIDS, RECORD, SHEET};
@@ -41,7 +41,8 @@ pub fn whole(
     bids: u64,
     tally: &mut Tally,
 ) -> Result<(), Difference> {
-    let bids = bidders(rng, bids)
+    let bids = rng
+        .numbers(MAX_BIDS, bids)
         .into_iter()
         .map(|bidder| Bid {
             bidder,
@@ -67,17 +68,6 @@ pub fn whole(
     auction.ask(verdicts)?;
     auction.tally.count_auction();
     Ok(())
-}
-
-/// So many bidders, at most 1,000, all different and in any order.
-fn bidders(rng: &mut Rng, count: u64) -> Vec<u64> {
-    let mut numbers: Vec<u64> = (1..=MAX_BIDS).collect();
-    for place in 0..count as usize {
-        let other = place + rng.place(numbers.len() - place);
-        numbers.swap(place, other);
-    }
-    numbers.truncate(count as usize);
-    numbers
 }
 
 impl Auction<'_> {
@@ -108,10 +98,7 @@ impl Auction<'_> {
                 .words(length * threshold(self.n), Rng::amount_share);
             let bidder = self.bids[place].bidder;
             for own in 1..=self.n {
-                let shares = self.rng.words(length, Rng::word);
-                let table = &self.bids[place].table;
-                let call = Call::split(self.n, own, self.k, table, &coins, &shares);
-                let shares = self.accepted(call)?.words[2].to_vec();
+                let shares = self.split(own, place, &coins)?;
                 if self.rng.once_in(8) {
                     late.push((own, bidder, shares));
                 } else {
@@ -129,6 +116,40 @@ impl Auction<'_> {
             self.holds(seat.record == expected, "a roll is not that of the bids")?;
         }
         Ok(())
+    }
+
+    /// A party's shares of a bid. Now and then they are written once more, entry
+    /// by entry, and come out the same.
+    fn split(&mut self, own: u64, place: usize, coins: &[u64]) -> Result<Vec<u64>, Difference> {
+        let table = &self.bids[place].table;
+        let shares = self.rng.words(table.len(), Rng::word);
+        let call = Call::split(self.n, own, self.k, table, coins, &shares);
+        let shares = self.accepted(call)?.words[2].to_vec();
+        if self.rng.once_in(4) {
+            let by_entries = self.split_by_entries(own, place, coins)?;
+            self.holds(by_entries == shares, "the entries are not those split")?;
+        }
+        Ok(shares)
+    }
+
+    /// The same from the same coins, entry by entry in any order.
+    fn split_by_entries(
+        &mut self,
+        own: u64,
+        place: usize,
+        coins: &[u64],
+    ) -> Result<Vec<u64>, Difference> {
+        let t = threshold(self.n);
+        let entries = 2 * self.k;
+        let mut shares = self.rng.words(entries as usize, Rng::word);
+        for entry in self.rng.numbers(entries, entries) {
+            let start = (entry as usize - 1) * t;
+            let coins = &coins[start..start + t];
+            let table = &self.bids[place].table;
+            let call = Call::split_entry(self.n, own, self.k, entry, table, coins, &shares);
+            shares = self.accepted(call)?.words[2].to_vec();
+        }
+        Ok(shares)
     }
 
     /// A party adds a bid. Then that bid may come again, and others of those who

@@ -8,13 +8,15 @@ use clockivy_reference::RECORD;
 
 use crate::engine::Engine;
 
-/// The seven calls, in the order of the tables.
+/// The eight calls, in the order of the tables.
 #[derive(Clone, Copy, Debug, PartialEq, Eq)]
 pub enum Kind {
     /// Opens a session. Words: totals, record.
     Open,
     /// Splits a bid. Words: table, coins, shares.
     Split,
+    /// Splits one entry of a bid. Words: table, coins, shares.
+    SplitEntry,
     /// Writes preprocessing. Words: words, sheet.
     Deal,
     /// Adds a bid. Words: record, totals, shares.
@@ -28,10 +30,11 @@ pub enum Kind {
 }
 
 impl Kind {
-    /// All seven.
-    pub const ALL: [Kind; 7] = [
+    /// All eight.
+    pub const ALL: [Kind; 8] = [
         Kind::Open,
         Kind::Split,
+        Kind::SplitEntry,
         Kind::Deal,
         Kind::Add,
         Kind::Say,
@@ -44,6 +47,7 @@ impl Kind {
         match self {
             Kind::Open => "open",
             Kind::Split => "split",
+            Kind::SplitEntry => "split_entry",
             Kind::Deal => "deal",
             Kind::Add => "add",
             Kind::Say => "say",
@@ -56,7 +60,7 @@ impl Kind {
     pub fn replies(self) -> &'static [u64] {
         match self {
             Kind::Open => &[0, 1, 2],
-            Kind::Split => &[0, 1, 2, 5, 6, 7],
+            Kind::Split | Kind::SplitEntry => &[0, 1, 2, 5, 6, 7],
             Kind::Deal => &[0, 1, 2, 5],
             Kind::Add => &[0, 1, 2, 3, 8, 14],
             Kind::Say => &[0, 1, 2, 3, 8],
@@ -68,7 +72,7 @@ impl Kind {
     /// How many of the numbers n, own and k the call is given beside a record.
     pub fn numbers(self) -> usize {
         match self {
-            Kind::Open | Kind::Split => 3,
+            Kind::Open | Kind::Split | Kind::SplitEntry => 3,
             Kind::Deal => 2,
             _ => 0,
         }
@@ -78,7 +82,7 @@ impl Kind {
     pub fn record(self) -> Option<usize> {
         match self {
             Kind::Open => Some(1),
-            Kind::Split | Kind::Deal => None,
+            Kind::Split | Kind::SplitEntry | Kind::Deal => None,
             Kind::Add | Kind::Say | Kind::Hear | Kind::Answer => Some(0),
         }
     }
@@ -88,7 +92,7 @@ impl Kind {
     pub fn slices(self) -> usize {
         match self {
             Kind::Open | Kind::Deal => 2,
-            Kind::Split | Kind::Add | Kind::Say => 3,
+            Kind::Split | Kind::SplitEntry | Kind::Add | Kind::Say => 3,
             Kind::Hear => 4,
             Kind::Answer => 1,
         }
@@ -144,6 +148,8 @@ pub struct Call {
     pub kind: Kind,
     /// n, own and k; 0 where the call is not given them.
     pub numbers: [u64; 3],
+    /// The entry that [`Kind::SplitEntry`] is given, else 0.
+    pub entry: u64,
     /// The bidder that [`Kind::Add`] is given, else 0.
     pub bidder: u64,
     /// The slices of words, and then the single words, in the order of the C
@@ -159,6 +165,7 @@ impl Call {
         Call {
             kind,
             numbers,
+            entry: 0,
             bidder: 0,
             words: words.iter().map(|contents| Lent::new(contents)).collect(),
             bytes: Lent::new(&[]),
@@ -173,6 +180,22 @@ impl Call {
     /// Splits a bid.
     pub fn split(n: u64, own: u64, k: u64, table: &[u64], coins: &[u64], shares: &[u64]) -> Call {
         Call::new(Kind::Split, [n, own, k], &[table, coins, shares])
+    }
+
+    /// Splits one entry of a bid.
+    pub fn split_entry(
+        n: u64,
+        own: u64,
+        k: u64,
+        entry: u64,
+        table: &[u64],
+        coins: &[u64],
+        shares: &[u64],
+    ) -> Call {
+        Call {
+            entry,
+            ..Call::new(Kind::SplitEntry, [n, own, k], &[table, coins, shares])
+        }
     }
 
     /// Writes preprocessing.
@@ -212,6 +235,9 @@ impl Call {
         match (self.kind, &mut self.words[..]) {
             (Kind::Open, [totals, record]) => E::open(n, own, k, totals, record),
             (Kind::Split, [table, coins, shares]) => E::split(n, own, k, table, coins, shares),
+            (Kind::SplitEntry, [table, coins, shares]) => {
+                E::split_entry(n, own, k, self.entry, table, coins, shares)
+            }
             (Kind::Deal, [words, sheet]) => E::deal(n, own, words, &self.bytes, sheet),
             (Kind::Add, [record, totals, shares]) => E::add(record, totals, self.bidder, shares),
             (Kind::Say, [record, totals, sheets, message]) => {
@@ -231,6 +257,9 @@ impl Call {
 impl fmt::Display for Call {
     fn fmt(&self, f: &mut fmt::Formatter<'_>) -> fmt::Result {
         write!(f, "{} {:?}", self.kind.name(), self.numbers)?;
+        if self.kind == Kind::SplitEntry {
+            write!(f, " entry {}", self.entry)?;
+        }
         if self.kind == Kind::Add {
             write!(f, " bidder {}", self.bidder)?;
         }

@@ -44,6 +44,7 @@ const EDGES: [u64; 24] = [
 /// Damages a call in one place.
 pub fn damage(rng: &mut Rng, call: &mut Call) {
     match rng.below(8) {
+        0 if call.kind == Kind::SplitEntry => entry(rng, call),
         0..=1 if call.kind.numbers() > 0 => number(rng, call),
         0 if call.kind == Kind::Add => bidder(rng, call),
         0..=2 if call.kind.record().is_some() => record(rng, call),
@@ -63,6 +64,14 @@ fn number(rng: &mut Rng, call: &mut Call) {
         _ => [0, 1, k.wrapping_add(1), MAX_PRICES, MAX_PRICES + 1],
     };
     call.numbers[place] = value(rng, call.numbers[place], &near);
+}
+
+/// Changes the entry.
+fn entry(rng: &mut Rng, call: &mut Call) {
+    let [_, _, k] = call.numbers;
+    let last = k.wrapping_mul(2);
+    let near = [0, 1, k, last, last.wrapping_add(1)];
+    call.entry = value(rng, call.entry, &near);
 }
 
 /// Changes the bidder.

@@ -105,14 +105,14 @@ impl fmt::Display for Tally {
         let columns: Vec<usize> = (1..REPLIES)
             .filter(|&reply| Kind::ALL.iter().any(|&kind| count(kind, reply).is_some()))
             .collect();
-        write!(f, "{:<7}{:>9}", "call", "done")?;
+        write!(f, "{:<11}{:>9}", "call", "done")?;
         for reply in &columns {
             write!(f, "{reply:>8}")?;
         }
         for kind in Kind::ALL {
             write!(
                 f,
-                "\n{:<7}{:>9}",
+                "\n{:<11}{:>9}",
                 kind.name(),
                 self.counts[kind as usize][0]
             )?;

@@ -3,7 +3,7 @@
 use clockivy::words;
 use clockivy_reference as reference;
 
-/// The seven calls.
+/// The eight calls.
 pub trait Engine {
     /// What tables and messages call it.
     const NAME: &'static str;
@@ -11,6 +11,16 @@ pub trait Engine {
     fn open(n: u64, own: u64, k: u64, totals: &mut [u64], record: &mut [u64]) -> u64;
     /// Splits a bid.
     fn split(n: u64, own: u64, k: u64, table: &[u64], coins: &[u64], shares: &mut [u64]) -> u64;
+    /// Splits one entry of a bid.
+    fn split_entry(
+        n: u64,
+        own: u64,
+        k: u64,
+        entry: u64,
+        table: &[u64],
+        coins: &[u64],
+        shares: &mut [u64],
+    ) -> u64;
     /// Writes preprocessing.
     fn deal(n: u64, own: u64, words: &[u64], bytes: &[u8], sheet: &mut [u64]) -> u64;
     /// Adds a bid.
@@ -44,6 +54,18 @@ macro_rules! engine {
                 shares: &mut [u64],
             ) -> u64 {
                 $library::split(n, own, k, table, coins, shares)
+            }
+
+            fn split_entry(
+                n: u64,
+                own: u64,
+                k: u64,
+                entry: u64,
+                table: &[u64],
+                coins: &[u64],
+                shares: &mut [u64],
+            ) -> u64 {
+                $library::split_entry(n, own, k, entry, table, coins, shares)
             }
 
             fn deal(n: u64, own: u64, words: &[u64], bytes: &[u8], sheet: &mut [u64]) -> u64 {

@@ -82,6 +82,7 @@ pub fn call(rng: &mut Rng, kind: Kind) -> Call {
     match kind {
         Kind::Open => open(rng, shape),
         Kind::Split => split(rng, shape),
+        Kind::SplitEntry => split_entry(rng, shape),
         Kind::Deal => deal(rng, shape),
         Kind::Add => add(rng, shape),
         Kind::Say => say(rng, shape),
@@ -112,6 +113,23 @@ fn split(rng: &mut Rng, shape: Shape) -> Call {
     }
     let shares = rng.words(shape.table_len(), Rng::word);
     Call::split(shape.n, shape.own, shape.k, &table, &coins, &shares)
+}
+
+fn split_entry(rng: &mut Rng, shape: Shape) -> Call {
+    let table = rng.table(shape.k as usize);
+    let last = table.len() as u64;
+    let entry = match rng.below(32) {
+        0 => rng.pick(&[0, last + 1, last + 2, (1 << 32) + 1, u64::MAX]),
+        1..=4 => rng.pick(&[1, shape.k, shape.k + 1, last]),
+        _ => rng.between(1, last.max(1)),
+    };
+    let mut coins = rng.words(shape.threshold(), Rng::amount_share);
+    let amount = table.get(entry.wrapping_sub(1) as usize);
+    if let (Some(&amount), true) = (amount, rng.once_in(8)) {
+        shape.vanish(amount, &mut coins);
+    }
+    let shares = rng.words(shape.table_len(), Rng::word);
+    Call::split_entry(shape.n, shape.own, shape.k, entry, &table, &coins, &shares)
 }
 
 fn deal(rng: &mut Rng, shape: Shape) -> Call {

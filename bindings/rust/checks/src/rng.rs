@@ -47,6 +47,17 @@ impl Rng {
         list[self.place(list.len())]
     }
 
+    /// So many of the numbers from 1 to `most`, all different and in any order.
+    pub fn numbers(&mut self, most: u64, count: u64) -> Vec<u64> {
+        let mut numbers: Vec<u64> = (1..=most).collect();
+        for place in 0..count as usize {
+            let other = place + self.place(numbers.len() - place);
+            numbers.swap(place, other);
+        }
+        numbers.truncate(count as usize);
+        numbers
+    }
+
     /// A byte.
     pub fn byte(&mut self) -> u8 {
         (self.word() >> 56) as u8

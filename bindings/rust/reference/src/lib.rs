@@ -1,4 +1,4 @@
-//! A plain implementation of the auction's seven calls, written from the paper
+//! A plain implementation of the auction's eight calls, written from the paper
 //! and, for the layout of a record, from the C header: the ordinary loops,
 //! 128-bit products, one test after the other. The library is compared with it
 //! call by call, and timed against it.
@@ -69,6 +69,19 @@ pub fn open(n: u64, own: u64, k: u64, totals: &mut [u64], record: &mut [u64]) ->
 /// Writes party `own`'s shares of a bid.
 pub fn split(n: u64, own: u64, k: u64, table: &[u64], coins: &[u64], shares: &mut [u64]) -> u64 {
     reply(try_split(n, own, k, table, coins, shares))
+}
+
+/// Writes party `own`'s share of one entry of a bid.
+pub fn split_entry(
+    n: u64,
+    own: u64,
+    k: u64,
+    entry: u64,
+    table: &[u64],
+    coins: &[u64],
+    shares: &mut [u64],
+) -> u64 {
+    reply(try_split_entry(n, own, k, entry, table, coins, shares))
 }
 
 /// Writes party `own`'s preprocessing for one probe.
@@ -152,12 +165,44 @@ fn try_split(
     shares: &mut [u64],
 ) -> Result<(), u64> {
     need(party_in_range(n, own) && prices_in_range(k), OUT_OF_RANGE)?;
-    let prices = k as usize;
+    let length = 2 * k as usize;
     let t = threshold(n);
     need(
-        table.len() == 2 * prices && coins.len() == 2 * prices * t && shares.len() == 2 * prices,
+        table.len() == length && coins.len() == length * t && shares.len() == length,
         WRONG_LENGTH,
     )?;
+    judge_bid(k as usize, table, coins)?;
+    let entries = table.iter().zip(coins.chunks_exact(t));
+    for (share, (&entry, coefficients)) in shares.iter_mut().zip(entries) {
+        *share = amount::share(entry, coefficients, own);
+    }
+    Ok(())
+}
+
+fn try_split_entry(
+    n: u64,
+    own: u64,
+    k: u64,
+    entry: u64,
+    table: &[u64],
+    coins: &[u64],
+    shares: &mut [u64],
+) -> Result<(), u64> {
+    need(party_in_range(n, own) && prices_in_range(k), OUT_OF_RANGE)?;
+    need((1..=2 * k).contains(&entry), OUT_OF_RANGE)?;
+    let length = 2 * k as usize;
+    need(
+        table.len() == length && coins.len() == threshold(n) && shares.len() == length,
+        WRONG_LENGTH,
+    )?;
+    judge_bid(k as usize, table, coins)?;
+    let place = entry as usize - 1;
+    shares[place] = amount::share(table[place], coins, own);
+    Ok(())
+}
+
+/// Judges what the coins and a table of so many prices hold.
+fn judge_bid(prices: usize, table: &[u64], coins: &[u64]) -> Result<(), u64> {
     need(
         coins.iter().all(|&coin| coin < amount::P),
         COIN_OUT_OF_RANGE,
@@ -171,12 +216,7 @@ fn try_split(
         demand.windows(2).all(|pair| pair[0] >= pair[1])
             && supply.windows(2).all(|pair| pair[0] <= pair[1]),
         NOT_MONOTONE,
-    )?;
-    for entry in 0..2 * prices {
-        let coefficients = &coins[entry * t..(entry + 1) * t];
-        shares[entry] = amount::share(table[entry], coefficients, own);
-    }
-    Ok(())
+    )
 }
 
 fn try_deal(n: u64, own: u64, words: &[u64], bytes: &[u8], sheet: &mut [u64]) -> Result<(), u64> {

@@ -9,6 +9,9 @@
 //! figure of the repeat. The table has the middle figure of all repeats, the
 //! least and the greatest.
 //!
+//! A second table has one party's shares of a bid written entry by entry beside
+//! the same by one call, on either side, in the same way.
+//!
 //! All inputs are drawn before the clock starts. Buffers that a call writes
 //! are not cleared between calls. The record that a call steps is set back
 //! before each call, on both sides.
@@ -27,6 +30,8 @@ const K: u64 = 1_024;
 const TABLE: usize = 2 * K as usize;
 /// The party whose calls are timed one by one.
 const OWN: u64 = 4;
+/// The entry that is timed: all do the same work.
+const ENTRY: u64 = K;
 /// The bidder who is added: an even one, and the odd ones are on the roll.
 const NEXT: u64 = MAX_BIDS / 2;
 /// The round that stands for rounds 2 to 32, which do the same work.
@@ -49,6 +54,12 @@ const CALL_PLAN: Plan = Plan {
     batch: Duration::from_micros(100),
 };
 
+/// A batch is one bid: entry by entry, that is long enough.
+const BID_PLAN: Plan = Plan {
+    batch: Duration::ZERO,
+    ..CALL_PLAN
+};
+
 /// A batch is one auction.
 const AUCTION_PLAN: Plan = Plan {
     repeats: 7,
@@ -56,25 +67,27 @@ const AUCTION_PLAN: Plan = Plan {
     batch: Duration::ZERO,
 };
 
-/// One call, or one auction, on either side.
+/// What is timed, and beside what.
 struct Case {
     name: &'static str,
-    verified: fn(&mut Inputs),
-    plain: fn(&mut Inputs),
+    timed: fn(&mut Inputs),
+    beside: fn(&mut Inputs),
 }
 
+/// One call, or one auction, verified and beside that plain.
 macro_rules! case {
     ($name:literal, $run:ident $(, $round:expr)?) => {
         Case {
             name: $name,
-            verified: $run::<Verified $(, { $round })?>,
-            plain: $run::<Plain $(, { $round })?>,
+            timed: $run::<Verified $(, { $round })?>,
+            beside: $run::<Plain $(, { $round })?>,
         }
     };
 }
 
-const CALLS: [Case; 9] = [
+const CALLS: [Case; 10] = [
     case!("split", split),
+    case!("split_entry", split_entry),
     case!("deal", deal),
     case!("add", add),
     case!("say, round 1", say, 1),
@@ -87,17 +100,33 @@ const CALLS: [Case; 9] = [
 
 const AUCTION: Case = case!("whole auction, 1,000 bids", auction);
 
+/// One party's shares of a bid by entries, beside one call.
+const BIDS_BY_ENTRIES: [Case; 2] = [by_entries::<Verified>(), by_entries::<Plain>()];
+
+const fn by_entries<E: Engine>() -> Case {
+    Case {
+        name: E::NAME,
+        timed: split_entries::<E>,
+        beside: split::<E>,
+    }
+}
+
 fn main() -> ExitCode {
     let cores = available_parallelism().map_or(1, usize::from);
     println!("n = {N}, k = {K}, one thread, {cores} cores\n");
 
     let mut inputs = Inputs::draw(&mut Rng::new(SEED));
-    println!("| call | verified | plain | ratio | least | greatest |");
-    println!("|---|---:|---:|---:|---:|---:|");
+    heading(["call", Verified::NAME, Plain::NAME]);
     for case in &CALLS {
         println!("{}", measure(case, &mut inputs, &CALL_PLAN));
     }
     println!("{}", measure(&AUCTION, &mut inputs, &AUCTION_PLAN));
+
+    println!();
+    heading(["a bid for one party", "2,048 split_entry", "split"]);
+    for case in &BIDS_BY_ENTRIES {
+        println!("{}", measure(case, &mut inputs, &BID_PLAN));
+    }
 
     auction::<Verified>(&mut inputs);
     let verified = inputs.answer;
@@ -110,29 +139,35 @@ fn main() -> ExitCode {
     ExitCode::SUCCESS
 }
 
-/// A row of the table.
+/// The first two lines of a table: what a row is, what is timed, beside what.
+fn heading([row, timed, beside]: [&str; 3]) {
+    println!("| {row} | {timed} | {beside} | ratio | least | greatest |");
+    println!("|---|---:|---:|---:|---:|---:|");
+}
+
+/// A row of a table.
 fn measure(case: &Case, inputs: &mut Inputs, plan: &Plan) -> String {
     let mut times = 1;
-    while batch(case.plain, inputs, times) < plan.batch {
+    while batch(case.beside, inputs, times) < plan.batch {
         times *= 2;
     }
-    let mut verified = Vec::new();
-    let mut plain = Vec::new();
+    let mut timed = Vec::new();
+    let mut beside = Vec::new();
     for _ in 0..plan.repeats {
         let mut least = [Duration::MAX; 2];
         for _ in 0..plan.batches {
-            least[0] = least[0].min(batch(case.verified, inputs, times));
-            least[1] = least[1].min(batch(case.plain, inputs, times));
+            least[0] = least[0].min(batch(case.timed, inputs, times));
+            least[1] = least[1].min(batch(case.beside, inputs, times));
         }
-        verified.push(least[0].as_secs_f64() / f64::from(times));
-        plain.push(least[1].as_secs_f64() / f64::from(times));
+        timed.push(least[0].as_secs_f64() / f64::from(times));
+        beside.push(least[1].as_secs_f64() / f64::from(times));
     }
-    let mut ratios: Vec<f64> = verified.iter().zip(&plain).map(|(v, p)| v / p).collect();
+    let mut ratios: Vec<f64> = timed.iter().zip(&beside).map(|(t, b)| t / b).collect();
     format!(
         "| {} | {} | {} | {:.2} | {:.2} | {:.2} |",
         case.name,
-        shown(middle(&mut verified)),
-        shown(middle(&mut plain)),
+        shown(middle(&mut timed)),
+        shown(middle(&mut beside)),
         middle(&mut ratios),
         ratios[0],
         ratios[plan.repeats - 1]
@@ -249,6 +284,33 @@ impl Inputs {
 fn split<E: Engine>(inputs: &mut Inputs) {
     let Bid { table, coins } = &inputs.bids[0];
     done(E::split(N, OWN, K, table, coins, &mut inputs.shares));
+}
+
+/// One entry, from the coins that `split` has for it.
+fn write_entry<E: Engine>(inputs: &mut Inputs, entry: u64) {
+    let Bid { table, coins } = &inputs.bids[0];
+    let t = threshold(N);
+    let start = (entry as usize - 1) * t;
+    let coins = &coins[start..start + t];
+    done(E::split_entry(
+        N,
+        OWN,
+        K,
+        entry,
+        table,
+        coins,
+        &mut inputs.shares,
+    ));
+}
+
+fn split_entry<E: Engine>(inputs: &mut Inputs) {
+    write_entry::<E>(inputs, ENTRY);
+}
+
+fn split_entries<E: Engine>(inputs: &mut Inputs) {
+    for entry in 1..=2 * K {
+        write_entry::<E>(inputs, entry);
+    }
 }
 
 fn deal<E: Engine>(inputs: &mut Inputs) {

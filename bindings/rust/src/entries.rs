@@ -1,0 +1,191 @@
+//! A bid split entry by entry. The coins of an entry are drawn, used for every
+//! party and gone before those of the next are drawn: none serve two entries,
+//! and all parties' shares of an entry come from the same.
+
+use std::fmt;
+use std::hint::black_box;
+use std::iter::FusedIterator;
+
+use crate::refusal::Refusal;
+use crate::{split_entry, table_len, threshold, MAX_PRICES, PARTIES};
+
+/// The most coins of an entry: four, of nine parties.
+const MOST_COINS: usize = threshold(*PARTIES.end());
+
+/// The entries of a bid, written one after the other for all parties, with t
+/// new coins for each: so t words are held at a time, where
+/// [`split`](crate::split) is lent all 2kt. What is written is the same. See
+/// [a bid entry by entry](crate#a-bid-entry-by-entry).
+///
+/// ```
+/// use clockivy::{split, Entries};
+///
+/// # fn main() -> Result<(), clockivy::Refusal> {
+/// // Three parties and two listed prices. The coins are fixed for the sake of
+/// // the example; real ones are random.
+/// let (n, k, table) = (3, 2, [5, 2, 1, 4]);
+/// let coins = [11, 12, 13, 14];
+/// let mut drawn = coins.into_iter();
+/// let source = || drawn.next().unwrap_or(u64::MAX);
+///
+/// let mut shares = [[0; 4]; 3];
+/// Entries::new(n, k, &table, shares.as_flattened_mut(), source)?.write_all()?;
+///
+/// for (own, shares) in (1..).zip(shares) {
+///     let mut whole = [0; 4];
+///     split(n, own, k, &table, &coins, &mut whole)?;
+///     assert_eq!(shares, whole);
+/// }
+/// # Ok(())
+/// # }
+/// ```
+///
+/// [`write_all`](Entries::write_all) writes the whole bid. As an iterator it
+/// writes an entry for each item, and the item is the entry's number, 1 to 2k
+/// in turn. An entry that is refused is written for no party, and is the last
+/// item. While it lives, nobody reads the shares; this does not compile:
+///
+/// ```compile_fail,E0502
+/// # use clockivy::Entries;
+/// # let (mut shares, source) = ([0; 6], || 7);
+/// let mut entries = Entries::new(3, 1, &[5, 3], &mut shares, source)?;
+/// entries.next();
+/// let sent = shares.to_vec();
+/// entries.next();
+/// # Ok::<(), clockivy::Refusal>(())
+/// ```
+///
+/// # What remains the caller's
+///
+/// * **The source.** Each call of it draws a coin: a word below
+///   [`PRIME`](crate::PRIME), uniform and independent of all others. One that
+///   repeats itself, within a bid or from one bid to another,
+///   [gives bids away](crate#three-uses-that-give-bids-away), and nothing here
+///   can tell. A word that is not below the prime is refused, so a source that
+///   cannot draw may give `u64::MAX`.
+/// * **The end.** Shares are whole once every entry is written. Hand out none
+///   before, and none of a splitting that was refused, or that was left for
+///   another one with new coins.
+///
+/// The coins of an entry are overwritten once they are used, as far as safe Rust
+/// can see to that; what the source keeps is its own.
+#[must_use = "nothing is written before it is asked for"]
+pub struct Entries<'a, S> {
+    n: u64,
+    k: u64,
+    table: &'a [u64],
+    shares: &'a mut [u64],
+    source: S,
+    /// The entries from 1 on that are written.
+    written: u64,
+    refused: Option<Refusal>,
+}
+
+impl<'a, S: FnMut() -> u64> Entries<'a, S> {
+    /// The entries of a bid among `n` parties. `table` is demand at prices 1 to
+    /// k, then supply; `shares` are those of all parties, party 1's 2k words
+    /// first; `source` gives coins. Nothing is drawn and nothing written yet,
+    /// and the table is judged with each entry.
+    ///
+    /// Refused: [`OutOfRange`](Refusal::OutOfRange),
+    /// [`WrongLength`](Refusal::WrongLength) where `table` has not 2k words or
+    /// `shares` not n times as many.
+    pub fn new(
+        n: u64,
+        k: u64,
+        table: &'a [u64],
+        shares: &'a mut [u64],
+        source: S,
+    ) -> Result<Entries<'a, S>, Refusal> {
+        if !PARTIES.contains(&n) || !(1..=MAX_PRICES).contains(&k) {
+            return Err(Refusal::OutOfRange);
+        }
+        if table.len() != table_len(k) || shares.len() != n as usize * table_len(k) {
+            return Err(Refusal::WrongLength);
+        }
+        Ok(Entries {
+            n,
+            k,
+            table,
+            shares,
+            source,
+            written: 0,
+            refused: None,
+        })
+    }
+
+    /// Writes all entries that are not written yet. Done, the shares are whole.
+    ///
+    /// Refused: [`CoinOutOfRange`](Refusal::CoinOutOfRange),
+    /// [`AmountTooLarge`](Refusal::AmountTooLarge),
+    /// [`NotMonotone`](Refusal::NotMonotone); also where an entry was refused
+    /// before.
+    pub fn write_all(mut self) -> Result<(), Refusal> {
+        self.by_ref().for_each(drop);
+        self.refused.map_or(Ok(()), Err)
+    }
+
+    /// Writes an entry for every party. What may be refused here is the same for
+    /// all of them, so that it is refused for the first or for none.
+    fn write(&mut self, entry: u64, coins: &[u64]) -> Result<(), Refusal> {
+        let (n, k) = (self.n, self.k);
+        (1..=n)
+            .zip(self.shares.chunks_exact_mut(table_len(k)))
+            .try_for_each(|(own, shares)| split_entry(n, own, k, entry, self.table, coins, shares))
+    }
+}
+
+impl<S> Entries<'_, S> {
+    /// The most items that are to come.
+    fn left(&self) -> usize {
+        match self.refused {
+            Some(_) => 0,
+            None => table_len(self.k) - self.written as usize,
+        }
+    }
+}
+
+impl<S: FnMut() -> u64> Iterator for Entries<'_, S> {
+    type Item = Result<u64, Refusal>;
+
+    /// Draws t coins and writes the next entry for every party.
+    fn next(&mut self) -> Option<Result<u64, Refusal>> {
+        if self.left() == 0 {
+            return None;
+        }
+        let entry = self.written + 1;
+        let mut room = [0; MOST_COINS];
+        let coins = &mut room[..threshold(self.n)];
+        coins.fill_with(&mut self.source);
+        let outcome = self.write(entry, coins);
+        // Looked at afterwards, so that it is not left out as of no use.
+        room.fill(0);
+        black_box(&room);
+        match outcome {
+            Ok(()) => self.written = entry,
+            Err(refusal) => self.refused = Some(refusal),
+        }
+        Some(outcome.map(|()| entry))
+    }
+
+    /// One item at least, where any is to come: it may be a refusal, and then
+    /// the last.
+    fn size_hint(&self) -> (usize, Option<usize>) {
+        let left = self.left();
+        (left.min(1), Some(left))
+    }
+}
+
+impl<S: FnMut() -> u64> FusedIterator for Entries<'_, S> {}
+
+/// Shows how far it has come. The table, the shares and the source are secret.
+impl<S> fmt::Debug for Entries<'_, S> {
+    fn fmt(&self, f: &mut fmt::Formatter<'_>) -> fmt::Result {
+        f.debug_struct("Entries")
+            .field("n", &self.n)
+            .field("k", &self.k)
+            .field("written", &self.written)
+            .field("refused", &self.refused)
+            .finish_non_exhaustive()
+    }
+}

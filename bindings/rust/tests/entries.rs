@@ -1,0 +1,403 @@
+//! A bid split entry by entry: by the call for one entry and one party, and by
+//! the iterator over all entries for all parties.
+
+use std::cell::Cell;
+
+use clockivy::{
+    coins_len, split, split_entry, table_len, threshold, Entries, Refusal, MAX_AMOUNT, MAX_PRICES,
+    PARTIES, PRIME,
+};
+
+/// What stands in a place before it is written. It is no share.
+const BEFORE: u64 = u64::MAX;
+
+/// A table that a bidder may bid: demand from the largest amount down, and
+/// supply from 0 up.
+fn table(k: u64) -> Vec<u64> {
+    let demand = (0..k).map(|price| MAX_AMOUNT - 4_000 * price);
+    let supply = (0..k).map(|price| 11 * price);
+    demand.chain(supply).collect()
+}
+
+/// The coins of a bid, now and then at an end of their range.
+fn coins(n: u64, k: u64) -> Vec<u64> {
+    let coin = |place: u64| match place % 7 {
+        3 => 0,
+        5 => PRIME - 1,
+        _ => (place + 1).wrapping_mul(0x9E37_79B9_7F4A_7C15) % PRIME,
+    };
+    (0..coins_len(n, k) as u64).map(coin).collect()
+}
+
+/// Those of one entry.
+fn coins_of(n: u64, entry: u64, coins: &[u64]) -> &[u64] {
+    let t = threshold(n);
+    let start = (entry as usize - 1) * t;
+    &coins[start..start + t]
+}
+
+/// A party's shares, by one call.
+fn whole(n: u64, own: u64, k: u64, table: &[u64], coins: &[u64]) -> Vec<u64> {
+    let mut shares = vec![BEFORE; table_len(k)];
+    split(n, own, k, table, coins, &mut shares).unwrap();
+    shares
+}
+
+/// A party's shares of these entries in their order, each from its own coins.
+fn by_entries(
+    (n, own, k): (u64, u64, u64),
+    entries: impl IntoIterator<Item = u64>,
+    table: &[u64],
+    coins: &[u64],
+    mut shares: Vec<u64>,
+) -> Vec<u64> {
+    for entry in entries {
+        let coins = coins_of(n, entry, coins);
+        split_entry(n, own, k, entry, table, coins, &mut shares).unwrap();
+    }
+    shares
+}
+
+#[test]
+fn entries_in_any_order_are_the_shares_split_at_once() {
+    for n in PARTIES {
+        for k in [1, 2, 3, 8, 31] {
+            let (table, coins) = (table(k), coins(n, k));
+            let last = 2 * k;
+            let in_turn: Vec<u64> = (1..=last).collect();
+            let from_behind: Vec<u64> = (1..=last).rev().collect();
+            let every_other = (1..=last).step_by(2).chain((2..=last).step_by(2));
+            let twice = (1..=last).chain((1..=last).rev());
+            let orders = [in_turn, from_behind, every_other.collect(), twice.collect()];
+            for own in 1..=n {
+                let expected = whole(n, own, k, &table, &coins);
+                for order in &orders {
+                    for before in [0, 1, PRIME, BEFORE] {
+                        let held = vec![before; table_len(k)];
+                        let order = order.iter().copied();
+                        let left = by_entries((n, own, k), order, &table, &coins, held);
+                        assert_eq!(left, expected);
+                    }
+                }
+            }
+        }
+    }
+}
+
+#[test]
+fn one_entry_changes_one_place() {
+    for (n, own, k) in [(3, 1, 1), (4, 4, 5), (9, 9, MAX_PRICES)] {
+        let (table, coins) = (table(k), coins(n, k));
+        let whole = whole(n, own, k, &table, &coins);
+        let held: Vec<u64> = (0..2 * k).map(|place| BEFORE - place).collect();
+        for entry in [1, 2, k, k + 1, 2 * k] {
+            let left = by_entries((n, own, k), [entry], &table, &coins, held.clone());
+            let mut expected = held.clone();
+            expected[entry as usize - 1] = whole[entry as usize - 1];
+            assert_eq!(left, expected);
+        }
+    }
+}
+
+/// Asks for one entry of a bid among five parties, who have two coins for each.
+/// A refusal has changed nothing.
+fn try_entry(entry: u64, table: &[u64], coins: &[u64], length: usize) -> Result<(), Refusal> {
+    let mut shares = vec![BEFORE; length];
+    let reply = split_entry(5, 2, 3, entry, table, coins, &mut shares);
+    if reply.is_err() {
+        assert_eq!(shares, vec![BEFORE; length]);
+    }
+    reply
+}
+
+#[test]
+fn an_entry_is_judged_in_its_order() {
+    let good = &[9, 5, 5, 0, 2, 7][..];
+    let large = &[9, 5, MAX_AMOUNT + 1, 0, 2, 7][..];
+    let rising = &[9, 5, 6, 0, 2, 7][..];
+    let falling = &[9, 5, 5, 0, 2, 1][..];
+    let (coins, worn) = (&[11, 12][..], &[11, PRIME][..]);
+    for entry in 1..=6 {
+        assert_eq!(try_entry(entry, good, coins, 6), Ok(()));
+        for (table, coins, length, refusal) in [
+            (&large[1..], worn, 6, Refusal::WrongLength),
+            (large, &worn[1..], 6, Refusal::WrongLength),
+            (large, &[PRIME; 12], 6, Refusal::WrongLength),
+            (large, worn, 5, Refusal::WrongLength),
+            (large, worn, 7, Refusal::WrongLength),
+            (large, worn, 6, Refusal::CoinOutOfRange),
+            (good, &[u64::MAX, 0], 6, Refusal::CoinOutOfRange),
+            (large, coins, 6, Refusal::AmountTooLarge),
+            (rising, coins, 6, Refusal::NotMonotone),
+            (falling, coins, 6, Refusal::NotMonotone),
+        ] {
+            assert_eq!(try_entry(entry, table, coins, length), Err(refusal));
+        }
+    }
+    // Cut to fewer bits, the far ones would be entry 1.
+    let far = [8, 16, 32, 63].map(|bits| (1 << bits) + 1);
+    for entry in [0, 7, u64::MAX].into_iter().chain(far) {
+        for (table, coins, length) in [(good, coins, 6), (large, worn, 6), (rising, &[], 0)] {
+            let reply = try_entry(entry, table, coins, length);
+            assert_eq!(reply, Err(Refusal::OutOfRange));
+        }
+    }
+}
+
+#[test]
+fn numbers_of_no_auction() {
+    let (table, coins) = ([5, 3], [11]);
+    for (n, own, k, entry) in [
+        (2, 1, 1, 1),
+        (10, 1, 1, 1),
+        (3, 0, 1, 1),
+        (3, 4, 1, 1),
+        (3, 1, 0, 1),
+        (3, 1, MAX_PRICES + 1, 1),
+        // Twice this many entries would be two, where it is cut to 64 bits.
+        (3, 1, (1 << 63) + 1, 1),
+        (u64::MAX, u64::MAX, u64::MAX, u64::MAX),
+    ] {
+        let mut shares = [BEFORE; 2];
+        let reply = split_entry(n, own, k, entry, &table, &coins, &mut shares);
+        assert_eq!(reply, Err(Refusal::OutOfRange));
+        assert_eq!(shares, [BEFORE; 2]);
+    }
+}
+
+#[test]
+fn the_iterator_writes_what_is_split_at_once_from_the_words_it_drew() {
+    for n in PARTIES {
+        for k in [1, 2, 5, 64, MAX_PRICES] {
+            let (table, coins) = (table(k), coins(n, k));
+            let mut shares = vec![BEFORE; n as usize * table_len(k)];
+            let mut drawn = coins.iter().copied();
+            let source = || drawn.next().unwrap();
+            let entries = Entries::new(n, k, &table, &mut shares, source).unwrap();
+            assert_eq!(entries.write_all(), Ok(()));
+            assert_eq!(drawn.next(), None);
+            for (own, shares) in (1..).zip(shares.chunks(table_len(k))) {
+                assert_eq!(shares, whole(n, own, k, &table, &coins));
+            }
+        }
+    }
+}
+
+#[test]
+fn each_item_is_an_entry_with_its_own_t_words() {
+    for n in PARTIES {
+        let k = 3;
+        let drawn = Cell::new(0);
+        let source = || {
+            drawn.set(drawn.get() + 1);
+            7
+        };
+        let (table, mut shares) = (table(k), vec![0; n as usize * table_len(k)]);
+        let mut entries = Entries::new(n, k, &table, &mut shares, source).unwrap();
+        for entry in 1..=6 {
+            assert_eq!(drawn.get(), (entry - 1) * threshold(n));
+            assert_eq!(entries.size_hint(), (1, Some(7 - entry)));
+            assert_eq!(entries.next(), Some(Ok(entry as u64)));
+        }
+        for _ in 0..3 {
+            assert_eq!(entries.size_hint(), (0, Some(0)));
+            assert_eq!(entries.next(), None);
+        }
+        assert_eq!(entries.write_all(), Ok(()));
+        assert_eq!(drawn.get(), coins_len(n, k));
+    }
+}
+
+#[test]
+fn the_rest_is_written_all() {
+    let (n, k) = (5, 4);
+    let (table, coins) = (table(k), coins(n, k));
+    let mut shares = vec![BEFORE; n as usize * table_len(k)];
+    let mut drawn = coins.iter().copied();
+    let source = || drawn.next().unwrap();
+    let mut entries = Entries::new(n, k, &table, &mut shares, source).unwrap();
+    assert_eq!(entries.nth(2), Some(Ok(3)));
+    assert_eq!(entries.write_all(), Ok(()));
+    for (own, shares) in (1..).zip(shares.chunks(table_len(k))) {
+        assert_eq!(shares, whole(n, own, k, &table, &coins));
+    }
+}
+
+/// Each place of a bid's coins in turn holds a word that is none.
+#[test]
+fn a_word_that_is_no_coin_ends_it_and_no_party_has_that_entry() {
+    let (n, k) = (7, 2);
+    let (table, coins) = (table(k), coins(n, k));
+    for (worn, word) in (0..coins.len()).flat_map(|place| [(place, PRIME), (place, u64::MAX)]) {
+        let refused = (worn / threshold(n)) as u64 + 1;
+        let mut shares = vec![BEFORE; n as usize * table_len(k)];
+        let mut places = 0..;
+        let source = || match places.next().unwrap() {
+            place if place == worn => word,
+            place => coins[place],
+        };
+        let mut entries = Entries::new(n, k, &table, &mut shares, source).unwrap();
+        for entry in 1..refused {
+            assert_eq!(entries.next(), Some(Ok(entry)));
+        }
+        let refusal = Refusal::CoinOutOfRange;
+        assert_eq!(entries.next(), Some(Err(refusal)));
+        for _ in 0..3 {
+            assert_eq!(entries.size_hint(), (0, Some(0)));
+            assert_eq!(entries.next(), None);
+        }
+        // What is not whole is not called so.
+        assert_eq!(entries.write_all(), Err(refusal));
+        // Nothing more was drawn.
+        assert_eq!(places.start, refused as usize * threshold(n));
+        for (own, shares) in (1..).zip(shares.chunks(table_len(k))) {
+            let held = vec![BEFORE; table_len(k)];
+            let expected = by_entries((n, own, k), 1..refused, &table, &coins, held);
+            assert_eq!(shares, expected);
+        }
+    }
+}
+
+#[test]
+fn a_table_is_refused_before_any_party_has_an_entry() {
+    for (table, refusal) in [
+        ([5, 2, 1, MAX_AMOUNT + 1], Refusal::AmountTooLarge),
+        ([5, u64::MAX, 1, 4], Refusal::AmountTooLarge),
+        ([5, 6, 1, 4], Refusal::NotMonotone),
+        ([5, 2, 4, 1], Refusal::NotMonotone),
+    ] {
+        let mut shares = [BEFORE; 3 * 4];
+        let entries = Entries::new(3, 2, &table, &mut shares, || 7).unwrap();
+        assert_eq!(entries.write_all(), Err(refusal));
+        let mut entries = Entries::new(3, 2, &table, &mut shares, || 7).unwrap();
+        assert_eq!(entries.next(), Some(Err(refusal)));
+        assert_eq!(entries.next(), None);
+        assert_eq!(shares, [BEFORE; 3 * 4]);
+    }
+}
+
+/// Makes an iterator with a source that must not be asked.
+fn refused_entries(n: u64, k: u64, table: usize, shares: usize) -> Option<Refusal> {
+    let (table, mut shares) = (vec![0; table], vec![BEFORE; shares]);
+    let source = || -> u64 { panic!("nothing is drawn yet") };
+    let refusal = Entries::new(n, k, &table, &mut shares, source).err();
+    assert!(shares.iter().all(|&share| share == BEFORE));
+    refusal
+}
+
+#[test]
+fn what_no_iterator_is_made_of() {
+    const HALF: u64 = 1 << 63;
+    const MOST: u64 = u64::MAX;
+    let out_of_range = Some(Refusal::OutOfRange);
+    for n in [0, 1, 2, 10, 1 << 32, (1 << 32) + 3, HALF, HALF + 3, MOST] {
+        for k in [0, 1, 2, MAX_PRICES, HALF, MOST] {
+            for (table, shares) in [(0, 0), (2, 6), (4, 12)] {
+                assert_eq!(refused_entries(n, k, table, shares), out_of_range);
+            }
+        }
+    }
+    for k in [0, MAX_PRICES + 1, 1 << 32, HALF, HALF + 1, MOST] {
+        for n in PARTIES {
+            for (table, shares) in [(0, 0), (2, 2 * n as usize)] {
+                assert_eq!(refused_entries(n, k, table, shares), out_of_range);
+            }
+        }
+    }
+    let wrong_length = Some(Refusal::WrongLength);
+    for n in PARTIES {
+        for k in [1, 2, MAX_PRICES] {
+            let (table, shares) = (table_len(k), n as usize * table_len(k));
+            assert_eq!(refused_entries(n, k, table, shares), None);
+            for (table, shares) in [
+                (0, 0),
+                (table - 1, shares),
+                (table + 1, shares),
+                (table, 0),
+                (table, table),
+                (table, shares - table),
+                (table, shares - 1),
+                (table, shares + 1),
+                (table, shares + table),
+            ] {
+                assert_eq!(refused_entries(n, k, table, shares), wrong_length);
+            }
+        }
+    }
+}
+
+#[test]
+fn neither_table_nor_shares_are_shown() {
+    let (table, mut shares) = ([5, 3], [BEFORE; 6]);
+    let mut coins = [7, PRIME].into_iter();
+    let source = || coins.next().unwrap();
+    let mut entries = Entries::new(3, 1, &table, &mut shares, source).unwrap();
+    entries.next();
+    let shown = "Entries { n: 3, k: 1, written: 1, refused: None, .. }";
+    assert_eq!(format!("{entries:?}"), shown);
+    entries.next();
+    let shown = "Entries { n: 3, k: 1, written: 1, refused: Some(CoinOutOfRange), .. }";
+    assert_eq!(format!("{entries:?}"), shown);
+}
+
+/// Party `own`'s share of one entry of a bid among nine, from these coins.
+fn share(own: u64, entry: u64, table: &[u64], coins: &[u64]) -> u64 {
+    let k = table.len() as u64 / 2;
+    let mut shares = vec![BEFORE; table.len()];
+    split_entry(9, own, k, entry, table, coins, &mut shares).unwrap();
+    shares[entry as usize - 1]
+}
+
+/// Why every entry has new coins: from the same ones, what two amounts differ by
+/// can be read by every party, alone.
+#[test]
+fn amounts_are_given_away_by_coins_used_again() {
+    let coins = &coins(9, 1)[..4];
+    let (table, another) = ([9_000, 8_200, 70, 950], [4_444, 10, 0, 0]);
+    for own in 1..=9 {
+        let read = |a: u64, b: u64| (a + PRIME - b) % PRIME;
+        let first = share(own, 1, &table, coins);
+        // Two entries of a bid.
+        assert_eq!(read(first, share(own, 2, &table, coins)), 9_000 - 8_200);
+        assert_eq!(read(first, share(own, 4, &table, coins)), 9_000 - 950);
+        // An entry of another bid, or written anew with another amount.
+        assert_eq!(read(first, share(own, 1, &another, coins)), 9_000 - 4_444);
+    }
+}
+
+/// So it is with a source that repeats itself, and nothing tells.
+#[test]
+fn amounts_are_given_away_by_a_source_that_repeats_itself() {
+    let (table, mut shares) = ([9_000, 8_200, 70, 950], [BEFORE; 5 * 4]);
+    let mut coins = [31, 47].into_iter().cycle();
+    let source = || coins.next().unwrap();
+    let entries = Entries::new(5, 2, &table, &mut shares, source).unwrap();
+    assert_eq!(entries.write_all(), Ok(()));
+    for shares in shares.chunks(4) {
+        assert_eq!(shares[0] - shares[1], 9_000 - 8_200);
+        assert_eq!(shares[3] - shares[2], 950 - 70);
+    }
+}
+
+/// Why shares are handed out once all entries are written: zeros that are left
+/// at all parties are shares of 0, and nothing tells.
+#[test]
+fn a_place_of_zeros_that_is_not_written_counts_as_0() {
+    let n = 5;
+    for own in 1..=n {
+        let left = by_entries((n, own, 1), [2], &[5, 3], &[0, 0, 31, 47], vec![0; 2]);
+        assert_eq!(left, whole(n, own, 1, &[0, 3], &[0, 0, 31, 47]));
+    }
+}
+
+/// Why the same table is lent to all calls: each judges the one that it is lent.
+#[test]
+fn amounts_of_two_tables_make_a_bid_that_nothing_judges() {
+    let coins = [31, 47, 59, 88];
+    let (one, another, mixed) = ([2, 2, 0, 0], [5, 5, 0, 0], [2, 5, 0, 0]);
+    let mut shares = by_entries((3, 1, 2), [1, 3, 4], &one, &coins, vec![BEFORE; 4]);
+    shares = by_entries((3, 1, 2), [2], &another, &coins, shares);
+    assert_eq!(shares, [2 + 31, 5 + 47, 59, 88]);
+    let refused = split(3, 1, 2, &mixed, &coins, &mut shares);
+    assert_eq!(refused, Err(Refusal::NotMonotone));
+}
