@@ -214,7 +214,8 @@ module _ {a : Auction} (c : Coins) (A : IsAuction a) (j : ℕ) (h1 : 1 ≤ j) (h
     unfolding bundle
     bundle-written whole w = split-writes (a .n) j (a .k) (member A j h1 hn) b (zeros a c) B (length-replicate (2 * a .k) 0)
     bundle-written (by-entries order lent) w =
-        any-order (splits-on lent (w .1)) order lent (w .0) (w .1) ∙ split-writes (a .n) j (a .k) (member A j h1 hn) b lent B (w .1)
+        any-order (a .n) j (a .k) (b .0 .table) (flat (b .1)) lent (split-accepted _ _ _ _ _ _ (splits-on lent (w .1))) lent (w .1) order (w .0)
+        ∙ split-writes (a .n) j (a .k) (member A j h1 hn) b lent B (w .1)
 
     pub shares-for-party : (desk : Desk) → Complete (a .k) desk → (roll : Roll) (fs : List (List ℕ))
         → shares-for a c desk b (holding-seat a roll fs j) ≡ at-party j (entries (b .0 .table) (b .1))

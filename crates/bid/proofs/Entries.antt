@@ -163,21 +163,24 @@ module _ {n own k : ℕ} {table coins lent : List ℕ} (S : Splits n own k table
                 ∙ getD-set-same shares i (getD whole i 0) 0 (omega (arith, l))
         cases false f g go = go g
 
-  -- ---- the promise
+-- ---- the promise
 
+-- with the words of a call that is accepted, on a slice that may hold anything
+module _ (n own k : ℕ) (table coins lent : List ℕ) (accepted : split-judgement n own k table coins lent ≡ Accepted)
+    (shares : List ℕ) (l : length shares ≡ 2 * k) where
   -- every entry is written once or more
-  pub all-written : (order shares : List ℕ) → every (is-entry k) order ≡ true → ((e : ℕ) → 1 ≤ e → e ≤ 2 * k → member e order ≡ true)
-      → length shares ≡ 2 * k → entries-left n own k table coins order shares ≡ split-left n own k table coins lent
-  all-written order shares h there l =
-      ext-getD 0 (entries-left n own k table coins order shares) whole (length-entries n own k table coins order shares ∙ l ∙ sym whole-long)
-      (λ i b. let c : i < 2 * k = omega (arith, b, length-entries n own k table coins order shares, l) in written i c order shares h l (there (suc i) (omega arith) c))
-      ∙ sym (kept-new _ whole lent (split-accepted n own k table coins lent S))
+  pub all-written : (order : List ℕ) → every (is-entry k) order ≡ true → ((e : ℕ) → 1 ≤ e → e ≤ 2 * k → member e order ≡ true)
+      → entries-left n own k table coins order shares ≡ split-left n own k table coins lent
+  all-written order h there =
+      let S = splits n own k table coins lent accepted in
+      let left = length-entries n own k table coins order shares in
+      ext-getD 0 (entries-left n own k table coins order shares) (whole S) (left ∙ l ∙ sym (whole-long S))
+      (λ i b. let c : i < 2 * k = omega (arith, b, left, l) in written S i c order shares h l (there (suc i) (omega arith) c))
+      ∙ sym (kept-new _ (whole S) lent accepted)
 
   -- "Entry after entry, the bundle is the one the whole-table call writes from the same words", whatever it held before
-  pub any-order : (order shares : List ℕ) → Shuffle (from 1 (2 * k)) order → length shares ≡ 2 * k
-      → entries-left n own k table coins order shares ≡ split-left n own k table coins lent
-  any-order order shares s l =
-      all-written order shares (all-in-order k order s) (λ e e1 e2. shuffle-member e s (is-member e 1 (2 * k) e1 (omega arith))) l
+  pub any-order : (order : List ℕ) → Shuffle (from 1 (2 * k)) order → entries-left n own k table coins order shares ≡ split-left n own k table coins lent
+  any-order order s = all-written order (all-in-order k order s) (λ e e1 e2. shuffle-member e s (is-member e 1 (2 * k) e1 (omega arith)))
 
 -- ---- the two ways are judged alike
 

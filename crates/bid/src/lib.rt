@@ -1,15 +1,17 @@
 // Splitting a bid among the parties (the paper's desk): one party's share of every amount, by one call
 // for the whole table or by one for each entry.
 ghost use mathlib.Core.Path.{_≡_};
+ghost use mathlib.Core.Bool.{_&&_};
 ghost use mathlib.Core.List.{_∷_};
 ghost use Prim.Native.Nat.{_*_, _≤_};
 ghost use lib.Dec.{leb};
-ghost use lib.ListN.{length};
+ghost use lib.ListN.{length, take, drop};
 ghost use Rattle.fields.specs.Amount.{amounts};
 ghost use Rattle.ranges.specs.Lists.{every};
+ghost use Rattle.ranges.specs.Steps.{never-rising, never-falling};
 ghost use Rattle.refusal.specs.Judging.{judged};
 ghost use Rattle.sharing.specs.Polynomial.{value};
-ghost use Rattle.bid.specs.Table.{most, monotone};
+ghost use Rattle.bid.specs.Table.{most};
 ghost use Rattle.bid.specs.Split.{faults, split-judgement, bid-shares, split-left};
 ghost use Rattle.bid.specs.Entry.{split-entry-judgement, split-entry-left};
 use fields::AmountShare;
@@ -82,6 +84,7 @@ fn judge(n: u64, own: u64, k: u64, table: &[u64], coins: &[u64], shares: &[u64])
     judge_lent(k as usize, table, coins)
 }
 
+// The same, of one entry and its coins.
 fn judge_entry(
     n: u64,
     own: u64,
@@ -126,9 +129,11 @@ fn judge_lent(half: usize, table: &[u64], coins: &[u64]) -> Judgement
     Judgement::Accepted
 }
 
-// A table in order has its largest amounts at its two ends, so that it is walked through only once.
+// Where both halves are in order, the largest amounts stand at the table's two ends, so that it is
+// walked through only once.
 fn is_small(table: &[u64], half: usize, in_order: bool) -> bool
-    requires { ⌜ (1 ≤ half) × (length (now table) ≡ 2 * half) × (in_order ≡ monotone half (now table)) ⌝ }
+    requires { ⌜ (1 ≤ half) × (length (now table) ≡ 2 * half)
+        × (in_order ≡ (never-rising (take half (now table)) && never-falling (drop half (now table)))) ⌝ }
     ensures { λ r. ⌜ r ≡ every (λ a. leb a most) (now (table .entry)) ⌝ }
 {
     if in_order {

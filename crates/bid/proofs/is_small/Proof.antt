@@ -13,15 +13,14 @@ use Rattle.ranges.specs.Lists.{every}
 use Rattle.ranges.specs.Steps.{never-rising, never-falling}
 use Rattle.ranges.proofs.Ends.{first-largest, last-largest, every-parts}
 use Rattle.ranges.proofs.Loops.{and-true, every-at}
-use Rattle.bid.specs.Table.{most, monotone}
+use Rattle.bid.specs.Table.{most}
 use Rattle.bid.proofs.Laws.{at-most}
 use Rattle.bid.proofs.is_small.Statement.{statement}
 use Rattle.bid.proofs.is_small.Tie as tie
 
--- demand's largest amount is its first, supply's its last
-within : (k : ℕ) (table : List ℕ) → 1 ≤ k → length table ≡ 2 * k → monotone k table ≡ true → getD table 0 0 ≤ most
-    → getD table (length table - 1) 0 ≤ most → every (λ a. leb a most) table ≡ true
-unfolding monotone
+-- the first half's largest amount is its first, the second's its last
+within : (k : ℕ) (table : List ℕ) → 1 ≤ k → length table ≡ 2 * k → never-rising (take k table) && never-falling (drop k table) ≡ true
+    → getD table 0 0 ≤ most → getD table (length table - 1) 0 ≤ most → every (λ a. leb a most) table ≡ true
 within zero table h l e f g = absurd (omega arith)
 within (suc k) [] h l e f g = absurd (omega arith)
 within (suc k) (x ∷ xs) h l e f g =
@@ -35,7 +34,7 @@ within (suc k) (x ∷ xs) h l e f g =
     every-parts (λ a. leb a most) (suc k) (x ∷ xs) (first-largest most x (take k xs) (w .0) f)
     (rw rest (last-largest most (getD xs k 0) (drop (suc k) xs) (rw (sym rest) (w .1)) (omega (arith, end, g))))
 
-ends-tell : (k : ℕ) (table : List ℕ) → 1 ≤ k → length table ≡ 2 * k → monotone k table ≡ true
+ends-tell : (k : ℕ) (table : List ℕ) → 1 ≤ k → length table ≡ 2 * k → never-rising (take k table) && never-falling (drop k table) ≡ true
     → leb (getD table 0 0) most && leb (getD table (length table - 1) 0) most ≡ every (λ a. leb a most) table
 ends-tell k table h l e = cases (every (λ a. leb a most) table) refl
   where

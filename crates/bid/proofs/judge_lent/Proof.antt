@@ -9,7 +9,7 @@ use lib.ListN.{length, take, drop, length-drop}
 use lib.Seq.{length-take-le, take-all}
 use Rattle.fields.specs.Amount.{p}
 use Rattle.ranges.specs.Lists.{every}
-use Rattle.ranges.specs.Steps.{in-order, steps, bend}
+use Rattle.ranges.specs.Steps.{in-order, steps, bend, never-rising, never-falling}
 use Rattle.ranges.proofs.Bends.{steps-by-bend}
 use Rattle.refusal.proofs.Judging.{refuses, passes, all-passed}
 use Rattle.bid.specs.Table.{most, monotone}
@@ -23,8 +23,7 @@ no-bend rising part r k e l = ap₂ eqb e (sym l) ∙ steps-by-bend (in-order ri
 
 -- in both halves
 halves : (k : ℕ) (table : List ℕ) (r s : ℕ) → length table ≡ 2 * k → r ≡ bend (in-order false) (take k table)
-    → s ≡ bend (in-order true) (take (length table - k) (drop k table)) → eqb r k && eqb s k ≡ monotone k table
-unfolding monotone
+    → s ≡ bend (in-order true) (take (length table - k) (drop k table)) → eqb r k && eqb s k ≡ never-rising (take k table) && never-falling (drop k table)
 halves k table r s l e f =
     let rest = take-all (length table - k) (drop k table) (omega (arith, length-drop k table)) in
     ap₂ _&&_ (no-bend false (take k table) r k e (length-take-le _ _ (omega (arith, l))))
@@ -44,10 +43,16 @@ drawn c =
 small : (c : tie.Else2) → not (every (λ a. leb a most) (given (c .before .before) .args .table .now)) ≡ false
 small c = ap not (sym (c .before .is-small .ensures)) ∙ c .if2 .left
 
+walked : (c : tie.After-first-bend2)
+    → eqb (c .before .before .first-bend .result) (given c .args .half) && eqb (c .first-bend2 .result) (given c .args .half)
+    ≡ never-rising (take (given c .args .half) (given c .args .table .now)) && never-falling (drop (given c .args .half) (given c .args .table .now))
+walked c = halves (given c .args .half) (given c .args .table .now) _ _ (given c .pre .1) (c .before .before .first-bend .ensures) (c .first-bend2 .ensures)
+
 ordered : (c : tie.After-first-bend2)
     → eqb (c .before .before .first-bend .result) (given c .args .half) && eqb (c .first-bend2 .result) (given c .args .half)
     ≡ monotone (given c .args .half) (given c .args .table .now)
-ordered c = halves (given c .args .half) (given c .args .table .now) _ _ (given c .pre .1) (c .before .before .first-bend .ensures) (c .first-bend2 .ensures)
+unfolding monotone
+ordered c = walked c
 
 all-below-requires : tie.Need-all-below-requires
 all-below-requires c κs = search needs
@@ -77,7 +82,7 @@ first-bend-requires-2 : tie.Need-first-bend-requires-2
 first-bend-requires-2 c κs = search needs
 
 is-small-requires : tie.Need-is-small-requires
-is-small-requires c κs = (given c .pre .0, given c .pre .1, ordered c)
+is-small-requires c κs = (given c .pre .0, given c .pre .1, walked c)
 
 returns-2 : tie.Need-returns-2
 returns-2 c = sym (passes _ _ _ (drawn (c .before .before)) ∙ refuses _ _ _ (ap not (sym (c .before .is-small .ensures)) ∙ c .if2 .taken))
