@@ -12,14 +12,12 @@ use lib.ListN.{length, take, drop, set, getD, length-set, length-drop}
 use lib.Seq.{length-take-le, drop-drop, getD-set-same, getD-set-other, ext-getD}
 use borrow.Author.Tests.{leb-true, le-leb, eqb-true, eqb-false}
 use Rattle.fields.specs.Amount.{p}
-use Rattle.refusal.specs.Judging.{kept}
-use Rattle.refusal.specs.declared.Judgement.{Judgement}
-use Rattle.refusal.specs.declared.Judgement.the-variants.{Accepted, Refused}
-use Rattle.refusal.proofs.Judging.{kept-new}
+use Rattle.refusal.specs.declared.Judgement.the-variants.{Accepted}
+use Rattle.refusal.proofs.Judging.{kept-new, kept-either}
 use Rattle.ranges.specs.Lists.{from, every, member}
 use Rattle.ranges.specs.Orders.{Shuffle}
 use Rattle.ranges.proofs.Ends.{every-parts}
-use Rattle.ranges.proofs.Loops.{and-true}
+use Rattle.ranges.proofs.Loops.{and-true, every-from, member-from}
 use Rattle.ranges.proofs.Orders.{shuffle-every, shuffle-member}
 use Rattle.ranges.proofs.Ranges.{all-below, is-below, below-take, below-drop}
 use Rattle.sharing.specs.Scheme.{threshold}
@@ -29,19 +27,14 @@ use Rattle.bid.proofs.Laws.{length-shares, entry, Splits, split-accepte
 
 -- ---- one entry, accepted or refused
 
--- what holds of the new contents and of the old ones
-left-either : {A B : Type 0} (f : A → B) (judgement : Judgement) (new old : A) (y : B) → f new ≡ y → f old ≡ y → f (kept judgement new old) ≡ y
-unfolding kept
-left-either f Accepted new old y e g = e
-left-either f (Refused why) new old y e g = g
-
 module _ (n own k entry : ℕ) (table coins shares : List ℕ) where
   pub length-left : length (split-entry-left n own k entry table coins shares) ≡ length shares
-  length-left = left-either length _ _ shares (length shares) (length-set shares (entry - 1) _) refl
+  length-left = kept-either _ _ shares (λ (l : List ℕ). length l ≡ length shares) (λ h. length-set shares (entry - 1) _) refl
 
   -- "One entry changes one place"
   pub one-place : (i : ℕ) → (i ≡ entry - 1 → ⊥) → getD (split-entry-left n own k entry table coins shares) i 0 ≡ getD shares i 0
-  one-place i other = left-either (λ (l : List ℕ). getD l i 0) _ _ shares (getD shares i 0) (getD-set-other shares (entry - 1) i _ 0 other) refl
+  one-place i other =
+      kept-either _ _ shares (λ (l : List ℕ). getD l i 0 ≡ getD shares i 0) (λ h. getD-set-other shares (entry - 1) i _ 0 other) refl
 
 pub length-entries : (n own k : ℕ) (table coins order shares : List ℕ) → length (entries-left n own k table coins order shares) ≡ length shares
 unfolding entries-left
@@ -50,25 +43,9 @@ length-entries n own k table coins (e ∷ es) shares =
     length-entries n own k table coins es _ ∙ length-left n own k e table (entry-coins (threshold n) e coins) shares
 
 -- 1 to 2k are the entries
-all-entries : (k : ℕ) → every (is-entry k) (from 1 (2 * k)) ≡ true
-unfolding from every
-all-entries k = each 1 (2 * k) (omega arith) (omega arith)
-  where
-    each : (a m : ℕ) → 1 ≤ a → a + m ≤ 2 * k + 1 → every (is-entry k) (from a m) ≡ true
-    each a zero h l = refl
-    each a (suc m) h l = ap₂ _&&_ (ap₂ _&&_ (le-leb 1 a h) (le-leb a (2 * k) (omega arith))) (each (suc a) m (omega arith) (omega arith))
-
 pub all-in-order : (k : ℕ) (order : List ℕ) → Shuffle (from 1 (2 * k)) order → every (is-entry k) order ≡ true
-all-in-order k order s = shuffle-every (is-entry k) s (all-entries k)
-
-is-member : (e a m : ℕ) → a ≤ e → e < a + m → member e (from a m) ≡ true
-unfolding from member
-is-member e a zero h l = absurd (omega arith)
-is-member e a (suc m) h l = cases (eqb e a) refl (λ d. is-member e (suc a) m d (omega arith))
-  where
-    cases : (b : Bool) → eqb e a ≡ b → (suc a ≤ e → member e (from (suc a) m) ≡ true) → b || member e (from (suc a) m) ≡ true
-    cases true f go = refl
-    cases false f go = let d = eqb-false e a f in go (omega (arith, d))
+all-in-order k order s =
+    shuffle-every (is-entry k) s (every-from (is-entry k) 1 (2 * k) (λ e l m. ap₂ _&&_ (le-leb 1 e l) (le-leb e (2 * k) (omega arith))))
 
 -- ---- all entries, with the words of a call that is accepted
 
@@ -180,7 +157,7 @@ module _ (n own k : ℕ) (table coins lent : List ℕ) (accepted : split-judgeme
 
   -- "Entry after entry, the bundle is the one the whole-table call writes from the same words", whatever it held before
   pub any-order : (order : List ℕ) → Shuffle (from 1 (2 * k)) order → entries-left n own k table coins order shares ≡ split-left n own k table coins lent
-  any-order order s = all-written order (all-in-order k order s) (λ e e1 e2. shuffle-member e s (is-member e 1 (2 * k) e1 (omega arith)))
+  any-order order s = all-written order (all-in-order k order s) (λ e e1 e2. shuffle-member e s (member-from e 1 (2 * k) e1 (omega arith)))
 
 -- ---- the two ways are judged alike
 

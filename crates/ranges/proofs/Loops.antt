@@ -1,14 +1,16 @@
 -- Lists of numbers that a loop tests from the left or fills. Assumes nothing.
 use mathlib.Core.Path.{_≡_, refl, sym, ap, ap₂, _∙_}
-use mathlib.Core.Bool.{Bool, true, false, _&&_}
+use mathlib.Core.Bool.{Bool, true, false, _&&_, _||_}
 use mathlib.Core.List.{List, [], _∷_, _++_, map}
-use Prim.Native.Nat.{ℕ, zero, suc, _+_, _<_}
+use Prim.Native.Nat.{ℕ, zero, suc, _+_, _≤_, _<_}
 use native.Mathlib.Nat.{add-zero}
 use native.Mathlib.Numerals.{add-one}
 use native.Mathlib.Omega.{arith}
+use lib.Dec.{eqb}
 use lib.ListN.{length, take, drop, set, getD}
 use lib.Seq.{drop-cons, drop-drop, drop-set-lt, getD-drop, take-suc, take-suc-set}
-use Rattle.ranges.specs.Lists.{from, every}
+use borrow.Author.Tests.{eqb-false}
+use Rattle.ranges.specs.Lists.{from, every, member}
 
 pub and-left : (a b : Bool) → (a && b) ≡ true → a ≡ true
 and-left true b e = refl
@@ -78,3 +80,18 @@ unfolding every
 every-at test [] i e h = absurd (omega arith)
 every-at test (x ∷ xs) zero e h = and-left (test x) (every test xs) e
 every-at test (x ∷ xs) (suc i) e h = every-at test xs i (and-right (test x) (every test xs) e) (omega arith)
+
+-- numbers in a row: each passes, and each is one of them
+pub every-from : (test : ℕ → Bool) (a m : ℕ) → ((i : ℕ) → a ≤ i → i < a + m → test i ≡ true) → every test (from a m) ≡ true
+unfolding from every
+every-from test a zero h = refl
+every-from test a (suc m) h = ap₂ _&&_ (h a (omega arith) (omega arith)) (every-from test (suc a) m (λ i l k. h i (omega arith) (omega arith)))
+
+pub member-from : (e a m : ℕ) → a ≤ e → e < a + m → member e (from a m) ≡ true
+unfolding from member
+member-from e a zero h l = absurd (omega arith)
+member-from e a (suc m) h l = cases (eqb e a) refl (λ d. member-from e (suc a) m d (omega arith))
+  where
+    cases : (b : Bool) → eqb e a ≡ b → (suc a ≤ e → member e (from (suc a) m) ≡ true) → b || member e (from (suc a) m) ≡ true
+    cases true f go = refl
+    cases false f go = let d = eqb-false e a f in go (omega (arith, d))

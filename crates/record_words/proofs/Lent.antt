@@ -3,11 +3,9 @@ use mathlib.Core.Path.{_≡_, refl, _∙_}
 use mathlib.Core.Bool.{true, false, not}
 use mathlib.Core.List.{List}
 use Prim.Native.Nat.{ℕ}
-use Rattle.refusal.specs.Judging.{kept}
 use Rattle.refusal.specs.declared.Refusal.the-variants as refusal
-use Rattle.refusal.specs.declared.Judgement.{Judgement}
 use Rattle.refusal.specs.declared.Judgement.the-variants.{Accepted, Refused}
-use Rattle.refusal.proofs.Judging.{refuses, passes, all-passed, kept-new, kept-old}
+use Rattle.refusal.proofs.Judging.{refuses, passes, all-passed, kept-new, kept-old, kept-either}
 use Rattle.ranges.specs.Sizes.{long}
 use Rattle.record_words.specs.Words.{record-size, record-judgement, on-record}
 
@@ -29,9 +27,4 @@ module _ (words : List ℕ) where
 
     -- where the call leaves it as it was, record or none
     pub left-alone : given ≡ otherwise → on-record words given otherwise ≡ otherwise
-    unfolding kept
-    left-alone e = split (record-judgement words)
-      where
-        split : (j : Judgement) → kept j given otherwise ≡ otherwise
-        split Accepted = e
-        split (Refused why) = refl
+    left-alone e = kept-either (record-judgement words) given otherwise (λ x. x ≡ otherwise) (λ h. e) refl

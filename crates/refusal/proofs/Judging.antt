@@ -36,3 +36,12 @@ module _ {A : Type 0} (judgement : Judgement) (new old : A) where
   pub kept-old : (why : Refusal) → judgement ≡ Refused why → kept judgement new old ≡ old
   unfolding kept
   kept-old why e = rw e
+
+  -- what holds of the new contents, where the call is accepted, and of the old ones
+  pub kept-either : (P : A → Type 0) → (judgement ≡ Accepted → P new) → P old → P (kept judgement new old)
+  unfolding kept
+  kept-either P accepted same = cases judgement accepted
+    where
+      cases : (j : Judgement) → (j ≡ Accepted → P new) → P (kept j new old)
+      cases Accepted go = go refl
+      cases (Refused why) go = same

@@ -7,12 +7,12 @@ use native.Mathlib.Omega.{arith}
 use lib.Dec.{leb}
 use borrow.Author.Tests.{leb-true, le-leb}
 use Rattle.refusal.specs.Refusal.{codeOf}
-use Rattle.refusal.specs.Judging.{_⇒_, judged, kept}
+use Rattle.refusal.specs.Judging.{_⇒_, judged}
 use Rattle.refusal.specs.declared.Refusal.{Refusal}
 use Rattle.refusal.specs.declared.Refusal.the-variants.{OutOfRange, WrongLength, OutOfTurn, AlreadyEntered, ShareOutOfRange}
 use Rattle.refusal.specs.declared.Judgement.{Judgement}
 use Rattle.refusal.specs.declared.Judgement.the-variants.{Accepted, Refused}
-use Rattle.refusal.proofs.Judging.{kept-old}
+use Rattle.refusal.proofs.Judging.{kept-old, kept-either}
 use Rattle.ranges.specs.Sizes.{long}
 use Rattle.ranges.proofs.Loops.{and-true}
 use Rattle.roll.specs.Marks.{is-bidder, marked}
@@ -53,9 +53,8 @@ record StaysIn (k b : ℕ) (q : Party) : Type 0 where
 
 -- what holds of the next record of an accepted call, and of the old one, holds of the reply's
 either : (P : Party → Type 0) (j : Judgement) (next old : Party) → (j ≡ Accepted → P next) → P old → P (replied j next old .party)
-unfolding replied kept
-either P Accepted next old new same = new refl
-either P (Refused why) next old new same = same
+unfolding replied
+either P j next old new same = kept-either j next old P new same
 
 module _ (k b : ℕ) where
   after-adding : (q : Party) (totals : List ℕ) (bidder : ℕ) (shares : List ℕ) → StaysIn k b q → StaysIn k b (add-reply q totals bidder shares .party)

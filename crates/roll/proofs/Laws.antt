@@ -13,7 +13,7 @@ use lib.ListN.{length, getD, set, replicate, length-set, List·getD-eq-default}
 use lib.Seq.{getD-set-same, getD-set-other, set-set, set-comm}
 use borrow.Author.Tests.{eqb-true, eqb-false, eq-eqb, not-true}
 use Rattle.ranges.specs.Lists.{from, every, count}
-use Rattle.ranges.proofs.Loops.{and-true, every-at, length-from, getD-from}
+use Rattle.ranges.proofs.Loops.{and-true, every-at, every-from, length-from, getD-from}
 use Rattle.ranges.proofs.Counting.{count-add, count-most, count-none, count-all, count-more}
 use Rattle.roll.specs.declared.Roll.{Roll}
 use Rattle.roll.specs.Marks.{is-set, marked, marks, proper, empty, mark}
@@ -37,11 +37,6 @@ places : (f : ℕ → Bool) (a m : ℕ) → every f (from a m) ≡ true → (b :
 places f a m e b l h =
     ap f (omega (arith, getD-from a m (b - a) (omega arith))) ∙ every-at f (from a m) (b - a) e (omega (arith, length-from a m))
 
-all-places : (f : ℕ → Bool) (a m : ℕ) → ((b : ℕ) → a ≤ b → f b ≡ true) → every f (from a m) ≡ true
-unfolding from every
-all-places f a zero h = refl
-all-places f a (suc m) h = rw (h a (omega arith)) (all-places f (suc a) m (λ b l. h b (omega arith)))
-
 module _ (roll : Roll) where
   pub proper-facts : proper roll ≡ true → Proper roll
   unfolding proper every
@@ -62,7 +57,7 @@ module _ (roll : Roll) where
   pub proper-of : Proper roll → proper roll ≡ true
   unfolding proper every
   proper-of h =
-      rw (eq-eqb (length (roll .words)) 16 (h .long), h .first, all-places (λ b. not (marked roll b)) 1001 23 (λ b l. ap not (h .past b l)))
+      rw (eq-eqb (length (roll .words)) 16 (h .long), h .first, every-from (λ b. not (marked roll b)) 1001 23 (λ b l m. ap not (h .past b l)))
 
 module _ (roll : Roll) (P : Proper roll) where
   -- the marks are those of bidders
