@@ -5,10 +5,8 @@ use mathlib.Core.List.{List, [], _∷_}
 use Prim.Native.Nat.{ℕ, zero, suc, _+_, _*_, _%_, _≤_, _<_}
 use native.Mathlib.Nat.{suc-inj, mul-zero}
 use native.Mathlib.Omega.{arith}
-use lib.Dec.{leb}
 use lib.ListN.{length, replicate, length-append, length-map, length-replicate}
 use lib.Seq.{take-at, drop-at}
-use borrow.Author.Tests.{leb-true}
 use Rattle.fields.specs.Amount.{p, amounts}
 use Rattle.ranges.specs.Below.{AllBelow}
 use Rattle.fields.proofs.Fields.{amount-field}
@@ -26,7 +24,7 @@ use Rattle.comparison.proofs.Values.{Shared}
 use Rattle.bid.specs.Split.{bid-shares, split-left}
 use Rattle.bid.specs.Entry.{is-entry, entry-coins}
 use Rattle.bid.proofs.Laws.{Splits, split-accepted}
-use Rattle.bid.proofs.Entries.{length-left, all-in-order, entry-accepted, any-order}
+use Rattle.bid.proofs.Entries.{length-left, all-are-entries, entry-accepted, any-order}
 use Rattle.roll.specs.declared.Roll.{Roll}
 use Rattle.roll.specs.Marks.{marks, empty, mark}
 use Rattle.roll.proofs.Laws.{Proper, Free, marks-mark, marks-empty}
@@ -177,15 +175,15 @@ module _ {a : Auction} (A : IsAuction a) (j : ℕ) (h1 : 1 ≤ j) (hn : j ≤ a 
   opening-accepted totals l = open-accepted (a .n) j (a .k) totals (record { listed = member; totals-long = l })
 
 module _ {a : Auction} (c : Coins) (A : IsAuction a) (j : ℕ) (h1 : 1 ≤ j) (hn : j ≤ a .n) where
-  pub opened : open-judgement (a .n) j (a .k) (zeros a c) ≡ Accepted
-  opened = opening-accepted A j h1 hn (zeros a c) (length-replicate (2 * a .k) 0)
+  pub opened : open-judgement (a .n) j (a .k) (zeros a) ≡ Accepted
+  opened = opening-accepted A j h1 hn (zeros a) (length-replicate (2 * a .k) 0)
 
-  pub seated-holding : seated a c j ≡ holding-seat a empty (no-totals a) j
+  pub seated-holding : seated a j ≡ holding-seat a empty (no-totals a) j
   unfolding seated holding-seat
   seated-holding =
       ap₂ (λ (q : Party) (totals : List ℕ). record { party = q; totals = totals; sheets = [] })
       (next-party _ (fresh (a .n) j (a .k)) blank opened ∙ fresh-holding (a .n) (a .k) j)
-      (kept-new _ (replicate (2 * a .k) 0) (zeros a c) opened ∙ sym (at-party-zeros (threshold (a .n)) j (2 * a .k)))
+      (kept-new _ (replicate (2 * a .k) 0) (zeros a) opened ∙ sym (at-party-zeros (threshold (a .n)) j (2 * a .k)))
 
   module _ (b : DrawnBid) (B : GoodBid (a .k) (threshold (a .n)) b) where
     -- the words of a bid make a call for the whole table, whatever the slice holds
@@ -194,25 +192,24 @@ module _ {a : Auction} (c : Coins) (A : IsAuction a) (j : ℕ) (h1 : 1 ≤ j) (h
 
     -- entry after entry, in any order, every call is accepted
     entries-accepted : (order lent : List ℕ) → every (is-entry (a .k)) order ≡ true → length lent ≡ 2 * a .k
-        → all-accepted (entry-calls a c j (b .0 .table) (flat (b .1)) order lent) ≡ true
+        → all-accepted (entry-calls a j (b .0 .table) (flat (b .1)) order lent) ≡ true
     unfolding entry-calls all-accepted judgement is-accepted every
     entries-accepted [] lent h l = refl
     entries-accepted (e ∷ es) lent h l =
         let w = and-true (is-entry (a .k) e) (every (is-entry (a .k)) es) h in
-        let r = and-true (leb 1 e) (leb e (2 * a .k)) (w .0) in
         let words = entry-coins (threshold (a .n)) e (flat (b .1)) in
-        ap₂ _&&_ (ap is-accepted (entry-accepted (splits-on lent l) e (leb-true 1 e (r .0)) (leb-true e (2 * a .k) (r .1)) lent l))
+        ap₂ _&&_ (ap is-accepted (entry-accepted (splits-on lent l) e (w .0) lent l))
         (entries-accepted es _ (w .1) (length-left (a .n) j (a .k) e (b .0 .table) words lent ∙ l))
 
     -- either way the calls are accepted, and leave the party's words of the bid's polynomials
-    pub bundle-accepted : (way : Way) → EachOnce (a .k) way → all-accepted (bundle-calls a c j (b .0 .table) (flat (b .1)) way) ≡ true
+    pub bundle-accepted : (way : Way) → EachOnce (a .k) way → all-accepted (bundle-calls a j (b .0 .table) (flat (b .1)) way) ≡ true
     unfolding bundle-calls all-accepted judgement is-accepted
-    bundle-accepted whole w = rw (split-accepted _ _ _ _ _ _ (splits-on (zeros a c) (length-replicate (2 * a .k) 0)))
-    bundle-accepted (by-entries order lent) w = entries-accepted order lent (all-in-order (a .k) order (w .0)) (w .1)
+    bundle-accepted whole w = rw (split-accepted _ _ _ _ _ _ (splits-on (zeros a) (length-replicate (2 * a .k) 0)))
+    bundle-accepted (by-entries order lent) w = entries-accepted order lent (all-are-entries (a .k) order (w .0)) (w .1)
 
-    bundle-written : (way : Way) → EachOnce (a .k) way → bundle a c j (b .0 .table) (flat (b .1)) way ≡ at-party j (entries (b .0 .table) (b .1))
+    bundle-written : (way : Way) → EachOnce (a .k) way → bundle a j (b .0 .table) (flat (b .1)) way ≡ at-party j (entries (b .0 .table) (b .1))
     unfolding bundle
-    bundle-written whole w = split-writes (a .n) j (a .k) (member A j h1 hn) b (zeros a c) B (length-replicate (2 * a .k) 0)
+    bundle-written whole w = split-writes (a .n) j (a .k) (member A j h1 hn) b (zeros a) B (length-replicate (2 * a .k) 0)
     bundle-written (by-entries order lent) w =
         any-order (a .n) j (a .k) (b .0 .table) (flat (b .1)) lent (split-accepted _ _ _ _ _ _ (splits-on lent (w .1))) lent (w .1) order (w .0)
         ∙ split-writes (a .n) j (a .k) (member A j h1 hn) b lent B (w .1)

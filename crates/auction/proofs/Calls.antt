@@ -11,14 +11,14 @@ use borrow.Author.Tests.{eq-eqb, ne-eqb}
 use Rattle.ranges.specs.Lists.{from}
 use Rattle.sharing.specs.Scheme.{threshold, points}
 use Rattle.bid.specs.Entry.{split-entry-left, entry-coins}
-use Rattle.ranges.proofs.Loops.{and-left, and-right, and-false}
+use Rattle.ranges.proofs.Loops.{and-left, and-right, and-false, same-from}
 use Rattle.comparison.specs.Probe.{Each}
 use Rattle.auction.specs.Auction.{Auction}
 use Rattle.auction.specs.Coins.{Coins}
 use Rattle.auction.specs.Desk.{Way, whole, by-entries}
-use Rattle.auction.specs.Call.{Call, split-call, split-entry-call, accepted, whose, of-party, of-service, given}
+use Rattle.auction.specs.Call.{Call, split-call, split-entry-call, accepted, whose, of-party, given}
 use Rattle.auction.specs.Canonical.{zeros, entry-calls, bundle-calls}
-use Rattle.auction.specs.Run.{select, own, services}
+use Rattle.auction.specs.Run.{select, own}
 use Rattle.auction.specs.Received.{collect}
 use Rattle.auction.specs.Demands.{all-accepted}
 
@@ -45,9 +45,6 @@ module _ (test : Call → Bool) where
 
 pub own-append : (j : ℕ) (l m : List Call) → own j (l ++ m) ≡ own j l ++ own j m
 own-append j l m = select-append (λ c. accepted c && of-party j (whose c)) l m
-
-pub services-append : (l m : List Call) → services (l ++ m) ≡ services l ++ services m
-services-append l m = select-append (λ c. accepted c && of-service (whose c)) l m
 
 module _ {A B : Type 0} (f : A → Option B) where
   pub collect-append : (l m : List A) → collect f (l ++ m) ≡ collect f l ++ collect f m
@@ -95,7 +92,7 @@ map-each f g [] h = refl
 map-each {A} {B} f g (x ∷ xs) h = ap₂ (λ (z : B) (zs : List B). z ∷ zs) (h .0) (map-each f g xs (h .1))
 
 pub map-points : {B : Type 0} (f g : ℕ → B) (n : ℕ) → ((i : ℕ) → 1 ≤ i → i ≤ n → f i ≡ g i) → map f (points n) ≡ map g (points n)
-map-points f g n h = map-each f g (points n) (each-point (λ i. f i ≡ g i) n h)
+map-points f g n h = same-from f g 1 n (λ i l k. h i l (omega arith))
 
 -- where each party has something, what is made of it
 pub map-through : {A B : Type 0} (g : A → B) (f : ℕ → A) (h : ℕ → B) (n : ℕ) → ((i : ℕ) → 1 ≤ i → i ≤ n → g (f i) ≡ h i)
@@ -175,15 +172,15 @@ own-flatten j f (x ∷ xs) h = own-append j (f x) (flatten (map f xs)) ∙ ap₂
 
 -- a bundle is written by nobody's own calls
 module _ (a : Auction) (c : Coins) (j party : ℕ) (table coins : List ℕ) where
-  own-entries : (order lent : List ℕ) → own j (entry-calls a c party table coins order lent) ≡ []
+  own-entries : (order lent : List ℕ) → own j (entry-calls a party table coins order lent) ≡ []
   unfolding entry-calls whose of-party select
   own-entries [] lent = refl
   own-entries (e ∷ es) lent =
       let words = entry-coins (threshold (a .n)) e coins in
       let left = split-entry-left (a .n) party (a .k) e table words lent in
-      own-passed j (split-entry-call (a .n) party (a .k) e table words lent) (entry-calls a c party table coins es left) refl ∙ own-entries es left
+      own-passed j (split-entry-call (a .n) party (a .k) e table words lent) (entry-calls a party table coins es left) refl ∙ own-entries es left
 
-  pub own-bundle : (way : Way) → own j (bundle-calls a c party table coins way) ≡ []
+  pub own-bundle : (way : Way) → own j (bundle-calls a party table coins way) ≡ []
   unfolding bundle-calls whose of-party select
-  own-bundle whole = own-passed j (split-call (a .n) party (a .k) table coins (zeros a c)) [] refl
+  own-bundle whole = own-passed j (split-call (a .n) party (a .k) table coins (zeros a)) [] refl
   own-bundle (by-entries order lent) = own-entries order lent

@@ -28,10 +28,10 @@ use Rattle.round.specs.Round.{heard}
 use Rattle.auction.specs.Auction.{Auction}
 use Rattle.auction.specs.Coins.{Coins, DrawnBid, flat}
 use Rattle.auction.specs.Desk.{Desk}
-use Rattle.auction.specs.Call.{Call, open-call, service, judgement, is-accepted, accepted, whose, of-party}
+use Rattle.auction.specs.Call.{Call, open-call, judgement, is-accepted, accepted, whose, of-party}
 use Rattle.auction.specs.Canonical.{Seat, all-over, zeros, seated, shares-for, splits-for, add-by, after-adding, deal-for, after-dealing, say-by, word-by, hear-by, after-hearing, ask, enough-rounds, from-rounds, deals, from-bids, canonical}
 use Rattle.auction.specs.Run.{select, own}
-use Rattle.auction.proofs.Calls.{select-append, own-flatten, own-bundle}
+use Rattle.auction.proofs.Calls.{select-append, own-none, own-flatten, own-bundle}
 
 -- ---- on a record that is not sound every call is refused
 
@@ -53,10 +53,6 @@ module _ (q : Party) (unsound : sound q ≡ false) where
   no-answer = ap is-accepted (refuses _ _ _ (ap not unsound))
 
 -- ---- party j is none of these
-
-each-all : {A : Type 0} (xs : List A) → Each (λ x. Unit {0}) xs
-each-all [] = tt
-each-all (x ∷ xs) = (tt, each-all xs)
 
 either : {B : Type 0} (f : List Call → B) (b : Bool) (l m : List Call) (y : B) → f l ≡ y → f m ≡ y → f (elim b [ true ↦ l | false ↦ m ]) ≡ y
 either f true l m y p q = p
@@ -101,19 +97,14 @@ module _ (j : ℕ) where
   none-map P f g [] h = refl
   none-map P f g (x ∷ xs) h = rw (g x (h .0), none-map P f g xs (h .1))
 
-  -- calls of the bidders and the dealer
-  none-served : {A : Type 0} (f : A → Call) → ((x : A) → whose (f x) ≡ service) → (xs : List A) → own j (map f xs) ≡ []
-  unfolding of-party
-  none-served {A} f g xs = none-map (λ x. Unit {0}) f (λ x u. and-false (accepted (f x)) _ (ap (of-party j) (g x))) xs (each-all xs)
-
   away-map : {A : Type 0} (P : A → Type 0) (f : A → Seat) → ((x : A) → P x → Away (f x)) → (xs : List A) → Each P xs → Each Away (map f xs)
   away-map P f g [] h = tt
   away-map P f g (x ∷ xs) h = (g x (h .0), away-map P f g xs (h .1))
 
   module _ (a : Auction) (c : Coins) (desk : Desk) where
-    away-seated : (i : ℕ) → eqb i j ≡ false → Away (seated a c i)
+    away-seated : (i : ℕ) → eqb i j ≡ false → Away (seated a i)
     unfolding seated replied kept fresh
-    away-seated i h = split (open-judgement (a .n) i (a .k) (zeros a c))
+    away-seated i h = split (open-judgement (a .n) i (a .k) (zeros a))
       where
         split : (J : Judgement) → Not (kept J (fresh (a .n) i (a .k)) blank)
         split Accepted = and-false (sound (fresh (a .n) i (a .k))) (eqb i j) h
@@ -155,9 +146,9 @@ module _ (j : ℕ) where
         own-flatten j (splits-for a c desk b) ss (λ s. own-bundle a c j (s .party .own) (b .0 .table) (flat (b .1)) (desk (b .0 .bidder) (s .party .own)))
 
     none-deals : (ss : List Seat) → own j (deals a c ss) ≡ []
-    unfolding deals deal-for whose
+    unfolding deals deal-for whose of-party
     none-deals [] = none-nil
-    none-deals (s ∷ ss) = none-append _ _ (none-served (deal-for a c s) (λ k. refl) (c .sheets)) (none-deals ss)
+    none-deals (s ∷ ss) = none-append _ _ (own-none j (deal-for a c s) (c .sheets) (λ k. refl)) (none-deals ss)
 
     none-rounds : (fuel : ℕ) (ss : List Seat) → Each Away ss → own j (from-rounds a c fuel ss) ≡ []
     unfolding from-rounds
@@ -185,14 +176,14 @@ module _ (j : ℕ) where
       away-points : Each (λ x. eqb x j ≡ false) (points (a .n))
       away-points = away-from 1 (a .n) (omega arith) (omega arith)
 
-      none-opens : own j (map (λ i. open-call (a .n) i (a .k) (zeros a c)) (points (a .n))) ≡ []
+      none-opens : own j (map (λ i. open-call (a .n) i (a .k) (zeros a)) (points (a .n))) ≡ []
       unfolding whose of-party
-      none-opens = none-map (λ x. eqb x j ≡ false) _ (λ x e. and-false (accepted (open-call (a .n) x (a .k) (zeros a c))) (eqb x j) e) (points (a .n)) away-points
+      none-opens = none-map (λ x. eqb x j ≡ false) _ (λ x e. and-false (accepted (open-call (a .n) x (a .k) (zeros a))) (eqb x j) e) (points (a .n)) away-points
 
       -- no call of the canonical list is party j's own
       pub none-told : own j (canonical a c desk) ≡ []
       unfolding canonical
       none-told =
           none-append _ _ none-opens
-          (none-bids (zip (a .bids) (c .bids)) (map (seated a c) (points (a .n)))
-          (away-map (λ x. eqb x j ≡ false) (seated a c) away-seated (points (a .n)) away-points))
+          (none-bids (zip (a .bids) (c .bids)) (map (seated a) (points (a .n)))
+          (away-map (λ x. eqb x j ≡ false) (seated a) away-seated (points (a .n)) away-points))

@@ -4,21 +4,24 @@ use mathlib.Core.Logic.{_↔_}
 use mathlib.Core.Bool.{Bool, true, false, _&&_, true≢false}
 use mathlib.Core.List.{List, [], _∷_, _++_, head-eq-of-cons-eq, tail-eq-of-cons-eq, cons≢nil}
 use mathlib.Core.Option.{Option, none, some}
-use Prim.Native.Nat.{ℕ, suc, _≤_}
+use Prim.Native.Nat.{ℕ, suc, _*_, _≤_}
 use native.Mathlib.Omega.{arith}
-use lib.ListN.{replicate}
+use lib.ListN.{length, replicate, length-replicate}
 use borrow.Author.Tests.{eqb-true}
+use Rattle.bid.specs.Entry.{split-entry-left, entry-coins, entries-left}
+use Rattle.ranges.specs.Lists.{from}
 use Rattle.ranges.specs.Orders.{Shuffle}
 use Rattle.ranges.proofs.Orders.{shuffle-swap, shuffle-refl}
 use Rattle.ranges.proofs.Loops.{and-false}
 use Rattle.record.specs.declared.Party.{Party}
+use Rattle.sharing.specs.Scheme.{threshold}
 use Rattle.auction.specs.Auction.{Auction}
 use Rattle.auction.specs.Coins.{Coins}
-use Rattle.auction.specs.Desk.{Desk, Complete}
-use Rattle.auction.specs.Call.{Call, say-call, answer-call, accepted, Whose, party, service, whose, of-party, of-service, given}
-use Rattle.auction.specs.Canonical.{canonical}
+use Rattle.auction.specs.Desk.{by-entries, Desk, Complete}
+use Rattle.auction.specs.Call.{Call, split-entry-call, say-call, answer-call, accepted, Whose, party, service, whose, of-party, of-service, given}
+use Rattle.auction.specs.Canonical.{entry-calls, canonical}
 use Rattle.auction.specs.Run.{Run, Repeats, select, own, services}
-use Rattle.auction.specs.Received.{collect, bid-in, hearing-in, asking-in, received-bids, hearings, askings, messages, sheets, decisions, verdicts, indices, unused}
+use Rattle.auction.specs.Received.{collect, bid-in, hearing-in, asking-in, received-bids, hearings, askings, messages, sheets, decisions, verdicts}
 use Rattle.auction.proofs.Selected.{with-call, select-cons, select-skip}
 use Rattle.auction.proofs.Calls.{select-append}
 use Rattle.auction.proofs.Repeats.{repeats-refl, repeats-say, repeats-ask, repeats-none}
@@ -34,6 +37,23 @@ canonical-run a c desk D =
       parties = λ j. repeats-refl (own j (canonical a c desk));
       others = shuffle-refl (services (canonical a c desk));
     }
+
+-- each of its entries in turn, or in any order, on any slice: so is a bundle written in some run
+pub some-entries : (k : ℕ) (order lent : List ℕ) → Shuffle (from 1 (2 * k)) order → length lent ≡ 2 * k → Complete k (λ bidder own. by-entries order lent)
+some-entries k order lent s l bidder own = (s, l)
+
+pub entries-in-turn : (k : ℕ) → Complete k (λ bidder own. by-entries (from 1 (2 * k)) (replicate (2 * k) 0))
+entries-in-turn k = some-entries k (from 1 (2 * k)) (replicate (2 * k) 0) (shuffle-refl (from 1 (2 * k))) (length-replicate (2 * k) 0)
+
+-- each call for an entry is lent what those before it left
+pub lent-in-turn : (a : Auction) (own : ℕ) (table coins before after lent : List ℕ)
+    → entry-calls a own table coins (before ++ after) lent
+    ≡ entry-calls a own table coins before lent ++ entry-calls a own table coins after (entries-left (a .n) own (a .k) table coins before lent)
+unfolding entry-calls entries-left
+lent-in-turn a own table coins [] after lent = refl
+lent-in-turn a own table coins (e ∷ before) after lent =
+    ap (λ (cs : List Call). split-entry-call (a .n) own (a .k) e table (entry-coins (threshold (a .n)) e coins) lent ∷ cs)
+    (lent-in-turn a own table coins before after (split-entry-left (a .n) own (a .k) e table (entry-coins (threshold (a .n)) e coins) lent))
 
 -- ---- what is read off a run
 
@@ -71,12 +91,6 @@ module _ (a : Auction) (c : Coins) (l : List Call) (run : Run a c l) (j : ℕ) w
 
   pub run-verdicts : verdicts j l ≡ verdicts j (canonical a c (run .desk))
   run-verdicts = rw run-hearings
-
-  pub run-indices : indices j l ≡ indices j (canonical a c (run .desk))
-  run-indices = rw run-hearings
-
-  pub run-unused : unused j l ≡ unused j (canonical a c (run .desk))
-  run-unused = rw run-hearings
 
 -- ---- askings repeated
 

@@ -66,10 +66,10 @@ accepts c e = rw e
 
 module _ (a : Auction) (c : Coins) where
   unfoldable pub open-at : ℕ → Call
-  open-at j = open-call (a .n) j (a .k) (zeros a c)
+  open-at j = open-call (a .n) j (a .k) (zeros a)
 
   unfoldable pub splits-at : Desk → DrawnBid → ℕ → List Call
-  splits-at desk b j = bundle-calls a c j (b .0 .table) (flat (b .1)) (desk (b .0 .bidder) j)
+  splits-at desk b j = bundle-calls a j (b .0 .table) (flat (b .1)) (desk (b .0 .bidder) j)
 
   -- with the bids of these on the roll held and the polynomials fs behind the totals
   unfoldable pub add-at : DrawnBid → (roll : Roll) (fs : List (List ℕ)) → ℕ → Call
@@ -102,8 +102,8 @@ module _ {a : Auction} {c : Coins} (A : IsAuction a) (C : InRange a c) where
 
   -- ---- the seats
 
-  pub seated-all : map (seated a c) (points (a .n)) ≡ map (holding-seat a empty (no-totals a)) (points (a .n))
-  seated-all = map-points (seated a c) (holding-seat a empty (no-totals a)) (a .n) (λ j h1 hn. seated-holding c A j h1 hn)
+  pub seated-all : map (seated a) (points (a .n)) ≡ map (holding-seat a empty (no-totals a)) (points (a .n))
+  seated-all = map-points (seated a) (holding-seat a empty (no-totals a)) (a .n) (λ j h1 hn. seated-holding c A j h1 hn)
 
   all-entering : Entering a empty (zip (a .bids) (c .bids))
   all-entering = entering-all A (c .bids) (C .bids-many)

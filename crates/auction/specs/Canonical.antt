@@ -1,5 +1,5 @@
--- The list of calls as document 01 tells it, with either way of writing a bundle: each call is given what the calls before it returned, wrote, said or left, by the very
--- definitions that the contracts cite. Assumes nothing.
+-- The list of calls as document 01 tells it, with either way of writing a bundle: each call is given what the calls before it returned,
+-- wrote, said or left, by the very definitions that the contracts cite. Assumes nothing.
 use mathlib.Core.Bool.{Bool, true, false, _&&_}
 use mathlib.Core.List.{List, [], _∷_, _++_, map, flatten, zip}
 use Prim.Native.Nat.{ℕ, zero, suc, _*_}
@@ -42,7 +42,7 @@ all-over (s ∷ ss) = over (bracket (s .party)) && all-over ss
 abbrev pub enough-rounds : Auction → ℕ
 enough-rounds a = probe-rounds * limit (a .k)
 
-module _ (a : Auction) (c : Coins) where
+module _ (a : Auction) where
   -- a slice of 2k words, to be written
   abbrev pub zeros : List ℕ
   zeros = replicate (2 * a .k) 0
@@ -76,10 +76,10 @@ module _ (a : Auction) (c : Coins) where
 module _ (a : Auction) (c : Coins) (desk : Desk) where
   -- "For each bid in turn the desk writes every keeper's bundle from the same draws, and each keeper adds its own."
   unfoldable pub splits-for : DrawnBid → Seat → List Call
-  splits-for b s = bundle-calls a c (s .party .own) (b .0 .table) (flat (b .1)) (desk (b .0 .bidder) (s .party .own))
+  splits-for b s = bundle-calls a (s .party .own) (b .0 .table) (flat (b .1)) (desk (b .0 .bidder) (s .party .own))
 
   unfoldable pub shares-for : DrawnBid → Seat → List ℕ
-  shares-for b s = bundle a c (s .party .own) (b .0 .table) (flat (b .1)) (desk (b .0 .bidder) (s .party .own))
+  shares-for b s = bundle a (s .party .own) (b .0 .table) (flat (b .1)) (desk (b .0 .bidder) (s .party .own))
 
   unfoldable pub add-by : DrawnBid → Seat → Call
   add-by b s = add-call (s .party) (s .totals) (b .0 .bidder) (shares-for b s)
@@ -146,5 +146,5 @@ module _ (a : Auction) (c : Coins) (desk : Desk) where
 
   unfoldable pub canonical : List Call
   canonical =
-      map (λ j. open-call (a .n) j (a .k) (zeros a c)) (points (a .n))
-      ++ from-bids (zip (a .bids) (c .bids)) (map (seated a c) (points (a .n)))
+      map (λ j. open-call (a .n) j (a .k) (zeros a)) (points (a .n))
+      ++ from-bids (zip (a .bids) (c .bids)) (map (seated a) (points (a .n)))

@@ -15,7 +15,7 @@ use Rattle.ranges.specs.Sizes.{party, listed, long}
 use Rattle.bid.specs.Split.{faults}
 
 -- the entries of a table, and of a bundle, are 1 to 2k
-abbrev pub is-entry : ℕ → ℕ → Bool
+abbrev pub is-entry : (k entry : ℕ) → Bool
 is-entry k entry = leb 1 entry && leb entry (2 * k)
 
 -- The refusals of `split_entry`, lowest number first. "Each call is lent the whole table and judges it before writing; refusal 5 reads

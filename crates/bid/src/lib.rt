@@ -129,15 +129,15 @@ fn judge_lent(half: usize, table: &[u64], coins: &[u64]) -> Judgement
     Judgement::Accepted
 }
 
-// Where both halves are in order, the largest amounts stand at the table's two ends, so that it is
-// walked through only once.
+// Where both halves are in order, as `monotone` has it, the largest amounts stand at the table's two
+// ends, and it need not be walked through again.
 fn is_small(table: &[u64], half: usize, in_order: bool) -> bool
     requires { ⌜ (1 ≤ half) × (length (now table) ≡ 2 * half)
         × (in_order ≡ (never-rising (take half (now table)) && never-falling (drop half (now table)))) ⌝ }
     ensures { λ r. ⌜ r ≡ every (λ a. leb a most) (now (table .entry)) ⌝ }
 {
     if in_order {
-        return (table[0] <= MOST) & (table[table.len() - 1] <= MOST);
+        return (table[0] <= MOST) & (table[2 * half - 1] <= MOST);
     }
     all_below(table, MOST + 1)
 }

@@ -65,6 +65,12 @@ map-from f a zero i h = absurd (omega arith)
 map-from f a (suc m) zero h = ap f (omega arith)
 map-from f a (suc m) (suc i) h = map-from f (suc a) m i (omega arith) ∙ ap f (omega arith)
 
+pub same-from : {B : Type 0} (f g : ℕ → B) (a m : ℕ) → ((i : ℕ) → a ≤ i → i < a + m → f i ≡ g i) → map f (from a m) ≡ map g (from a m)
+unfolding from
+same-from f g a zero h = refl
+same-from {B} f g a (suc m) h =
+    ap₂ (λ (x : B) (xs : List B). x ∷ xs) (h a (omega arith) (omega arith)) (same-from f g (suc a) m (λ i l k. h i (omega arith) (omega arith)))
+
 -- every number of a list is tested from the left
 pub every-more : (test : ℕ → Bool) (xs : List ℕ) (i : ℕ) → i < length xs → test (getD xs i 0) ≡ true → every test (drop i xs) ≡ every test (drop (i + 1) xs)
 unfolding every

@@ -24,9 +24,9 @@ pub fn first_bend(words: &[u64], rising: bool) -> usize
     words.len()
 }
 
-// A quick look: true only where there is no bend. Two words are in order where the lower one and the
-// difference, which wraps, are both below 2^63. No branch depends on a word, so the compiler takes
-// several at once.
+// A quick look: true only where there is no bend. Two words are in order where the one that should be
+// lower, and what the other has more, which wraps, are both below 2^63. No branch depends on a word, so
+// the compiler takes several at once.
 fn none_bends(words: &[u64], rising: bool) -> bool
     ensures { λ r. ⌜ (r ≡ true → steps (in-order rising) (now (words .entry)) ≡ true) ⌝ }
 {

@@ -26,7 +26,10 @@ fn ranges() {
     of_sizes(3, 1, 1024, 2049, 2048, 1, 2048);
     of_sizes(3, 1, 1025, 1, 2050, 1, 2050);
     of_sizes(3, 1, 0x8000_0000_0000_0001, 1, 2, 1, 2);
+    of_sizes(3, 1, 0, 0, 0, 1, 0);
     of_sizes(2, 1, 1, 1, 2, 1, 2);
+    of_sizes(10, 1, 1, 1, 2, 4, 2);
+    of_sizes(3, 0, 1, 1, 2, 1, 2);
     of_sizes(3, 4, 1, 1, 2, 1, 2);
     of_sizes(9, 9, 1, 1, 2, 4, 2);
     report::end();
@@ -56,6 +59,9 @@ fn contents() {
     of_table(4, &[4194304, 4, 4, 5], &[0]);
     of_table(1, &[5, 4, 5, 4], &[0]);
     of_table(4, &[4, 5, 4, 5], &[0]);
+    of_table(1, &[MAX, MAX, 0, MAX], &[0]);
+    of_table(4, &[MAX, 0, 1, MAX - 1], &[0]);
+    of_table(1, &[0, MAX, 0, 0], &[0]);
     report::end();
 }
 
@@ -78,7 +84,8 @@ fn left() {
     report::end();
 }
 
-// One entry, which is one place; then all four, out of order, by which the nines are gone.
+// One entry, which is one place; then all of a bid, out of order, by which the nines are gone. A second
+// coin of an entry that is p is refused, and the entry is written anew.
 fn worked() {
     let table = [25, 20, 3, 4194303];
 
@@ -86,6 +93,14 @@ fn worked() {
     let mut shares = [9u64; 4];
     call(3, 2, 2, 3, &table, &[1234567890123456789], &mut shares);
     report::numbers(&shares);
+    report::end();
+
+    report::title(b"split entries 2, 1 among 5, party 5:");
+    let mut of_five = [9u64; 2];
+    call(5, 5, 1, 2, &[100, 0], &[3, P - 4], &mut of_five);
+    call(5, 5, 1, 1, &[100, 0], &[P - 1, P], &mut of_five);
+    call(5, 5, 1, 1, &[100, 0], &[P - 1, 2], &mut of_five);
+    report::numbers(&of_five);
     report::end();
 
     report::title(b"split entries 4, 2, 1, 3 among 3, party 2:");

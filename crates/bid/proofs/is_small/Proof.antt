@@ -20,14 +20,14 @@ use Rattle.bid.proofs.is_small.Tie as tie
 
 -- the first half's largest amount is its first, the second's its last
 within : (k : ℕ) (table : List ℕ) → 1 ≤ k → length table ≡ 2 * k → never-rising (take k table) && never-falling (drop k table) ≡ true
-    → getD table 0 0 ≤ most → getD table (length table - 1) 0 ≤ most → every (λ a. leb a most) table ≡ true
+    → getD table 0 0 ≤ most → getD table (2 * k - 1) 0 ≤ most → every (λ a. leb a most) table ≡ true
 within zero table h l e f g = absurd (omega arith)
 within (suc k) [] h l e f g = absurd (omega arith)
 within (suc k) (x ∷ xs) h l e f g =
     let w = and-true (never-rising (x ∷ take k xs)) (never-falling (drop k xs)) e in
     let rest : drop k xs ≡ getD xs k 0 ∷ drop (suc k) xs = drop-cons xs k 0 (omega (arith, l)) in
-    let last : suc (k + length (drop (suc k) xs)) ≡ length (x ∷ xs) - 1 = omega (arith, l, length-drop (suc k) xs) in
-    let end : getD (getD xs k 0 ∷ drop (suc k) xs) (length (drop (suc k) xs)) 0 ≡ getD (x ∷ xs) (length (x ∷ xs) - 1) 0 =
+    let last : suc (k + length (drop (suc k) xs)) ≡ 2 * suc k - 1 = omega (arith, l, length-drop (suc k) xs) in
+    let end : getD (getD xs k 0 ∷ drop (suc k) xs) (length (drop (suc k) xs)) 0 ≡ getD (x ∷ xs) (2 * suc k - 1) 0 =
     ap (λ (ys : List ℕ). getD ys (length (drop (suc k) xs)) 0) (sym rest)
     ∙ getD-drop k xs (length (drop (suc k) xs)) 0
     ∙ ap (λ (i : ℕ). getD (x ∷ xs) i 0) last in
@@ -35,14 +35,14 @@ within (suc k) (x ∷ xs) h l e f g =
     (rw rest (last-largest most (getD xs k 0) (drop (suc k) xs) (rw (sym rest) (w .1)) (omega (arith, end, g))))
 
 ends-tell : (k : ℕ) (table : List ℕ) → 1 ≤ k → length table ≡ 2 * k → never-rising (take k table) && never-falling (drop k table) ≡ true
-    → leb (getD table 0 0) most && leb (getD table (length table - 1) 0) most ≡ every (λ a. leb a most) table
+    → leb (getD table 0 0) most && leb (getD table (2 * k - 1) 0) most ≡ every (λ a. leb a most) table
 ends-tell k table h l e = cases (every (λ a. leb a most) table) refl
   where
     ends : Bool
-    ends = leb (getD table 0 0) most && leb (getD table (length table - 1) 0) most
+    ends = leb (getD table 0 0) most && leb (getD table (2 * k - 1) 0) most
 
     cases : (b : Bool) → every (λ a. leb a most) table ≡ b → ends ≡ b
-    cases true f = ap₂ _&&_ (every-at _ table 0 f (omega arith)) (every-at _ table (length table - 1) f (omega arith))
+    cases true f = ap₂ _&&_ (every-at _ table 0 f (omega arith)) (every-at _ table (2 * k - 1) f (omega arith))
     cases false f = decide ends refl
       where
         decide : (b : Bool) → ends ≡ b → b ≡ false
@@ -54,11 +54,14 @@ ends-tell k table h l e = cases (every (λ a. leb a most) table) refl
 shared-slice-read-result : tie.Need-shared-slice-read-result
 shared-slice-read-result c = search needs
 
+mul-result : tie.Need-mul-result
+mul-result c = omega (arith, c .before .before .before .good .0 .0, c .before .before .before .pre .1)
+
 sub-result : tie.Need-sub-result
 sub-result c = search needs
 
-mul-result : tie.Need-mul-result
-mul-result c = search needs
+mul-result-2 : tie.Need-mul-result-2
+mul-result-2 c = search needs
 
 shared-slice-read-result-2 : tie.Need-shared-slice-read-result-2
 shared-slice-read-result-2 c = search needs
@@ -82,8 +85,9 @@ is-small-spec =
     tie.close
     (tie.spec
     shared-slice-read-result
-    sub-result
     mul-result
+    sub-result
+    mul-result-2
     shared-slice-read-result-2
     returns
     add-all-below
