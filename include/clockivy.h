@@ -48,8 +48,12 @@
  *   hold so many calls clockivy_split_entry for each entry and party, with the
  *   t coins of that entry alone. All 2k entries, in any order, leave a party
  *   the shares that clockivy_split writes from the same coins, whatever stood
- *   there before. A call knows nothing of the calls before it. What the desk
- *   has to see to:
+ *   there before. It is the coins that are fewer: the shares of all parties are
+ *   2kn words, 18,432 for the largest bid, and a desk keeps them until every
+ *   party has its bid. One that is short of room may lend one slice of 2k words
+ *   to the calls for all parties in turn, and take the word at place entry - 1
+ *   after each call, since a call writes that place alone. A call knows nothing
+ *   of the calls before it. What the desk has to see to:
  *   - Every entry has t new coins, or amounts are given away: see "Three uses
  *     that give bids away".
  *   - The shares of an entry are made from the same t coins for all n parties,
@@ -60,10 +64,12 @@
  *   - The same table is lent to all 2kn calls. Each judges the table that it is
  *     lent and takes one amount of it: amounts of several tables make a bid
  *     that nothing has judged.
+ *   - Fill the shares with UINT64_MAX before the first entry: a place that was
+ *     left out is then no share, and adding the bid is 8. Otherwise the place
+ *     holds what stood there before. Where that fits at all parties, as zeros
+ *     do or the shares of an older bid, another amount counts and nothing tells.
  *   - Shares are handed out once all 2k entries are written for every party
- *     and no call was refused. A place that is not written holds what stood
- *     there before. Where that fits at all parties, as zeros do or the shares
- *     of an older bid, another amount counts and nothing tells.
+ *     and no call was refused.
  *
  * A bid sent again
  *   A desk that does not know whether its bid arrived sends the same shares
@@ -118,10 +124,13 @@
  *     and the sheets that belong to it. A session that starts anew gets new
  *     sheets from the dealer.
  *   - Coins used again: for another entry of the bid, for another bid, or for
- *     an entry that is written anew with another amount. A party's two shares
- *     then differ by just what the two amounts differ by, so that a single
- *     party that has both reads it. Draw t new coins for each entry: where one
- *     buffer is lent for entry after entry, that is easily forgotten.
+ *     an entry that is written anew with another amount. Where all t recur, a
+ *     party's two shares differ by just what the two amounts differ by, so that
+ *     a single party that has both reads it. Where only some recur, t parties
+ *     together read as much; and coins of one entry that are not drawn apart
+ *     from each other may give them the amount itself. Draw t new coins for
+ *     each entry: where one buffer is lent for entry after entry, that is
+ *     easily forgotten.
  */
 #ifndef CLOCKIVY_H
 #define CLOCKIVY_H

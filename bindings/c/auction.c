@@ -107,7 +107,8 @@ static void split(struct desk *desk, uint64_t bidder, const uint64_t *table)
 
 /*
  * The same, holding the t coins of one entry at a time: every party's share of
- * it is written before the coins of the next one are drawn.
+ * it is written before the coins of the next one are drawn. Each place holds
+ * UINT64_MAX before that, so that one that was left out would be no share.
  */
 static void split_by_entries(struct desk *desk, uint64_t bidder, const uint64_t *table)
 {
@@ -116,6 +117,7 @@ static void split_by_entries(struct desk *desk, uint64_t bidder, const uint64_t 
     size_t i;
 
     desk->bidder = bidder;
+    memset(desk->shares, 0xFF, sizeof desk->shares);
     for (entry = 1; entry <= TABLE; entry++) {
         for (i = 0; i < T; i++)
             coins[i] = draw_coefficient();

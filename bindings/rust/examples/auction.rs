@@ -125,7 +125,7 @@ fn split_bid(table: &[u64], coins: &mut Coins) -> Result<Vec<Vec<u64>>, Refusal>
 /// The same, holding the t coins of one entry at a time.
 fn split_by_entries(table: &[u64], coins: &mut Coins) -> Result<Vec<Vec<u64>>, Refusal> {
     let mut shares = vec![0; N as usize * table_len(K)];
-    Entries::new(N, K, table, &mut shares, || coins.coefficient())?.write_all()?;
+    Entries::new(N, K, table, &mut shares, &mut || coins.coefficient())?.write_all()?;
     Ok(shares.chunks(table_len(K)).map(<[u64]>::to_vec).collect())
 }
 

@@ -10,7 +10,6 @@ mod coins;
 
 use clockivy::{
     coins_len, split, table_len, threshold, Entries, Refusal, MAX_AMOUNT, MAX_PRICES, PARTIES,
-    PRIME,
 };
 use coins::Coins;
 
@@ -21,15 +20,15 @@ fn main() -> Result<(), Refusal> {
     let table = table();
     let mut coins = Coins::new();
     let mut drawn = 0;
-    let source = || {
+    let mut source = || {
         drawn += 1;
         coins.coefficient()
     };
 
-    // What the desk keeps until every party has its bid. It need not be cleared.
-    let mut shares = vec![PRIME; N as usize * table_len(K)];
+    // What the desk keeps until every party has its bid.
+    let mut shares = vec![0; N as usize * table_len(K)];
     let mut written = 0;
-    for entry in Entries::new(N, K, &table, &mut shares, source)? {
+    for entry in Entries::new(N, K, &table, &mut shares, &mut source)? {
         written = entry?;
     }
     assert_eq!(written as usize, table_len(K));

@@ -12,10 +12,16 @@ use crate::{split_entry, table_len, threshold, MAX_PRICES, PARTIES};
 /// The most coins of an entry: four, of nine parties.
 const MOST_COINS: usize = threshold(*PARTIES.end());
 
+/// What stands in a place that is not written: no share, so that adding it is
+/// refused.
+const NO_SHARE: u64 = u64::MAX;
+
 /// The entries of a bid, written one after the other for all parties, with t
-/// new coins for each: so t words are held at a time, where
-/// [`split`](crate::split) is lent all 2kt. What is written is the same. See
-/// [a bid entry by entry](crate#a-bid-entry-by-entry).
+/// new coins for each: so t coins are held at a time, where
+/// [`split`](crate::split) is lent all 2kt. What is written is the same. It is
+/// the coins that are fewer: the shares of all parties are lent together, 2kn
+/// words, 18,432 for the largest bid, and a desk that is short of room goes by
+/// [`split_entry`]. See [a bid entry by entry](crate#a-bid-entry-by-entry).
 ///
 /// ```
 /// use clockivy::{split, Entries};
@@ -26,10 +32,10 @@ const MOST_COINS: usize = threshold(*PARTIES.end());
 /// let (n, k, table) = (3, 2, [5, 2, 1, 4]);
 /// let coins = [11, 12, 13, 14];
 /// let mut drawn = coins.into_iter();
-/// let source = || drawn.next().unwrap_or(u64::MAX);
+/// let mut source = || drawn.next().unwrap_or(u64::MAX);
 ///
 /// let mut shares = [[0; 4]; 3];
-/// Entries::new(n, k, &table, shares.as_flattened_mut(), source)?.write_all()?;
+/// Entries::new(n, k, &table, shares.as_flattened_mut(), &mut source)?.write_all()?;
 ///
 /// for (own, shares) in (1..).zip(shares) {
 ///     let mut whole = [0; 4];
@@ -40,15 +46,16 @@ const MOST_COINS: usize = threshold(*PARTIES.end());
 /// # }
 /// ```
 ///
-/// [`write_all`](Entries::write_all) writes the whole bid. As an iterator it
-/// writes an entry for each item, and the item is the entry's number, 1 to 2k
-/// in turn. An entry that is refused is written for no party, and is the last
-/// item. While it lives, nobody reads the shares; this does not compile:
+/// [`write_all`](Entries::write_all) writes the whole bid. As an iterator,
+/// `Entries` writes an entry for each item, and the item is the entry's number,
+/// 1 to 2k in turn. An entry that is refused is written for no party, and is the
+/// last item. While `Entries` lives, nobody reads the shares; this does not
+/// compile:
 ///
 /// ```compile_fail,E0502
 /// # use clockivy::Entries;
-/// # let (mut shares, source) = ([0; 6], || 7);
-/// let mut entries = Entries::new(3, 1, &[5, 3], &mut shares, source)?;
+/// # let (mut shares, mut source) = ([0; 6], || 7);
+/// let mut entries = Entries::new(3, 1, &[5, 3], &mut shares, &mut source)?;
 /// entries.next();
 /// let sent = shares.to_vec();
 /// entries.next();
@@ -58,8 +65,9 @@ const MOST_COINS: usize = threshold(*PARTIES.end());
 /// # What remains the caller's
 ///
 /// * **The source.** Each call of it draws a coin: a word below
-///   [`PRIME`](crate::PRIME), uniform and independent of all others. One that
-///   repeats itself, within a bid or from one bid to another,
+///   [`PRIME`](crate::PRIME), uniform and independent of all others. It is lent,
+///   so that the next bid goes on from where this one ended. One that repeats
+///   itself, within a bid or from one bid to another,
 ///   [gives bids away](crate#three-uses-that-give-bids-away), and nothing here
 ///   can tell. A word that is not below the prime is refused, so a source that
 ///   cannot draw may give `u64::MAX`.
@@ -68,14 +76,15 @@ const MOST_COINS: usize = threshold(*PARTIES.end());
 ///   another one with new coins.
 ///
 /// The coins of an entry are overwritten once they are used, as far as safe Rust
-/// can see to that; what the source keeps is its own.
-#[must_use = "nothing is written before it is asked for"]
+/// can see to that; those of a source that panics half-way are not, and what the
+/// source keeps is its own.
+#[must_use = "no entry is written before it is asked for"]
 pub struct Entries<'a, S> {
     n: u64,
     k: u64,
     table: &'a [u64],
     shares: &'a mut [u64],
-    source: S,
+    source: &'a mut S,
     /// The entries from 1 on that are written.
     written: u64,
     refused: Option<Refusal>,
@@ -84,8 +93,12 @@ pub struct Entries<'a, S> {
 impl<'a, S: FnMut() -> u64> Entries<'a, S> {
     /// The entries of a bid among `n` parties. `table` is demand at prices 1 to
     /// k, then supply; `shares` are those of all parties, party 1's 2k words
-    /// first; `source` gives coins. Nothing is drawn and nothing written yet,
-    /// and the table is judged with each entry.
+    /// first; `source` gives coins. Nothing is drawn yet, and the table is judged
+    /// with each entry.
+    ///
+    /// The shares are filled with `u64::MAX`, which is no share: what they held
+    /// is gone, and where a place is not written, adding them is
+    /// [`ShareOutOfRange`](Refusal::ShareOutOfRange). A refusal changes nothing.
     ///
     /// Refused: [`OutOfRange`](Refusal::OutOfRange),
     /// [`WrongLength`](Refusal::WrongLength) where `table` has not 2k words or
@@ -95,7 +108,7 @@ impl<'a, S: FnMut() -> u64> Entries<'a, S> {
         k: u64,
         table: &'a [u64],
         shares: &'a mut [u64],
-        source: S,
+        source: &'a mut S,
     ) -> Result<Entries<'a, S>, Refusal> {
         if !PARTIES.contains(&n) || !(1..=MAX_PRICES).contains(&k) {
             return Err(Refusal::OutOfRange);
@@ -103,6 +116,7 @@ impl<'a, S: FnMut() -> u64> Entries<'a, S> {
         if table.len() != table_len(k) || shares.len() != n as usize * table_len(k) {
             return Err(Refusal::WrongLength);
         }
+        shares.fill(NO_SHARE);
         Ok(Entries {
             n,
             k,
@@ -156,7 +170,7 @@ impl<S: FnMut() -> u64> Iterator for Entries<'_, S> {
         let entry = self.written + 1;
         let mut room = [0; MOST_COINS];
         let coins = &mut room[..threshold(self.n)];
-        coins.fill_with(&mut self.source);
+        coins.fill_with(&mut *self.source);
         let outcome = self.write(entry, coins);
         // Looked at afterwards, so that it is not left out as of no use.
         room.fill(0);

@@ -32,8 +32,16 @@
 //! [`Entries`] draw them, t at a time, and every party's shares are those that
 //! `split` writes from the same coins, whatever stood there before. Below that
 //! is [`split_entry`], which writes one entry for one party; all entries, in any
-//! order, come to the same. A call knows nothing of the calls before it, so
-//! whoever makes these calls has to see to what `Entries` sees to:
+//! order, come to the same.
+//!
+//! It is the coins that are fewer: the shares of all parties are 2kn words,
+//! 18,432 for the largest bid, and a desk keeps them until every party has its
+//! bid. One that is short of room may lend one slice of 2k words to
+//! `split_entry` for all parties in turn, and take the word at place `entry` - 1
+//! after each call, since a call writes that place alone.
+//!
+//! A call knows nothing of the calls before it, so whoever calls `split_entry`
+//! has to see to what `Entries` sees to:
 //!
 //! * Every entry has t new coins, or amounts are
 //!   [given away](crate#three-uses-that-give-bids-away).
@@ -45,12 +53,14 @@
 //! * The same table is lent to all 2kn calls. Each judges the table that it is
 //!   lent and takes one amount of it: amounts of several tables make a bid that
 //!   nothing has judged.
+//! * The shares are filled with `u64::MAX` before the first entry: a place that
+//!   was left out is then no share, and adding the bid is
+//!   [`ShareOutOfRange`](Refusal::ShareOutOfRange). Otherwise the place holds what
+//!   stood there before. Where that fits at all parties, as zeros do or the
+//!   shares of an older bid, another amount counts and nothing tells.
 //!
 //! Either way, shares are handed out once all 2k entries are written for every
-//! party and none was refused: [`Entries::write_all`] tells. A place that is not
-//! written holds what stood there before. Where that fits at all parties, as
-//! zeros do or the shares of an older bid, another amount counts and nothing
-//! tells.
+//! party and none was refused: [`Entries::write_all`] tells.
 //!
 //! # A bid sent again
 //!
@@ -122,11 +132,13 @@
 //!   ([`Speaking::resume`]). A session that starts anew gets new sheets from the
 //!   dealer.
 //! * **Coins used again**: for another entry of the bid, for another bid, or for
-//!   an entry that is written anew with another amount. A party's two shares
-//!   then differ by just what the two amounts differ by, so that a single party
-//!   that has both reads it. [`Entries`] draws t new coins for each entry, so
-//!   that it takes a source that repeats itself to go wrong; with [`split`] and
-//!   [`split_entry`] it is for the caller to see to.
+//!   an entry that is written anew with another amount. Where all t recur, a
+//!   party's two shares differ by just what the two amounts differ by, so that a
+//!   single party that has both reads it. Where only some recur, t parties
+//!   together read as much; and coins of one entry that are not drawn apart from
+//!   each other may give them the amount itself. [`Entries`] draws t new coins
+//!   for each entry, so that it takes a source that repeats itself to go wrong;
+//!   with [`split`] and [`split_entry`] it is for the caller to see to.
 //!
 //! # A small auction
 //!

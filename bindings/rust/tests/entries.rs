@@ -4,11 +4,12 @@
 use std::cell::Cell;
 
 use clockivy::{
-    coins_len, split, split_entry, table_len, threshold, Entries, Refusal, MAX_AMOUNT, MAX_PRICES,
-    PARTIES, PRIME,
+    coins_len, split, split_entry, table_len, threshold, Collecting, Entries, Refusal, MAX_AMOUNT,
+    MAX_PRICES, PARTIES, PRIME,
 };
 
-/// What stands in a place before it is written. It is no share.
+/// What stands in a place before it is written. It is no share. The iterator
+/// puts it there.
 const BEFORE: u64 = u64::MAX;
 
 /// A table that a bidder may bid: demand from the largest amount down, and
@@ -99,6 +100,21 @@ fn one_entry_changes_one_place() {
     }
 }
 
+/// A desk that is short of room takes each word as it is written.
+#[test]
+fn one_slice_serves_all_parties_in_turn() {
+    let (n, k) = (5, 3);
+    let (table, coins) = (table(k), coins(n, k));
+    let mut shares = vec![BEFORE; table_len(k)];
+    for entry in 1..=2 * k {
+        let place = entry as usize - 1;
+        for own in 1..=n {
+            shares = by_entries((n, own, k), [entry], &table, &coins, shares);
+            assert_eq!(shares[place], whole(n, own, k, &table, &coins)[place]);
+        }
+    }
+}
+
 /// Asks for one entry of a bid among five parties, who have two coins for each.
 /// A refusal has changed nothing.
 fn try_entry(entry: u64, table: &[u64], coins: &[u64], length: usize) -> Result<(), Refusal> {
@@ -170,10 +186,10 @@ fn the_iterator_writes_what_is_split_at_once_from_the_words_it_drew() {
     for n in PARTIES {
         for k in [1, 2, 5, 64, MAX_PRICES] {
             let (table, coins) = (table(k), coins(n, k));
-            let mut shares = vec![BEFORE; n as usize * table_len(k)];
+            let mut shares = vec![0; n as usize * table_len(k)];
             let mut drawn = coins.iter().copied();
-            let source = || drawn.next().unwrap();
-            let entries = Entries::new(n, k, &table, &mut shares, source).unwrap();
+            let mut source = || drawn.next().unwrap();
+            let entries = Entries::new(n, k, &table, &mut shares, &mut source).unwrap();
             assert_eq!(entries.write_all(), Ok(()));
             assert_eq!(drawn.next(), None);
             for (own, shares) in (1..).zip(shares.chunks(table_len(k))) {
@@ -188,12 +204,12 @@ fn each_item_is_an_entry_with_its_own_t_words() {
     for n in PARTIES {
         let k = 3;
         let drawn = Cell::new(0);
-        let source = || {
+        let mut source = || {
             drawn.set(drawn.get() + 1);
             7
         };
         let (table, mut shares) = (table(k), vec![0; n as usize * table_len(k)]);
-        let mut entries = Entries::new(n, k, &table, &mut shares, source).unwrap();
+        let mut entries = Entries::new(n, k, &table, &mut shares, &mut source).unwrap();
         for entry in 1..=6 {
             assert_eq!(drawn.get(), (entry - 1) * threshold(n));
             assert_eq!(entries.size_hint(), (1, Some(7 - entry)));
@@ -212,14 +228,63 @@ fn each_item_is_an_entry_with_its_own_t_words() {
 fn the_rest_is_written_all() {
     let (n, k) = (5, 4);
     let (table, coins) = (table(k), coins(n, k));
-    let mut shares = vec![BEFORE; n as usize * table_len(k)];
+    let mut shares = vec![0; n as usize * table_len(k)];
     let mut drawn = coins.iter().copied();
-    let source = || drawn.next().unwrap();
-    let mut entries = Entries::new(n, k, &table, &mut shares, source).unwrap();
+    let mut source = || drawn.next().unwrap();
+    let mut entries = Entries::new(n, k, &table, &mut shares, &mut source).unwrap();
     assert_eq!(entries.nth(2), Some(Ok(3)));
     assert_eq!(entries.write_all(), Ok(()));
     for (own, shares) in (1..).zip(shares.chunks(table_len(k))) {
         assert_eq!(shares, whole(n, own, k, &table, &coins));
+    }
+}
+
+/// The source is lent, even one that could be copied: from copies each bid would
+/// have the same coins.
+#[test]
+fn the_next_bid_goes_on_with_the_source_from_where_this_one_ended() {
+    let (n, k) = (5, 3);
+    let (table, length) = (table(k), coins_len(n, k) as u64);
+    let mut drawn = 0;
+    let mut source = move || {
+        drawn += 1;
+        drawn
+    };
+    // It is `Copy`.
+    let _copy = source;
+    for bid in 0..3 {
+        let mut shares = vec![0; n as usize * table_len(k)];
+        let entries = Entries::new(n, k, &table, &mut shares, &mut source).unwrap();
+        assert_eq!(entries.write_all(), Ok(()));
+        let coins: Vec<u64> = (1..=length).map(|coin| bid * length + coin).collect();
+        for (own, shares) in (1..).zip(shares.chunks(table_len(k))) {
+            assert_eq!(shares, whole(n, own, k, &table, &coins));
+        }
+    }
+}
+
+/// A bid that is not whole is added by no party, whatever stood in its places.
+#[test]
+fn a_place_that_the_iterator_did_not_come_to_is_no_share() {
+    let (n, k) = (5, 2);
+    let table = table(k);
+    for before in [0, 7, PRIME - 1] {
+        for written in 0..=table_len(k) {
+            let mut shares = vec![before; n as usize * table_len(k)];
+            let mut source = || 31;
+            let entries = Entries::new(n, k, &table, &mut shares, &mut source).unwrap();
+            assert!(entries.take(written).all(|entry| entry.is_ok()));
+            let expected = if written == table_len(k) {
+                Ok(())
+            } else {
+                Err(Refusal::ShareOutOfRange)
+            };
+            for (own, shares) in (1..).zip(shares.chunks(table_len(k))) {
+                let mut totals = vec![0; table_len(k)];
+                let mut session = Collecting::open(n, own, k, &mut totals).unwrap();
+                assert_eq!(session.add(&mut totals, 1, shares), expected);
+            }
+        }
     }
 }
 
@@ -230,13 +295,13 @@ fn a_word_that_is_no_coin_ends_it_and_no_party_has_that_entry() {
     let (table, coins) = (table(k), coins(n, k));
     for (worn, word) in (0..coins.len()).flat_map(|place| [(place, PRIME), (place, u64::MAX)]) {
         let refused = (worn / threshold(n)) as u64 + 1;
-        let mut shares = vec![BEFORE; n as usize * table_len(k)];
+        let mut shares = vec![0; n as usize * table_len(k)];
         let mut places = 0..;
-        let source = || match places.next().unwrap() {
+        let mut source = || match places.next().unwrap() {
             place if place == worn => word,
             place => coins[place],
         };
-        let mut entries = Entries::new(n, k, &table, &mut shares, source).unwrap();
+        let mut entries = Entries::new(n, k, &table, &mut shares, &mut source).unwrap();
         for entry in 1..refused {
             assert_eq!(entries.next(), Some(Ok(entry)));
         }
@@ -266,22 +331,24 @@ fn a_table_is_refused_before_any_party_has_an_entry() {
         ([5, 6, 1, 4], Refusal::NotMonotone),
         ([5, 2, 4, 1], Refusal::NotMonotone),
     ] {
-        let mut shares = [BEFORE; 3 * 4];
-        let entries = Entries::new(3, 2, &table, &mut shares, || 7).unwrap();
+        let (mut shares, mut source) = ([0; 3 * 4], || 7);
+        let entries = Entries::new(3, 2, &table, &mut shares, &mut source).unwrap();
         assert_eq!(entries.write_all(), Err(refusal));
-        let mut entries = Entries::new(3, 2, &table, &mut shares, || 7).unwrap();
+        let mut entries = Entries::new(3, 2, &table, &mut shares, &mut source).unwrap();
         assert_eq!(entries.next(), Some(Err(refusal)));
         assert_eq!(entries.next(), None);
         assert_eq!(shares, [BEFORE; 3 * 4]);
     }
 }
 
-/// Makes an iterator with a source that must not be asked.
+/// Makes an iterator with a source that must not be asked. Refused, it leaves
+/// the shares as they were; else what they held is gone.
 fn refused_entries(n: u64, k: u64, table: usize, shares: usize) -> Option<Refusal> {
-    let (table, mut shares) = (vec![0; table], vec![BEFORE; shares]);
-    let source = || -> u64 { panic!("nothing is drawn yet") };
-    let refusal = Entries::new(n, k, &table, &mut shares, source).err();
-    assert!(shares.iter().all(|&share| share == BEFORE));
+    let (table, mut shares) = (vec![0; table], vec![7; shares]);
+    let mut source = || -> u64 { panic!("nothing is drawn yet") };
+    let refusal = Entries::new(n, k, &table, &mut shares, &mut source).err();
+    let expected = if refusal.is_some() { 7 } else { BEFORE };
+    assert!(shares.iter().all(|&share| share == expected));
     refusal
 }
 
@@ -328,10 +395,10 @@ fn what_no_iterator_is_made_of() {
 
 #[test]
 fn neither_table_nor_shares_are_shown() {
-    let (table, mut shares) = ([5, 3], [BEFORE; 6]);
+    let (table, mut shares) = ([5, 3], [0; 6]);
     let mut coins = [7, PRIME].into_iter();
-    let source = || coins.next().unwrap();
-    let mut entries = Entries::new(3, 1, &table, &mut shares, source).unwrap();
+    let mut source = || coins.next().unwrap();
+    let mut entries = Entries::new(3, 1, &table, &mut shares, &mut source).unwrap();
     entries.next();
     let shown = "Entries { n: 3, k: 1, written: 1, refused: None, .. }";
     assert_eq!(format!("{entries:?}"), shown);
@@ -340,12 +407,17 @@ fn neither_table_nor_shares_are_shown() {
     assert_eq!(format!("{entries:?}"), shown);
 }
 
-/// Party `own`'s share of one entry of a bid among nine, from these coins.
-fn share(own: u64, entry: u64, table: &[u64], coins: &[u64]) -> u64 {
+/// Party `own`'s share of one entry of a bid among n, from these coins.
+fn share(n: u64, own: u64, entry: u64, table: &[u64], coins: &[u64]) -> u64 {
     let k = table.len() as u64 / 2;
     let mut shares = vec![BEFORE; table.len()];
-    split_entry(9, own, k, entry, table, coins, &mut shares).unwrap();
+    split_entry(n, own, k, entry, table, coins, &mut shares).unwrap();
     shares[entry as usize - 1]
+}
+
+/// What two shares differ by.
+fn difference(one: u64, other: u64) -> u64 {
+    (one + PRIME - other) % PRIME
 }
 
 /// Why every entry has new coins: from the same ones, what two amounts differ by
@@ -355,28 +427,78 @@ fn amounts_are_given_away_by_coins_used_again() {
     let coins = &coins(9, 1)[..4];
     let (table, another) = ([9_000, 8_200, 70, 950], [4_444, 10, 0, 0]);
     for own in 1..=9 {
-        let read = |a: u64, b: u64| (a + PRIME - b) % PRIME;
-        let first = share(own, 1, &table, coins);
+        let first = share(9, own, 1, &table, coins);
+        let read = |entry, table: &[u64]| difference(first, share(9, own, entry, table, coins));
         // Two entries of a bid.
-        assert_eq!(read(first, share(own, 2, &table, coins)), 9_000 - 8_200);
-        assert_eq!(read(first, share(own, 4, &table, coins)), 9_000 - 950);
+        assert_eq!(read(2, &table), 9_000 - 8_200);
+        assert_eq!(read(4, &table), 9_000 - 950);
         // An entry of another bid, or written anew with another amount.
-        assert_eq!(read(first, share(own, 1, &another, coins)), 9_000 - 4_444);
+        assert_eq!(read(1, &another), 9_000 - 4_444);
     }
 }
 
 /// So it is with a source that repeats itself, and nothing tells.
 #[test]
 fn amounts_are_given_away_by_a_source_that_repeats_itself() {
-    let (table, mut shares) = ([9_000, 8_200, 70, 950], [BEFORE; 5 * 4]);
+    let (table, mut shares) = ([9_000, 8_200, 70, 950], [0; 5 * 4]);
     let mut coins = [31, 47].into_iter().cycle();
-    let source = || coins.next().unwrap();
-    let entries = Entries::new(5, 2, &table, &mut shares, source).unwrap();
+    let mut source = || coins.next().unwrap();
+    let entries = Entries::new(5, 2, &table, &mut shares, &mut source).unwrap();
     assert_eq!(entries.write_all(), Ok(()));
     for shares in shares.chunks(4) {
         assert_eq!(shares[0] - shares[1], 9_000 - 8_200);
         assert_eq!(shares[3] - shares[2], 950 - 70);
     }
+}
+
+/// Any two of five parties put together what they have: the same secret, and
+/// added to it one unknown word times the party's weight. Crosswise that word
+/// cancels, and a small secret is read.
+fn assert_two_read(secret: u64, weight: impl Fn(u64) -> u64, has: impl Fn(u64) -> u64) {
+    let times = |weight: u64, word: u64| u128::from(weight) * u128::from(word);
+    for other in 2..=5 {
+        for own in 1..other {
+            let (less, more) = (weight(own), weight(other));
+            let crossed = times(more, has(own)) + times(less, PRIME - has(other));
+            let crossed = (crossed % u128::from(PRIME)) as u64;
+            assert_eq!(crossed / (more - less), secret);
+        }
+    }
+}
+
+/// Where one of two coins recurs, two parties read what two amounts differ by,
+/// and one does not.
+#[test]
+fn amounts_are_given_away_to_two_parties_by_one_coin_of_two_used_again() {
+    let coins = &coins(5, 2)[..3];
+    let (table, another) = ([9_000, 70], [4_444, 0]);
+    // The place of the coin that is new.
+    for new in 0..2 {
+        let weight = |own: u64| own.pow(new as u32 + 1);
+        let mut again = [coins[0], coins[1]];
+        again[new] = coins[2];
+        assert_two_read(9_000 - 4_444, weight, |own| {
+            let share = |table: &[u64], coins: &[u64]| share(5, own, 1, table, coins);
+            difference(share(&table, &coins[..2]), share(&another, &again))
+        });
+        // A party alone has the same share of another amount.
+        let mut fits = again;
+        fits[new] -= 1;
+        for own in 1..=5 {
+            let larger = [4_444 + weight(own), 0];
+            let held = share(5, own, 1, &another, &again);
+            assert_eq!(share(5, own, 1, &larger, &fits), held);
+        }
+    }
+}
+
+/// One coin twice within an entry gives two parties the amount itself.
+#[test]
+fn an_amount_is_given_away_to_two_parties_by_one_coin_twice() {
+    let coin = coins(5, 1)[0];
+    let weight = |own: u64| own + own * own;
+    let has = |own: u64| share(5, own, 1, &[9_000, 70], &[coin, coin]);
+    assert_two_read(9_000, weight, has);
 }
 
 /// Why shares are handed out once all entries are written: zeros that are left

@@ -1,8 +1,8 @@
 //! The two types of a session, and storing and resuming each.
 
 use clockivy::{
-    deal, deal_bytes_len, sheets_len, split, words, Answer, Collecting, Refusal, Speaking, PRIME,
-    RECORD_LEN, ROLL_LEN, SHEET_LEN, STORED_LEN,
+    deal, deal_bytes_len, sheets_len, split, split_entry, words, Answer, Collecting, Refusal,
+    Speaking, PRIME, RECORD_LEN, ROLL_LEN, SHEET_LEN, STORED_LEN,
 };
 
 const N: u64 = 3;
@@ -34,10 +34,15 @@ struct Kept {
     sheets: Vec<u64>,
 }
 
-fn shares(own: u64) -> [u64; 4] {
+/// A party's shares of the table from these coins.
+fn split_from(own: u64, coins: [u64; 4]) -> [u64; 4] {
     let mut shares = [0; 4];
-    split(N, own, K, &TABLE, &[11, 12, 13, 14], &mut shares).unwrap();
+    split(N, own, K, &TABLE, &coins, &mut shares).unwrap();
     shares
+}
+
+fn shares(own: u64) -> [u64; 4] {
+    split_from(own, [11, 12, 13, 14])
 }
 
 fn sheets(own: u64) -> Vec<u64> {
@@ -357,15 +362,12 @@ fn bids_in_another_order_leave_the_same() {
     }
 }
 
-/// What three parties reply to round 1. The first two have a second bid from
-/// one splitting; the third has it from these coins, or not at all.
-fn heard_with(third: Option<[u64; 4]>) -> Vec<Result<(), Refusal>> {
+/// What three parties reply to round 1, each with its shares of a second bid,
+/// or without it.
+fn heard_with(second: impl Fn(u64) -> Option<[u64; 4]>) -> Vec<Result<(), Refusal>> {
     let mut kept = [1, 2, 3].map(collected);
-    let coins = [Some(COINS), Some(COINS), third];
-    for (own, ((session, kept), coins)) in (1..).zip(kept.iter_mut().zip(coins)) {
-        if let Some(coins) = coins {
-            let mut shares = [0; 4];
-            split(N, own, K, &TABLE, &coins, &mut shares).unwrap();
+    for (own, (session, kept)) in (1..).zip(&mut kept) {
+        if let Some(shares) = second(own) {
             session.add(&mut kept.totals, 1, &shares).unwrap();
         }
     }
@@ -385,15 +387,24 @@ fn heard_with(third: Option<[u64; 4]>) -> Vec<Result<(), Refusal>> {
 /// The coins of a second bid.
 const COINS: [u64; 4] = [21, 22, 23, 24];
 
+/// What they reply where the first two have the second bid from one splitting;
+/// the third has it from these coins, or not at all.
+fn heard_with_third(third: Option<[u64; 4]>) -> Vec<Result<(), Refusal>> {
+    heard_with(|own| {
+        let coins = if own == 3 { third } else { Some(COINS) };
+        coins.map(|coins| split_from(own, coins))
+    })
+}
+
 /// Why rolls are compared before the first message: what one party lacks, or
 /// has from another splitting, shows in round 1, when no bid may be added.
 #[test]
 fn a_bid_missing_or_split_anew_at_one_party_is_found_in_round_1() {
-    assert_eq!(heard_with(Some(COINS)), [Ok(()); 3]);
+    assert_eq!(heard_with_third(Some(COINS)), [Ok(()); 3]);
     // Coins that all moved alike would cancel in demand minus supply; that real
     // ones do has a chance of about 1 in 2^61.
     for third in [None, Some([31, 47, 59, 88])] {
-        assert_eq!(heard_with(third), [Err(Refusal::Inconsistent); 3]);
+        assert_eq!(heard_with_third(third), [Err(Refusal::Inconsistent); 3]);
     }
 }
 
@@ -408,7 +419,36 @@ fn an_entry_split_anew_at_one_party_is_found_where_it_is_probed() {
             1 | 3 => Err(Refusal::Inconsistent),
             _ => Ok(()),
         };
-        assert_eq!(heard_with(Some(third)), [reply; 3]);
+        assert_eq!(heard_with_third(Some(third)), [reply; 3]);
+    }
+}
+
+/// Why the shares are filled with what is no share before the first entry: a
+/// place of zeros that is left out at all parties is accepted. Left out at some
+/// of them, it is found where it is probed.
+#[test]
+fn a_place_of_zeros_that_is_left_out_is_accepted_from_all_parties_alone() {
+    let some = [&[1][..], &[2], &[3], &[1, 2], &[1, 3], &[2, 3]];
+    for left_out in 1..=4 {
+        let heard_without = |parties: &[u64]| {
+            heard_with(|own| {
+                let mut shares = [0; 4];
+                for (entry, coin) in (1..).zip(COINS) {
+                    if entry != left_out || !parties.contains(&own) {
+                        split_entry(N, own, K, entry, &TABLE, &[coin], &mut shares).unwrap();
+                    }
+                }
+                Some(shares)
+            })
+        };
+        assert_eq!(heard_without(&[1, 2, 3]), [Ok(()); 3]);
+        let reply = match left_out {
+            1 | 3 => Err(Refusal::Inconsistent),
+            _ => Ok(()),
+        };
+        for parties in some {
+            assert_eq!(heard_without(parties), [reply; 3]);
+        }
     }
 }
 

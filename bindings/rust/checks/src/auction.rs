@@ -118,14 +118,15 @@ impl Auction<'_> {
         Ok(())
     }
 
-    /// A party's shares of a bid. Now and then they are written once more, entry
-    /// by entry, and come out the same.
+    /// A party's shares of a bid. Now and then, less often where there are many
+    /// prices, they are written once more, entry by entry, and come out the same.
     fn split(&mut self, own: u64, place: usize, coins: &[u64]) -> Result<Vec<u64>, Difference> {
         let table = &self.bids[place].table;
         let shares = self.rng.words(table.len(), Rng::word);
         let call = Call::split(self.n, own, self.k, table, coins, &shares);
         let shares = self.accepted(call)?.words[2].to_vec();
-        if self.rng.once_in(4) {
+        let times = if self.k > 100 { 16 } else { 4 };
+        if self.rng.once_in(times) {
             let by_entries = self.split_by_entries(own, place, coins)?;
             self.holds(by_entries == shares, "the entries are not those split")?;
         }

@@ -164,13 +164,13 @@ fn measure(case: &Case, inputs: &mut Inputs, plan: &Plan) -> String {
     }
     let mut ratios: Vec<f64> = timed.iter().zip(&beside).map(|(t, b)| t / b).collect();
     format!(
-        "| {} | {} | {} | {:.2} | {:.2} | {:.2} |",
+        "| {} | {} | {} | {} | {} | {} |",
         case.name,
         shown(middle(&mut timed)),
         shown(middle(&mut beside)),
-        middle(&mut ratios),
-        ratios[0],
-        ratios[plan.repeats - 1]
+        digits(middle(&mut ratios)),
+        digits(ratios[0]),
+        digits(ratios[plan.repeats - 1])
     )
 }
 
@@ -193,8 +193,18 @@ fn middle(figures: &mut [f64]) -> f64 {
 fn shown(seconds: f64) -> String {
     match seconds {
         s if s < 1e-6 => format!("{:.0} ns", s * 1e9),
-        s if s < 1e-3 => format!("{:.2} us", s * 1e6),
+        s if s < 1e-4 => format!("{:.2} us", s * 1e6),
+        s if s < 1e-3 => format!("{:.3} ms", s * 1e3),
         s => format!("{:.1} ms", s * 1e3),
+    }
+}
+
+/// A ratio, with three digits.
+fn digits(ratio: f64) -> String {
+    match ratio {
+        r if r < 10.0 => format!("{r:.2}"),
+        r if r < 100.0 => format!("{r:.1}"),
+        r => format!("{r:.0}"),
     }
 }
 

@@ -1,6 +1,10 @@
 //! Compares the verified library with the plain reference, call by call:
 //!
 //!     cargo run --release --bin differential [CALLS [SEED]]
+//!
+//! It passes where no call made a difference and every reply has come up. Whole
+//! auctions come first, however few calls are asked for, and single calls fill
+//! up the number; without enough of these, some replies may not come up.
 
 use std::env;
 use std::process::ExitCode;
@@ -39,26 +43,29 @@ fn main() -> ExitCode {
         tally.auctions(),
         start.elapsed().as_secs_f64()
     );
-    match outcome.and_then(|()| complete(&tally)) {
-        Ok(()) => {
-            println!("differential: passed, every reply, record and buffer the same");
-            ExitCode::SUCCESS
-        }
-        Err(Difference(what)) => {
-            println!("{what}");
-            println!("differential: FAILED");
-            ExitCode::FAILURE
-        }
+    if let Err(Difference(what)) = outcome.and_then(|()| expected(&tally)) {
+        println!("{what}");
+        println!("differential: FAILED");
+        return ExitCode::FAILURE;
     }
+    if let Some((kind, reply)) = tally.unreached().first() {
+        println!("{} never replied {reply}", kind.name());
+        // As many calls as are made by default have to see them all.
+        if tally.calls() < CALLS {
+            println!("differential: no difference, but too few calls to see every reply");
+        } else {
+            println!("differential: FAILED");
+        }
+        return ExitCode::FAILURE;
+    }
+    println!("differential: passed, every reply, record and buffer the same");
+    ExitCode::SUCCESS
 }
 
-/// Every reply that a call can give has come up, and no other.
-fn complete(tally: &Tally) -> Result<(), Difference> {
-    if let Some((kind, reply)) = tally.unreached().first() {
-        return Err(Difference(format!("{} never replied {reply}", kind.name())));
+/// No reply has come up that a call cannot give.
+fn expected(tally: &Tally) -> Result<(), Difference> {
+    match tally.unexpected().first() {
+        Some((kind, reply)) => Err(Difference(format!("{} replied {reply}", kind.name()))),
+        None => Ok(()),
     }
-    if let Some((kind, reply)) = tally.unexpected().first() {
-        return Err(Difference(format!("{} replied {reply}", kind.name())));
-    }
-    Ok(())
 }
