@@ -39,9 +39,9 @@ module _ (n own k entry : ℕ) (table coins shares : List ℕ) where
       kept-either _ _ shares (λ (l : List ℕ). getD l i 0 ≡ getD shares i 0) (λ h. getD-set-other shares (entry - 1) i _ 0 other) refl
 
   -- a refused one changes none
-  pub none-refused : (why : Refusal) → split-entry-judgement n own k entry table coins shares ≡ Refused why
+  pub refused-same : (why : Refusal) → split-entry-judgement n own k entry table coins shares ≡ Refused why
       → split-entry-left n own k entry table coins shares ≡ shares
-  none-refused why e = kept-old _ _ shares why e
+  refused-same why e = kept-old _ _ shares why e
 
   -- an accepted one writes its share there
   pub its-place : split-entry-judgement n own k entry table coins shares ≡ Accepted
@@ -217,5 +217,5 @@ judged-alike n own k table coins shares k1 l = (
               monotone = first .faultless .monotone;
             };
       })),
-  (λ whole e e1 e2. let S = splits n own k table coins shares whole in entry-accepted S e (ap₂ _&&_ (le-leb 1 e e1) (le-leb e (2 * k) e2)) shares (S .shares-long)),
+  (λ h e e1 e2. let S = splits n own k table coins shares h in entry-accepted S e (ap₂ _&&_ (le-leb 1 e e1) (le-leb e (2 * k) e2)) shares (S .shares-long)),
 )
