@@ -38,7 +38,7 @@ use Rattle.record.proofs.Updates.{fresh-sound}
 use Rattle.session.specs.Add.{add-judgement, add-reply, add-left}
 use Rattle.session.proofs.Laws.{open-accepted, add-accepted}
 use Rattle.auction.specs.Auction.{Auction, IsAuction}
-use Rattle.auction.specs.Coins.{Coins, DrawnBid, flat}
+use Rattle.auction.specs.Coins.{DrawnBid, flat}
 use Rattle.auction.specs.Desk.{Way, whole, by-entries, EachOnce, Desk, Complete}
 use Rattle.auction.specs.Call.{judgement, is-accepted}
 use Rattle.auction.specs.Canonical.{Seat, zeros, seated, entry-calls, bundle-calls, bundle, shares-for, after-adding}
@@ -174,7 +174,7 @@ module _ {a : Auction} (A : IsAuction a) (j : ℕ) (h1 : 1 ≤ j) (hn : j ≤ a 
   pub opening-accepted : (totals : List ℕ) → length totals ≡ 2 * a .k → open-judgement (a .n) j (a .k) totals ≡ Accepted
   opening-accepted totals l = open-accepted (a .n) j (a .k) totals (record { listed = member; totals-long = l })
 
-module _ {a : Auction} (c : Coins) (A : IsAuction a) (j : ℕ) (h1 : 1 ≤ j) (hn : j ≤ a .n) where
+module _ {a : Auction} (A : IsAuction a) (j : ℕ) (h1 : 1 ≤ j) (hn : j ≤ a .n) where
   pub opened : open-judgement (a .n) j (a .k) (zeros a) ≡ Accepted
   opened = opening-accepted A j h1 hn (zeros a) (length-replicate (2 * a .k) 0)
 
@@ -215,7 +215,7 @@ module _ {a : Auction} (c : Coins) (A : IsAuction a) (j : ℕ) (h1 : 1 ≤ j) (h
         ∙ split-writes (a .n) j (a .k) (member A j h1 hn) b lent B (w .1)
 
     pub shares-for-party : (desk : Desk) → Complete (a .k) desk → (roll : Roll) (fs : List (List ℕ))
-        → shares-for a c desk b (holding-seat a roll fs j) ≡ at-party j (entries (b .0 .table) (b .1))
+        → shares-for a desk b (holding-seat a roll fs j) ≡ at-party j (entries (b .0 .table) (b .1))
     unfolding shares-for holding-seat holding
     shares-for-party desk D roll fs = bundle-written (desk (b .0 .bidder) j) (D (b .0 .bidder) j)
 
@@ -239,7 +239,7 @@ module _ {a : Auction} (c : Coins) (A : IsAuction a) (j : ℕ) (h1 : 1 ≤ j) (h
             })
 
         pub added-holding : (desk : Desk) → Complete (a .k) desk
-            → after-adding a c desk b (holding-seat a roll fs j) ≡ holding-seat a (mark roll (b .0 .bidder)) (added-polynomials fs (entries (b .0 .table) (b .1))) j
+            → after-adding a desk b (holding-seat a roll fs j) ≡ holding-seat a (mark roll (b .0 .bidder)) (added-polynomials fs (entries (b .0 .table) (b .1))) j
         unfolding after-adding holding-seat
         added-holding desk D =
             let q : Party = holding (a .n) (a .k) roll j in

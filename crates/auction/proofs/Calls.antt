@@ -14,7 +14,6 @@ use Rattle.bid.specs.Entry.{split-entry-left, entry-coins}
 use Rattle.ranges.proofs.Loops.{and-left, and-right, and-false, same-from}
 use Rattle.comparison.specs.Probe.{Each}
 use Rattle.auction.specs.Auction.{Auction}
-use Rattle.auction.specs.Coins.{Coins}
 use Rattle.auction.specs.Desk.{Way, whole, by-entries}
 use Rattle.auction.specs.Call.{Call, split-call, split-entry-call, accepted, whose, of-party, given}
 use Rattle.auction.specs.Canonical.{zeros, entry-calls, bundle-calls}
@@ -171,7 +170,7 @@ own-flatten j f [] h = refl
 own-flatten j f (x ∷ xs) h = own-append j (f x) (flatten (map f xs)) ∙ ap₂ _++_ (h x) (own-flatten j f xs h)
 
 -- a bundle is written by nobody's own calls
-module _ (a : Auction) (c : Coins) (j party : ℕ) (table coins : List ℕ) where
+module _ (a : Auction) (j party : ℕ) (table coins : List ℕ) where
   own-entries : (order lent : List ℕ) → own j (entry-calls a party table coins order lent) ≡ []
   unfolding entry-calls whose of-party select
   own-entries [] lent = refl

@@ -110,11 +110,11 @@ module _ (j : ℕ) where
         split Accepted = and-false (sound (fresh (a .n) i (a .k))) (eqb i j) h
         split (Refused why) = rw blank-unsound
 
-    away-added : (b : DrawnBid) (s : Seat) → Away s → Away (after-adding a c desk b s)
+    away-added : (b : DrawnBid) (s : Seat) → Away s → Away (after-adding a desk b s)
     unfolding after-adding
     away-added b s h =
-        left-away (s .party) (entered (s .party) (b .0 .bidder)) (add-judgement (s .party) (s .totals) (b .0 .bidder) (shares-for a c desk b s))
-        (λ e. no-add (s .party) e (s .totals) (b .0 .bidder) (shares-for a c desk b s)) (entered-same (s .party) (b .0 .bidder) .own) h
+        left-away (s .party) (entered (s .party) (b .0 .bidder)) (add-judgement (s .party) (s .totals) (b .0 .bidder) (shares-for a desk b s))
+        (λ e. no-add (s .party) e (s .totals) (b .0 .bidder) (shares-for a desk b s)) (entered-same (s .party) (b .0 .bidder) .own) h
 
     away-heard : (words : List ℕ) (s : Seat) → Away s → Away (after-hearing a c words s)
     unfolding after-hearing
@@ -136,14 +136,14 @@ module _ (j : ℕ) where
     unfolding hear-by judgement whose of-party
     none-hears words ss h = none-map Away (hear-by a c words) (λ s e. none-by (s .party) _ (λ u. no-hear (s .party) u (s .totals) (s .sheets) words) e) ss h
 
-    none-adds : (b : DrawnBid) (ss : List Seat) → Each Away ss → own j (map (add-by a c desk b) ss) ≡ []
+    none-adds : (b : DrawnBid) (ss : List Seat) → Each Away ss → own j (map (add-by a desk b) ss) ≡ []
     unfolding add-by judgement whose of-party
-    none-adds b ss h = none-map Away (add-by a c desk b) (λ s e. none-by (s .party) _ (λ u. no-add (s .party) u (s .totals) (b .0 .bidder) (shares-for a c desk b s)) e) ss h
+    none-adds b ss h = none-map Away (add-by a desk b) (λ s e. none-by (s .party) _ (λ u. no-add (s .party) u (s .totals) (b .0 .bidder) (shares-for a desk b s)) e) ss h
 
-    none-splits : (b : DrawnBid) (ss : List Seat) → own j (flatten (map (splits-for a c desk b) ss)) ≡ []
+    none-splits : (b : DrawnBid) (ss : List Seat) → own j (flatten (map (splits-for a desk b) ss)) ≡ []
     unfolding splits-for
     none-splits b ss =
-        own-flatten j (splits-for a c desk b) ss (λ s. own-bundle a c j (s .party .own) (b .0 .table) (flat (b .1)) (desk (b .0 .bidder) (s .party .own)))
+        own-flatten j (splits-for a desk b) ss (λ s. own-bundle a j (s .party .own) (b .0 .table) (flat (b .1)) (desk (b .0 .bidder) (s .party .own)))
 
     none-deals : (ss : List Seat) → own j (deals a c ss) ≡ []
     unfolding deals deal-for whose of-party
@@ -163,7 +163,7 @@ module _ (j : ℕ) where
     none-bids [] ss h =
         none-append _ _ (none-deals ss) (none-rounds (enough-rounds a) (map (after-dealing a c) ss) (away-map Away (after-dealing a c) (λ s e. e) ss h))
     none-bids (b ∷ bs) ss h =
-        let rest = none-bids bs (map (after-adding a c desk b) ss) (away-map Away (after-adding a c desk b) (away-added b) ss h) in
+        let rest = none-bids bs (map (after-adding a desk b) ss) (away-map Away (after-adding a desk b) (away-added b) ss h) in
         none-append _ _ (none-splits b ss) (none-append _ _ (none-adds b ss h) rest)
 
     module _ (outside : 1 ≤ j → j ≤ a .n → ⊥) where

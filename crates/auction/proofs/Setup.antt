@@ -103,7 +103,7 @@ module _ {a : Auction} {c : Coins} (A : IsAuction a) (C : InRange a c) where
   -- ---- the seats
 
   pub seated-all : map (seated a) (points (a .n)) ≡ map (holding-seat a empty (no-totals a)) (points (a .n))
-  seated-all = map-points (seated a) (holding-seat a empty (no-totals a)) (a .n) (λ j h1 hn. seated-holding c A j h1 hn)
+  seated-all = map-points (seated a) (holding-seat a empty (no-totals a)) (a .n) (λ j h1 hn. seated-holding A j h1 hn)
 
   all-entering : Entering a empty (zip (a .bids) (c .bids))
   all-entering = entering-all A (c .bids) (C .bids-many)
@@ -135,13 +135,13 @@ module _ {a : Auction} {c : Coins} (A : IsAuction a) (C : InRange a c) where
 
   pub open-own : (j : ℕ) → 1 ≤ j → j ≤ a .n → Own j (open-at a c j)
   unfolding open-at judgement whose of-party
-  open-own j h1 hn = record { accepted = accepts (open-at a c j) (opened c A j h1 hn); whose = λ i. refl }
+  open-own j h1 hn = record { accepted = accepts (open-at a c j) (opened A j h1 hn); whose = λ i. refl }
 
   pub add-own : (b : DrawnBid) → GoodBid (a .k) t b → (roll : Roll) (fs : List (List ℕ)) → Held (a .k) t fs → Proper roll → Free roll (b .0 .bidder)
       → (j : ℕ) → 1 ≤ j → j ≤ a .n → Own j (add-at a c b roll fs j)
   unfolding add-at judgement whose of-party holding
   add-own b B roll fs F P free j h1 hn =
-      record { accepted = accepts (add-at a c b roll fs j) (adding-accepted c A j h1 hn b B roll fs F P free); whose = λ i. refl }
+      record { accepted = accepts (add-at a c b roll fs j) (adding-accepted A j h1 hn b B roll fs F P free); whose = λ i. refl }
 
   pub deal-at-accepted : (j : ℕ) → 1 ≤ j → j ≤ a .n → (s : SheetCoins) → SheetInRange t s → accepted (deal-at a c j s) ≡ true
   unfolding deal-at judgement
@@ -159,16 +159,16 @@ module _ {a : Auction} {c : Coins} (A : IsAuction a) (C : InRange a c) where
 
   module _ (desk : Desk) (D : Complete (a .k) desk) where
     splits-holding : (b : DrawnBid) (roll : Roll) (fs : List (List ℕ))
-        → map (splits-for a c desk b) (map (holding-seat a roll fs) (points (a .n))) ≡ map (splits-at a c desk b) (points (a .n))
+        → map (splits-for a desk b) (map (holding-seat a roll fs) (points (a .n))) ≡ map (splits-at a c desk b) (points (a .n))
     unfolding splits-for splits-at holding-seat holding
-    splits-holding b roll fs = map-through (splits-for a c desk b) (holding-seat a roll fs) (splits-at a c desk b) (a .n) (λ j h1 hn. refl)
+    splits-holding b roll fs = map-through (splits-for a desk b) (holding-seat a roll fs) (splits-at a c desk b) (a .n) (λ j h1 hn. refl)
 
     adds-holding : (b : DrawnBid) → GoodBid (a .k) t b → (roll : Roll) (fs : List (List ℕ)) → Held (a .k) t fs
-        → map (add-by a c desk b) (map (holding-seat a roll fs) (points (a .n))) ≡ map (add-at a c b roll fs) (points (a .n))
+        → map (add-by a desk b) (map (holding-seat a roll fs) (points (a .n))) ≡ map (add-at a c b roll fs) (points (a .n))
     unfolding add-by add-at holding-seat
     adds-holding b B roll fs F =
-        map-through (add-by a c desk b) (holding-seat a roll fs) (add-at a c b roll fs) (a .n)
-        (λ j h1 hn. ap (add-call (holding (a .n) (a .k) roll j) (at-party j fs) (b .0 .bidder)) (shares-for-party c A j h1 hn b B desk D roll fs))
+        map-through (add-by a desk b) (holding-seat a roll fs) (add-at a c b roll fs) (a .n)
+        (λ j h1 hn. ap (add-call (holding (a .n) (a .k) roll j) (at-party j fs) (b .0 .bidder)) (shares-for-party A j h1 hn b B desk D roll fs))
 
     from-bids-calls : (bs : List DrawnBid) (roll : Roll) (fs : List (List ℕ)) → Each (GoodBid (a .k) t) bs → Held (a .k) t fs
         → Entering a roll bs → totals-after bs fs ≡ polynomials a c
@@ -187,8 +187,8 @@ module _ {a : Auction} {c : Coins} (A : IsAuction a) (C : InRange a c) where
         ap₂ _++_ (ap flatten (splits-holding b roll fs))
         (ap₂ _++_ (adds-holding b (B .0) roll fs F)
         (ap (from-bids a c desk bs)
-        (map-through (after-adding a c desk b) (holding-seat a roll fs) (holding-seat a (mark roll (b .0 .bidder)) gs) (a .n)
-        (λ j h1 hn. added-holding c A j h1 hn b (B .0) roll fs F (l .proper) (l .enters .0) desk D))
+        (map-through (after-adding a desk b) (holding-seat a roll fs) (holding-seat a (mark roll (b .0 .bidder)) gs) (a .n)
+        (λ j h1 hn. added-holding A j h1 hn b (B .0) roll fs F (l .proper) (l .enters .0) desk D))
         ∙ from-bids-calls bs (mark roll (b .0 .bidder)) gs (B .1) (added-held (a .k) t fs (entries (b .0 .table) (b .1)) F (entries-held (a .k) t b (B .0))) (entering-more a roll b bs l) e))
         ∙ sym (append-assoc splits (adds ++ bid-calls a c desk bs (mark roll (b .0 .bidder)) gs) rest ∙ ap (λ (z : List Call). splits ++ z) (append-assoc adds (bid-calls a c desk bs (mark roll (b .0 .bidder)) gs) rest))
 
@@ -204,7 +204,7 @@ module _ {a : Auction} {c : Coins} (A : IsAuction a) (C : InRange a c) where
 
     splits-at-accepted : (b : DrawnBid) → GoodBid (a .k) t b → (j : ℕ) → 1 ≤ j → j ≤ a .n → all-accepted (splits-at a c desk b j) ≡ true
     unfolding splits-at
-    splits-at-accepted b B j h1 hn = bundle-accepted c A j h1 hn b B (desk (b .0 .bidder) j) (D (b .0 .bidder) j)
+    splits-at-accepted b B j h1 hn = bundle-accepted A j h1 hn b B (desk (b .0 .bidder) j) (D (b .0 .bidder) j)
 
     bids-accepted : (bs : List DrawnBid) (roll : Roll) (fs : List (List ℕ)) → Each (GoodBid (a .k) t) bs → Held (a .k) t fs
         → Entering a roll bs → all-accepted (bid-calls a c desk bs roll fs) ≡ true
@@ -232,7 +232,7 @@ module _ {a : Auction} {c : Coins} (A : IsAuction a) (C : InRange a c) where
 module _ (a : Auction) (c : Coins) (j : ℕ) where
   own-splits : (desk : Desk) (b : DrawnBid) → own j (flatten (map (splits-at a c desk b) (points (a .n)))) ≡ []
   unfolding splits-at
-  own-splits desk b = own-flatten j (splits-at a c desk b) (points (a .n)) (λ i. own-bundle a c j i (b .0 .table) (flat (b .1)) (desk (b .0 .bidder) i))
+  own-splits desk b = own-flatten j (splits-at a c desk b) (points (a .n)) (λ i. own-bundle a j i (b .0 .table) (flat (b .1)) (desk (b .0 .bidder) i))
 
   pub own-deals : (js : List ℕ) → own j (deal-calls a c js) ≡ []
   unfolding deal-calls deal-at whose of-party select

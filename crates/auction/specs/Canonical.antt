@@ -73,7 +73,7 @@ module _ (a : Auction) where
   bundle own table coins whole = split-left (a .n) own (a .k) table coins zeros
   bundle own table coins (by-entries order lent) = entries-left (a .n) own (a .k) table coins order lent
 
-module _ (a : Auction) (c : Coins) (desk : Desk) where
+module _ (a : Auction) (desk : Desk) where
   -- "For each bid in turn the desk writes every keeper's bundle from the same draws, and each keeper adds its own."
   unfoldable pub splits-for : DrawnBid → Seat → List Call
   splits-for b s = bundle-calls a (s .party .own) (b .0 .table) (flat (b .1)) (desk (b .0 .bidder) (s .party .own))
@@ -142,7 +142,7 @@ module _ (a : Auction) (c : Coins) (desk : Desk) where
   unfoldable pub from-bids : List DrawnBid → List Seat → List Call
   from-bids [] ss = deals a c ss ++ from-rounds a c (enough-rounds a) (map (after-dealing a c) ss)
   from-bids (b ∷ bs) ss =
-      flatten (map (splits-for a c desk b) ss) ++ (map (add-by a c desk b) ss ++ from-bids bs (map (after-adding a c desk b) ss))
+      flatten (map (splits-for a desk b) ss) ++ (map (add-by a desk b) ss ++ from-bids bs (map (after-adding a desk b) ss))
 
   unfoldable pub canonical : List Call
   canonical =

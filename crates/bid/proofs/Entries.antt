@@ -30,26 +30,26 @@ use Rattle.bid.proofs.Laws.{length-shares, entry, Splits, split-accepte
 -- ---- one entry, accepted or refused
 
 module _ (n own k entry : ℕ) (table coins shares : List ℕ) where
-  pub length-left : length (split-entry-left n own k entry table coins shares) ≡ length shares
-  length-left = kept-either _ _ shares (λ (l : List ℕ). length l ≡ length shares) (λ h. length-set shares (entry - 1) _) refl
-
-  -- one entry changes one place
-  pub one-place : (i : ℕ) → (i ≡ entry - 1 → ⊥) → getD (split-entry-left n own k entry table coins shares) i 0 ≡ getD shares i 0
-  one-place i other =
-      kept-either _ _ shares (λ (l : List ℕ). getD l i 0 ≡ getD shares i 0) (λ h. getD-set-other shares (entry - 1) i _ 0 other) refl
-
-  -- a refused one changes none
+  -- a refused one changes nothing
   pub refused-same : (why : Refusal) → split-entry-judgement n own k entry table coins shares ≡ Refused why
       → split-entry-left n own k entry table coins shares ≡ shares
   refused-same why e = kept-old _ _ shares why e
 
-  -- an accepted one writes its share there
+  -- an accepted one writes its share at its place
   pub its-place : split-entry-judgement n own k entry table coins shares ≡ Accepted
       → getD (split-entry-left n own k entry table coins shares) (entry - 1) 0 ≡ value amounts (getD table (entry - 1) 0 ∷ coins) own
   its-place e =
       let S = splits-entry n own k entry table coins shares e in
       ap (λ (l : List ℕ). getD l (entry - 1) 0) (kept-new _ _ shares e)
       ∙ getD-set-same shares (entry - 1) _ 0 (omega (arith, S .entry-least, S .entry-most, S .shares-long))
+
+  -- and either changes no other
+  pub one-place : (i : ℕ) → (i ≡ entry - 1 → ⊥) → getD (split-entry-left n own k entry table coins shares) i 0 ≡ getD shares i 0
+  one-place i other =
+      kept-either _ _ shares (λ (l : List ℕ). getD l i 0 ≡ getD shares i 0) (λ h. getD-set-other shares (entry - 1) i _ 0 other) refl
+
+  pub length-left : length (split-entry-left n own k entry table coins shares) ≡ length shares
+  length-left = kept-either _ _ shares (λ (l : List ℕ). length l ≡ length shares) (λ h. length-set shares (entry - 1) _) refl
 
 length-after : (n own k : ℕ) (table coins order shares : List ℕ) → length (entries-left n own k table coins order shares) ≡ length shares
 unfolding entries-left

@@ -53,7 +53,7 @@ module _ {a : Auction} (A : IsAuction a) where
       )
 
   -- what `add_all` leaves
-  pub added-holds : (c : Coins) (b : DrawnBid) → GoodBid (a .k) (threshold (a .n)) b → (roll : Roll) (fs : List (List ℕ))
+  pub added-holds : (b : DrawnBid) → GoodBid (a .k) (threshold (a .n)) b → (roll : Roll) (fs : List (List ℕ))
       → Held (a .k) (threshold (a .n)) fs → Proper roll → Free roll (b .0 .bidder)
       → (parties after : List Party) (totals new : List ℕ) → Holds a roll fs parties totals
       → All (a .n)
@@ -61,9 +61,9 @@ module _ {a : Auction} (A : IsAuction a) where
       × (part (2 * a .k) i new ≡ totals-added (a .n) (a .k) (b .0 .bidder) (b .0 .table) (flat (b .1)) parties totals i))
       → Holds a (mark roll (b .0 .bidder)) (added-polynomials fs (entries (b .0 .table) (b .1))) after new
   unfolding party-added totals-added shares-of after-adding shares-for bundle holding-seat holding
-  added-holds c b B roll fs F P free parties after totals new H e i h =
+  added-holds b B roll fs F P free parties after totals new H e i h =
       let w : List ℕ = shares-of (a .n) (a .k) (i + 1) (b .0 .table) (flat (b .1)) in
-      let s = added-holding c A (i + 1) (omega arith) (omega arith) b B roll fs F P free (λ bidder own. whole) (λ bidder own. tt) in (
+      let s = added-holding A (i + 1) (omega arith) (omega arith) b B roll fs F P free (λ bidder own. whole) (λ bidder own. tt) in (
         e i h .0 ∙ ap₂ (λ (q : Party) (x : List ℕ). add-reply q x (b .0 .bidder) w .party) (H i h .0) (H i h .1) ∙ ap (λ (s : Seat). s .party) s,
         e i h .1 ∙ ap₂ (λ (q : Party) (x : List ℕ). add-left q x (b .0 .bidder) w) (H i h .0) (H i h .1) ∙ ap (λ (s : Seat). s .totals) s,
       )
@@ -115,7 +115,7 @@ pub record Bidding (a : Auction) (bids : ℕ) (input : List ℕ) (whole : List (
   pub good : Each (GoodBid (a .k) (threshold (a .n))) (still (a .k) (threshold (a .n)) (bids - i) (i + 1) input at last)
   pub rest : totals-after (still (a .k) (threshold (a .n)) (bids - i) (i + 1) input at last) behind ≡ whole
 
-module _ {a : Auction} (A : IsAuction a) (c : Coins) (bids : ℕ) (input : List ℕ) (whole : List (List ℕ)) where
+module _ {a : Auction} (A : IsAuction a) (bids : ℕ) (input : List ℕ) (whole : List (List ℕ)) where
   pub bidding-more : (parties new-parties : List Party) (totals new-totals : List ℕ) (at last i : ℕ) → Bidding a bids input whole parties totals at last i
       → i < bids → (new-at new-last : ℕ) → new-at ≡ at + bytes-of (2 * a .k) (drop at input)
       → new-last ≡ later next-coin (2 * a .k * threshold (a .n)) last
@@ -144,7 +144,7 @@ module _ {a : Auction} (A : IsAuction a) (c : Coins) (bids : ℕ) (input : List 
         behind = added-polynomials (B .behind) (entries (b .0 .table) (b .1));
         held = added-held k t (B .behind) (entries (b .0 .table) (b .1)) (B .held) (entries-held k t b (G .0));
         holds =
-            added-holds A c b (G .0) (B .roll) (B .behind) (B .held) (I .proper) (I .enters .0) parties new-parties totals new-totals (B .holds)
+            added-holds A b (G .0) (B .roll) (B .behind) (B .held) (I .proper) (I .enters .0) parties new-parties totals new-totals (B .holds)
             (rw (drawn-flat k t last) added);
         entering = entering-more a (B .roll) b others I;
         good = G .1;

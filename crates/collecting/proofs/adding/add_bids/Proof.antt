@@ -70,7 +70,7 @@ loop-again c =
       c .before .totals .given ∙ l .inv .2,
       bids-left (threshold (a .n)) (a .k) (a .bids) (l .i) _ _ _ h (r .ensures .1) (l .inv .3),
       λ A H.
-          bidding-more A (record { bids = []; sheets = [] }) (a .bids) (a .input .now) _ _ _ _ _ _ _ (l .i) (l .inv .4 A H) h _ _
+          bidding-more A (a .bids) (a .input .now) _ _ _ _ _ _ _ (l .i) (l .inv .4 A H) h _ _
           (r .ensures .0) (r .ensures .1) (r .ensures .2),
     )
 
@@ -83,7 +83,7 @@ returns c =
     let a = c .before .before .before .before .args in
     let e : l .i ≡ a .bids = omega (arith, c .loop-test .left, l .inv .0) in (
       bids-done (threshold (a .n)) (a .k) (a .bids) (l .i) _ _ e (l .inv .3),
-      λ A H. bidding-end A (record { bids = []; sheets = [] }) (a .bids) (a .input .now) _ _ _ _ _ (l .i) (l .inv .4 A H) e,
+      λ A H. bidding-end A (a .bids) (a .input .now) _ _ _ _ _ (l .i) (l .inv .4 A H) e,
     )
 
 pub add-bids-spec : {M : Type 1} → statement M
