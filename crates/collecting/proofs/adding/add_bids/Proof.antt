@@ -1,6 +1,6 @@
 -- `add_bids` meets its contract: i bids are added, and the others are still to be read and drawn. Assumes nothing.
 use mathlib.Core.Path.{_≡_, refl, ap, _∙_}
-use mathlib.Core.List.{[], zip}
+use mathlib.Core.List.{zip}
 use Prim.Native.Nat.{ℕ, _-_, _*_, _≤_, _<_}
 use native.Mathlib.Nat.{sub-zero}
 use native.Mathlib.Omega.{arith}
