@@ -8,7 +8,7 @@
  *   own     the number of the party that a call is for, 1 to n
  *   k       the number of listed prices, 1 to 1,024; indices start from 1
  *   entry   the number of an amount in a bidder's table, 1 to 2k
- *   P       the most probes of a search: log2(k + 1) rounded up
+ *   P       the most probes of a search over k prices: log2(k + 1) rounded up
  *   prime   2^61 - 1; shares of amounts and their coefficients are below it
  *   totals  a party's shares of total demand at each price, then of supply
  *   sheet   a party's preprocessing for one probe, 127 words
@@ -22,9 +22,33 @@
  *   Each party opens a session. A bidder splits its table for each party, with
  *   the same coins: at once (clockivy_split), or entry by entry with t coins at
  *   a time (clockivy_split_entry). Each party adds its shares under the bidder's
- *   number. The dealer writes every party's sheets for P probes, from new coins
- *   for each probe. Then, round after round, each party says a message and
- *   hears all n of them, 33 rounds to a probe, until the answer is there.
+ *   number. The dealer writes every party's sheets for 2P probes, as many as two
+ *   searches may make, from new coins for each probe. Then, round after round,
+ *   each party says a message and hears all n of them, 33 rounds to a probe,
+ *   until the answer is there.
+ *
+ * The two searches
+ *   A probe compares total demand with total supply at one index, which is
+ *   (lo + hi) / 2 rounded down, and opens one bit, the verdict.
+ *   - The first search starts at lo 0 and hi k + 1. Its verdict is 1 where
+ *     demand is at least supply, and then lo becomes the index; on 0 hi does.
+ *     Once hi - lo is 1 it has ended, and lo is i: the highest index at which
+ *     demand is at least supply, or 0 where there is none.
+ *   - The hearing that ends the first search begins the second, at lo 0 and
+ *     hi i + 1; the record keeps i, as first. It compares with the sides
+ *     exchanged: its verdict is 1 where supply is at least demand, and then hi
+ *     becomes the index; on 0 lo does. Once hi - lo is 1 the auction is over,
+ *     and hi is j: the lowest index from 1 to i at which supply is at least
+ *     demand. Where there is none, hi is i + 1.
+ *   Where there is a j, demand equals supply from j to i and nowhere else, and
+ *   the answer is the middle of these, (i + j) / 2 rounded down; where there is
+ *   none, the answer is i. With i 0 the second search is over as it begins, and
+ *   there is no price. Without bids demand and supply are 0 everywhere, and the
+ *   answer is (k + 1) / 2 rounded down.
+ *   The first search makes at most P probes, and the second at most
+ *   log2(i + 1) rounded up. Sheets are taken in turn, with no gap between the
+ *   searches: with q probes done, of both together, sheet q + 1 is the current
+ *   one. Those that no probe came to stay unused.
  *
  * Buffers
  *   Every buffer is the caller's and is lent for the length of the call; no
@@ -102,7 +126,14 @@
  *   alone, but for the roll: who bids, and in which order, is not hidden from
  *   the other parties. The dealer must see neither the messages of round 1 nor
  *   the sum they open to: it knows the mask, and so would learn total demand
- *   minus total supply at the probed index.
+ *   minus total supply at the probed index, in either search.
+ *   What the parties open is not hidden: every verdict of both searches, and
+ *   with them i, j and the answer. That is more than the price alone: it tells
+ *   at which prices demand is above supply, at which it equals it, and at which
+ *   it is below. What any t parties receive together fits any other bids of the
+ *   same bidders, entered in the same order, that come to the same i and the
+ *   same j, or like them to none, for exactly one choice of the coins; but for
+ *   masks that leave their range, at most 2^33 - 2 of 2^58 at each probe.
  *
  * Three uses that give bids away
  *   A sheet hides one message of each round. Saying that message again is
@@ -122,7 +153,11 @@
  *     than before, it says other messages. Store the record before the message
  *     said from it leaves, and go on from the newest one only, with the totals
  *     and the sheets that belong to it. A session that starts anew gets new
- *     sheets from the dealer.
+ *     sheets from the dealer. Nor may one sheet stand in two places of those
+ *     lent: P sheets lent twice over have the right length and pass. Used in both
+ *     searches, two opened sums would have one mask, and differ by demand minus
+ *     supply at the one probe plus the same at the other, for all parties to
+ *     read.
  *   - Coins used again: for another entry of the bid, for another bid, or for
  *     an entry that is written anew with another amount. Where all t recur, a
  *     party's two shares differ by just what the two amounts differ by, so that
@@ -176,7 +211,7 @@ enum {
 
 /* Lengths, for n and k within their ranges. */
 #define CLOCKIVY_ROLL_LEN 16
-#define CLOCKIVY_RECORD_LEN 26
+#define CLOCKIVY_RECORD_LEN 29
 #define CLOCKIVY_SHEET_LEN 127
 #define CLOCKIVY_THRESHOLD(n) (((n) - 1) / 2)
 #define CLOCKIVY_TABLE_LEN(k) (2 * (k))
@@ -190,7 +225,7 @@ enum {
  *   totals  2k words, written
  *   record  CLOCKIVY_RECORD_LEN words, written: n, own, k, bids 0, lo 0,
  *           hi k + 1, probes 0, round 1, sum 0, carry 0, then the roll, 16
- *           words of 0
+ *           words of 0, then search 1, first 0, first_probes 0
  *
  *   1  n, own or k is out of range
  *   2  totals has not 2k words, or record not CLOCKIVY_RECORD_LEN
@@ -247,7 +282,7 @@ uint64_t clockivy_split_entry(uint64_t n, uint64_t own, uint64_t k, uint64_t ent
 
 /*
  * Writes party own's sheet for one probe. Call it once for each party with the
- * same words and bytes, and draw new ones for each probe.
+ * same words and bytes, and draw new ones for each probe, 2P in all.
  *
  *   words  1 + t words: the mask, below 2^58, then its t coefficients, below
  *          the prime
@@ -303,12 +338,12 @@ uint64_t clockivy_add(uint64_t *record, size_t record_len,
  *
  *   record   as it was last written
  *   totals   2k words
- *   sheets   127P words: the party's sheets for all probes in turn
+ *   sheets   127 times 2P words: the party's sheets for all probes in turn
  *   message  one word, written
  *
  *   1  a field of the record is out of range
  *   2  record has not CLOCKIVY_RECORD_LEN words, totals not 2k, or sheets not
- *      127P
+ *      127 times 2P
  *   3  the auction is over
  *   8  round 1: a word of totals at the probed index is at or above the prime;
  *      any round: in the current sheet, the mask's share is at or above the
@@ -321,17 +356,19 @@ uint64_t clockivy_say(const uint64_t *record, size_t record_len,
 
 /*
  * Takes all parties' messages of the current round and steps the record to the
- * next round. Round 33 opens the verdict: on 1 lo becomes the probed index, on
- * 0 hi does, and the next probe begins or the auction is over.
+ * next round. Round 33 opens the verdict and moves lo or hi to the probed index,
+ * as under "The two searches": in the first search 1 moves lo, in the second 1
+ * moves hi. Then the next probe begins, or the second search in place of the
+ * first, or the auction is over.
  *
  *   record    stepped
  *   totals    2k words
- *   sheets    127P words
+ *   sheets    127 times 2P words
  *   messages  n words, party 1's first
  *
  *   1   a field of the record is out of range
  *   2   record has not CLOCKIVY_RECORD_LEN words, totals not 2k, sheets not
- *       127P, or messages not n
+ *       127 times 2P, or messages not n
  *   3   the auction is over
  *   8   as in clockivy_say
  *   9   the party's own place holds another message than it says
@@ -347,8 +384,11 @@ uint64_t clockivy_hear(uint64_t *record, size_t record_len,
                        const uint64_t *messages, size_t messages_len);
 
 /*
- * Writes the clearing index, the highest at which total demand is at least
- * total supply, or 0 where there is none; and the number of probes made.
+ * Writes the index of the price and the number of probes made, of both searches
+ * together, at most 2P. The index is the middle of those at which total demand
+ * equals total supply, rounded down; where there are none, the highest at which
+ * demand is above supply, or 0 for no price. The highest index at which demand
+ * is at least supply is in the record, as first.
  *
  *   record  as it was last written
  *   index   one word, written
@@ -374,23 +414,39 @@ uint64_t clockivy_answer(const uint64_t *record, size_t record_len,
  *
  * A field is out of range (refusal 1) where n, own or k is; bids is not the
  * number of marks on the roll; the roll has a mark of no bidder, which is bit 0
- * of the first word or one past bidder 1,000, bits 41 to 63 of the last; not
- * lo < hi <= k + 1; round is outside 1 to 33; sum is at or above 2^59 + 2^33;
- * carry is above 255; probes is above P, or is P with hi - lo above 1.
+ * of the first word or one past bidder 1,000, bits 41 to 63 of the last; round
+ * is outside 1 to 33; sum is at or above 2^59 + 2^33; carry is above 255; search
+ * is neither 1 nor 2. In the first search also where not lo < hi <= k + 1;
+ * hi - lo is 1, since the second begins with that; probes is P or more; first
+ * or first_probes is not 0. In the second where first is above k; first_probes
+ * is above P or above probes; not lo < hi <= first + 1; probes - first_probes,
+ * its own, are above the limit for first in place of k, or are equal to it with
+ * hi - lo above 1.
+ *
+ * A probe's verdict can be read off the record that round 33 leaves. In the
+ * first search it is 1 where lo is the probed index now or, if that probe has
+ * ended the search, where first is; in the second, where hi is.
  */
 typedef struct clockivy_party {
     uint64_t n;      /* the number of parties */
     uint64_t own;    /* this party's number */
     uint64_t k;      /* the number of listed prices */
     uint64_t bids;   /* bids added: the number of marks on the roll */
-    uint64_t lo;     /* the highest index known to clear, or 0 */
-    uint64_t hi;     /* the lowest index known not to clear, or k + 1 */
-    uint64_t probes; /* probes done */
+    uint64_t lo;     /* the highest index known to have, in search 1, demand at
+                        least supply, and in search 2 less supply than demand;
+                        or 0 */
+    uint64_t hi;     /* the lowest index known to have, in search 1, less demand
+                        than supply, or k + 1; in search 2 supply at least
+                        demand, or first + 1 */
+    uint64_t probes; /* probes done, of both searches */
     uint64_t round;  /* the round to be said and heard next */
     uint64_t sum;    /* the opened sum of this probe's round 1, else 0 */
     uint64_t carry;  /* this party's share of the carry, else 0 */
     uint64_t roll[CLOCKIVY_ROLL_LEN]; /* who is in: bidder b is bit b % 64, the
                                          lowest being bit 0, of roll[b / 64] */
+    uint64_t search; /* which search is on: 1 or 2 */
+    uint64_t first;  /* i, what the first search gave; 0 until it ends */
+    uint64_t first_probes; /* the probes of the first search; 0 until it ends */
 } clockivy_party;
 
 /* The struct is the record's words, in their order. */
@@ -405,13 +461,28 @@ typedef char clockivy_party_is_the_words
 #define CLOCKIVY_INLINE static
 #endif
 
-/* P, the most probes of a search over k prices: the number of bits of k. */
+/*
+ * P, the most probes of one search over k prices: the number of bits of k. Any
+ * number may be asked about, here and below.
+ */
 CLOCKIVY_INLINE size_t clockivy_probe_limit(uint64_t k)
 {
     size_t limit;
     for (limit = 0; k != 0; k >>= 1)
         limit++;
     return limit;
+}
+
+/* 2P, the sheets that a party is lent: one for each probe of both searches. */
+CLOCKIVY_INLINE size_t clockivy_sheet_count(uint64_t k)
+{
+    return 2 * clockivy_probe_limit(k);
+}
+
+/* The length of a party's sheets for all probes, in words. */
+CLOCKIVY_INLINE size_t clockivy_sheets_len(uint64_t k)
+{
+    return CLOCKIVY_SHEET_LEN * clockivy_sheet_count(k);
 }
 
 /* 1 where the roll marks this bidder, else 0. Any number may be asked about. */

@@ -1,9 +1,10 @@
 /*
  * A whole auction of five parties in one process: four bids, eight listed
  * prices. One bid is split entry by entry. A line drops while a bid is sent, and
- * the bid is sent again when the others are in. Prints that, each probe and the
- * clearing price, and checks all of it against the tables, which only a program
- * that plays every role can add up.
+ * the bid is sent again when the others are in. Demand equals supply at four
+ * neighbouring prices, and the middle one is taken, rounded down. Prints the bid
+ * sent again, each probe and the price, and checks all of it against the tables,
+ * which only a program that plays every role can add up.
  *
  *   cc -O2 -I../../include auction.c -L../../target/staticlib -lexchange -o auction
  *
@@ -16,16 +17,16 @@
 
 #include "clockivy.h"
 
-enum { N = 5, K = 8, PROBES = 4, BIDS = 4, TABLE = 2 * K, T = CLOCKIVY_THRESHOLD(N) };
+enum { N = 5, K = 8, SHEETS = 8, BIDS = 4, TABLE = 2 * K, T = CLOCKIVY_THRESHOLD(N) };
 
 static const int prices[K] = {80, 90, 100, 110, 120, 130, 140, 150};
 
 /* Demand at each price, then supply at each, in tenths of an hour. */
 static const uint64_t tables[BIDS][TABLE] = {
-    {90, 80, 70, 55, 40, 30, 20, 5, 0, 0, 0, 0, 0, 0, 0, 0},
-    {45, 45, 45, 45, 41, 15, 0, 0, 0, 0, 0, 0, 0, 0, 5, 9},
-    {0, 0, 0, 0, 0, 0, 0, 0, 0, 10, 30, 30, 52, 60, 60, 75},
-    {0, 0, 0, 0, 0, 0, 0, 0, 7, 7, 7, 12, 29, 33, 48, 90}
+    {90, 80, 70, 40, 40, 40, 40, 5, 0, 0, 0, 0, 0, 0, 0, 0},
+    {45, 45, 45, 41, 41, 41, 41, 0, 0, 0, 0, 0, 0, 0, 0, 9},
+    {0, 0, 0, 0, 0, 0, 0, 0, 0, 10, 30, 52, 52, 52, 52, 75},
+    {0, 0, 0, 0, 0, 0, 0, 0, 7, 7, 7, 29, 29, 29, 29, 90}
 };
 
 /* The numbers of those who bid. */
@@ -47,7 +48,7 @@ struct desk {
 struct seat {
     clockivy_party party;
     uint64_t totals[TABLE];
-    uint64_t sheets[PROBES * CLOCKIVY_SHEET_LEN];
+    uint64_t sheets[SHEETS * CLOCKIVY_SHEET_LEN];
 };
 
 static struct seat seats[N];
@@ -207,7 +208,7 @@ static void deal(size_t probe)
 /* Each party says its message, and each hears all of them. */
 static void exchange_round(void)
 {
-    const size_t sheets_len = PROBES * CLOCKIVY_SHEET_LEN;
+    const size_t sheets_len = SHEETS * CLOCKIVY_SHEET_LEN;
     uint64_t messages[N];
     size_t i;
 
@@ -219,30 +220,67 @@ static void exchange_round(void)
                                  seats[i].sheets, sheets_len, messages, N), "hear");
 }
 
-/* Whether total demand at an index is at least total supply. */
-static int clears(uint64_t index)
+/* The sum of all bids at a place of their tables. */
+static uint64_t total(uint64_t place)
 {
-    uint64_t demand = 0;
-    uint64_t supply = 0;
+    uint64_t sum = 0;
     size_t i;
 
-    for (i = 0; i < BIDS; i++) {
-        demand += tables[i][index - 1];
-        supply += tables[i][K + index - 1];
-    }
-    return demand >= supply;
+    for (i = 0; i < BIDS; i++)
+        sum += tables[i][place];
+    return sum;
+}
+
+static uint64_t demand(uint64_t index)
+{
+    return total(index - 1);
+}
+
+static uint64_t supply(uint64_t index)
+{
+    return total(K + index - 1);
+}
+
+/* What the verdict of a search has to be at an index. */
+static int compared(uint64_t search, uint64_t index)
+{
+    if (search == 1)
+        return demand(index) >= supply(index);
+    return supply(index) >= demand(index);
+}
+
+/* The verdict that a probe of this search at this index has left in a record. */
+static int verdict(uint64_t search, uint64_t index, const clockivy_party *after)
+{
+    if (search == 2)
+        return after->hi == index;
+    if (after->search == 2)
+        return after->first == index;
+    return after->lo == index;
+}
+
+/* The price by the tables: the middle of those that balance, or the highest. */
+static uint64_t expected_index(void)
+{
+    uint64_t highest = K;
+    uint64_t lowest = 1;
+
+    while (highest > 0 && demand(highest) < supply(highest))
+        highest--;
+    while (lowest <= highest && supply(lowest) < demand(lowest))
+        lowest++;
+    return lowest <= highest ? (highest + lowest) / 2 : highest;
 }
 
 int main(void)
 {
-    const clockivy_party *first = &seats[0].party;
+    const clockivy_party *party = &seats[0].party;
     uint64_t index = 0;
     uint64_t probes = 0;
-    uint64_t expected = K;
     struct desk desks[BIDS];
     size_t i;
 
-    check(clockivy_probe_limit(K) == PROBES, "the sheets are too few");
+    check(clockivy_sheet_count(K) == SHEETS, "the sheets are too few");
     for (i = 0; i < N; i++)
         done(clockivy_party_open(&seats[i].party, N, i + 1, K, seats[i].totals, TABLE),
              "open");
@@ -258,24 +296,24 @@ int main(void)
     }
     send_again(&desks[DROPPED]);
     check(all_in(), "a bid is missing");
-    for (i = 0; i < PROBES; i++)
+    for (i = 0; i < SHEETS; i++)
         deal(i);
 
-    while (clockivy_party_answer(first, &index, &probes) == CLOCKIVY_OUT_OF_TURN) {
-        const uint64_t probed = (first->lo + first->hi) / 2;
+    while (clockivy_party_answer(party, &index, &probes) == CLOCKIVY_OUT_OF_TURN) {
+        const uint64_t search = party->search;
+        const uint64_t probed = (party->lo + party->hi) / 2;
+        int opened;
 
         for (i = 0; i < CLOCKIVY_ROUNDS; i++)
             exchange_round();
-        printf("probe %d index %d verdict %d\n",
-               (int)first->probes, (int)probed, first->lo == probed);
-        check((first->lo == probed) == clears(probed), "the verdict is wrong");
+        opened = verdict(search, probed, party);
+        printf("probe %d index %d verdict %d\n", (int)party->probes, (int)probed, opened);
+        check(opened == compared(search, probed), "the verdict is wrong");
     }
 
-    while (expected > 0 && !clears(expected))
-        expected--;
     for (i = 0; i < N; i++) {
         done(clockivy_party_answer(&seats[i].party, &index, &probes), "answer");
-        check(index == expected, "the answer is wrong");
+        check(index == expected_index(), "the answer is wrong");
     }
     if (index == 0)
         printf("clears 0 none\n");

@@ -1,7 +1,8 @@
 /*
- * Tries clockivy_probe_limit on numbers around powers of two, and
- * clockivy_party_has_bid on every place of the roll and on numbers past it, up
- * to the largest there is.
+ * Tries clockivy_probe_limit, and the count and length of the sheets, on numbers
+ * around powers of two; clockivy_party_has_bid on every place of the roll and on
+ * numbers past it, up to the largest there is; and where the fields of a record
+ * stand.
  */
 #include <stdio.h>
 #include <stdlib.h>
@@ -34,7 +35,7 @@ enum {
     PLACES = 64 * CLOCKIVY_ROLL_LEN
 };
 
-/* A record, and words behind its roll that are none of it. */
+/* A record, and words behind it. No word after the roll is one of the roll. */
 static struct {
     clockivy_party party;
     uint64_t after[4];
@@ -54,6 +55,31 @@ static void try_limits(void)
                     (int)i + 1, (int)limit, (int)cases[i].limit);
             wrong = 1;
         }
+        if (clockivy_sheet_count(cases[i].k) != 2 * cases[i].limit
+            || clockivy_sheets_len(cases[i].k) != 254 * cases[i].limit) {
+            fprintf(stderr, "case %d: not the sheets of two searches\n", (int)i + 1);
+            wrong = 1;
+        }
+    }
+}
+
+/* The fields are the words of the record, in their order. */
+static void try_fields(void)
+{
+    uint64_t words[CLOCKIVY_RECORD_LEN];
+    const clockivy_party *party = &kept.party;
+    int i;
+
+    for (i = 0; i < CLOCKIVY_RECORD_LEN; i++)
+        words[i] = (uint64_t)i + 1;
+    memcpy(&kept.party, words, sizeof words);
+    if (party->n != 1 || party->own != 2 || party->k != 3 || party->bids != 4
+        || party->lo != 5 || party->hi != 6 || party->probes != 7 || party->round != 8
+        || party->sum != 9 || party->carry != 10 || party->roll[0] != 11
+        || party->roll[CLOCKIVY_ROLL_LEN - 1] != 26 || party->search != 27
+        || party->first != 28 || party->first_probes != 29) {
+        fprintf(stderr, "a field of the record is in another place\n");
+        wrong = 1;
     }
 }
 
@@ -91,6 +117,7 @@ static void try_marks(void)
 int main(void)
 {
     try_limits();
+    try_fields();
     try_marks();
     if (wrong)
         return EXIT_FAILURE;

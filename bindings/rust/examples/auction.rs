@@ -1,8 +1,9 @@
 //! A whole auction of five parties in one process: four bids, eight listed
 //! prices. One bid is split entry by entry. A line drops while a bid is sent, and
-//! the bid is sent again when the others are in. Prints that, each probe and the
-//! clearing price, and checks all of it against the tables, which only a program
-//! that plays every role can add up.
+//! the bid is sent again when the others are in. Demand equals supply at four
+//! neighbouring prices, and the middle one is taken, rounded down. Prints the bid
+//! sent again, each probe and the price, and checks all of it against the tables,
+//! which only a program that plays every role can add up.
 //!
 //! The coins here come from a small generator with a fixed seed. A real bidder
 //! or dealer draws them from the operating system.
@@ -11,7 +12,7 @@ mod coins;
 
 use clockivy::{
     coins_len, deal, deal_bytes_len, deal_words_len, sheets_len, split, table_len, Collecting,
-    Entries, Refusal, Speaking, MASK_LIMIT, MAX_BIDS, ROUNDS, SHEET_LEN,
+    Entries, Record, Refusal, Speaking, MASK_LIMIT, MAX_BIDS, ROUNDS, SHEET_LEN,
 };
 use coins::Coins;
 
@@ -20,10 +21,10 @@ const K: u64 = 8;
 const PRICES: [u64; K as usize] = [80, 90, 100, 110, 120, 130, 140, 150];
 /// Demand at each price, then supply at each, in tenths of an hour.
 const BIDS: [[u64; 2 * K as usize]; 4] = [
-    [90, 80, 70, 55, 40, 30, 20, 5, 0, 0, 0, 0, 0, 0, 0, 0],
-    [45, 45, 45, 45, 41, 15, 0, 0, 0, 0, 0, 0, 0, 0, 5, 9],
-    [0, 0, 0, 0, 0, 0, 0, 0, 0, 10, 30, 30, 52, 60, 60, 75],
-    [0, 0, 0, 0, 0, 0, 0, 0, 7, 7, 7, 12, 29, 33, 48, 90],
+    [90, 80, 70, 40, 40, 40, 40, 5, 0, 0, 0, 0, 0, 0, 0, 0],
+    [45, 45, 45, 41, 41, 41, 41, 0, 0, 0, 0, 0, 0, 0, 0, 9],
+    [0, 0, 0, 0, 0, 0, 0, 0, 0, 10, 30, 52, 52, 52, 52, 75],
+    [0, 0, 0, 0, 0, 0, 0, 0, 7, 7, 7, 29, 29, 29, 29, 90],
 ];
 
 /// The numbers of those who bid.
@@ -75,18 +76,18 @@ fn main() -> Result<(), Refusal> {
         .collect();
 
     while !parties[0].is_over() {
-        let index = parties[0].index();
+        let (search, index) = (parties[0].record().search, parties[0].index());
         for _ in 1..=ROUNDS {
             round(&mut parties)?;
         }
         let after = parties[0].record();
-        let verdict = after.lo == index;
+        let verdict = verdict(search, index, after);
         println!(
             "probe {} index {index} verdict {}",
             after.probes,
             u64::from(verdict)
         );
-        assert_eq!(verdict, clears(index));
+        assert_eq!(verdict, compared(search, index));
     }
 
     let answer = parties[0].answer()?;
@@ -98,8 +99,7 @@ fn main() -> Result<(), Refusal> {
         index => println!("clears {index} {}", PRICES[index as usize - 1]),
     }
     println!("rounds {}", ROUNDS * answer.probes);
-    let expected = (1..=K).rev().find(|&index| clears(index)).unwrap_or(0);
-    assert_eq!(answer.index, expected);
+    assert_eq!(answer.index, expected_index());
     Ok(())
 }
 
@@ -194,10 +194,43 @@ fn round(parties: &mut [Speaking]) -> Result<(), Refusal> {
     Ok(())
 }
 
-/// Whether total demand at an index is at least total supply.
-fn clears(index: u64) -> bool {
-    let place = index as usize - 1;
-    let demand: u64 = BIDS.iter().map(|table| table[place]).sum();
-    let supply: u64 = BIDS.iter().map(|table| table[K as usize + place]).sum();
-    demand >= supply
+/// The verdict that a probe of this search at this index has left in a record.
+fn verdict(search: u64, index: u64, after: &Record) -> bool {
+    match (search, after.search) {
+        (1, 1) => after.lo == index,
+        (1, _) => after.first == index,
+        _ => after.hi == index,
+    }
+}
+
+/// What the verdict of a search has to be at an index.
+fn compared(search: u64, index: u64) -> bool {
+    match search {
+        1 => demand(index) >= supply(index),
+        _ => supply(index) >= demand(index),
+    }
+}
+
+/// The price by the tables: the middle of those that balance, or the highest.
+fn expected_index() -> u64 {
+    let clears = |index: &u64| demand(*index) >= supply(*index);
+    let balances = |index: &u64| supply(*index) >= demand(*index);
+    let highest = (1..=K).rev().find(clears).unwrap_or(0);
+    match (1..=highest).find(balances) {
+        Some(lowest) => (highest + lowest) / 2,
+        None => highest,
+    }
+}
+
+fn demand(index: u64) -> u64 {
+    total(index as usize - 1)
+}
+
+fn supply(index: u64) -> u64 {
+    total((K + index) as usize - 1)
+}
+
+/// The sum of all bids at a place of their tables.
+fn total(place: usize) -> u64 {
+    BIDS.iter().map(|table| table[place]).sum()
 }

@@ -1,6 +1,6 @@
 //! A sealed-bid uniform-price auction among n parties who hold every amount in
-//! shares. The parties find the clearing index and nobody adds up the bids. The
-//! work is done by a verified library for x86-64 behind a C ABI; this crate
+//! shares. The parties find the index of the price and nobody adds up the bids.
+//! The work is done by a verified library for x86-64 behind a C ABI; this crate
 //! calls it from safe Rust.
 //!
 //! # The roles
@@ -10,20 +10,50 @@
 //!   each, never falling. It draws coins for this bid, splits the table for each
 //!   party with the same coins, at once ([`split`]) or entry by entry
 //!   ([`Entries`]), and sends each party its shares.
-//! * The **dealer** draws coins for each of [`probe_limit`]`(k)` probes, calls
+//! * The **dealer** draws coins for each of [`sheet_count`]`(k)` probes, calls
 //!   [`deal`] once for each party and probe, and sends each party its
 //!   preprocessing: a sheet for each probe.
 //! * A **party** keeps its totals and a session. The session is [`Collecting`]
 //!   first, and adds each bid's shares ([`Collecting::add`]), once for each
 //!   bidder: it keeps a roll of who is in. Then it is [`Speaking`]
 //!   ([`Collecting::speak`]): it says a message ([`Speaking::say`]) and hears
-//!   all n of them ([`Speaking::hear`]), 33 rounds for each probe of a binary
-//!   search, until [`Speaking::answer`] gives the clearing index: the highest at
-//!   which total demand is at least total supply, or 0 where there is none.
+//!   all n of them ([`Speaking::hear`]), 33 rounds for each probe of two binary
+//!   searches, until [`Speaking::answer`] gives the index of the price: the
+//!   middle, rounded down, of those at which total demand equals total supply;
+//!   where there are none, the highest at which demand is above supply, or 0 for
+//!   no price.
 //!
 //! A call judges all that it is lent, and where something is wrong it answers a
 //! [`Refusal`] and changes nothing. Drawing coins, networks and signatures are
 //! the caller's.
+//!
+//! # The two searches
+//!
+//! A probe compares total demand with total supply at one index, the middle of
+//! `lo` and `hi` rounded down ([`Speaking::index`]), and opens one bit, the
+//! verdict. All numbers are in the session's [`Record`].
+//!
+//! * The first search starts at `lo` 0 and `hi` k + 1. Its verdict is 1 where
+//!   demand is at least supply, and then `lo` becomes the index; on 0 `hi` does.
+//!   Once `hi` - `lo` is 1 it has ended, and `lo` is i: the highest index at
+//!   which demand is at least supply, or 0 where there is none.
+//! * The hearing that ends the first search begins the second, at `lo` 0 and
+//!   `hi` i + 1; the record keeps i ([`Record::first`]). It compares with the
+//!   sides exchanged: its verdict is 1 where supply is at least demand, and then
+//!   `hi` becomes the index; on 0 `lo` does. Once `hi` - `lo` is 1 the auction is
+//!   over, and `hi` is j: the lowest index from 1 to i at which supply is at
+//!   least demand. Where there is none, `hi` is i + 1.
+//!
+//! Where there is a j, demand equals supply from j to i and nowhere else, and the
+//! answer is the middle of these, (i + j) / 2 rounded down; where there is none,
+//! the answer is i. With i 0 the second search is over as it begins, and there is
+//! no price. Without bids demand and supply are 0 everywhere, and the answer is
+//! (k + 1) / 2 rounded down.
+//!
+//! The first search makes at most [`probe_limit`]`(k)` probes, and the second at
+//! most `probe_limit(i)`. Sheets are taken in turn, with no gap between the
+//! searches: with q probes done, of both together, sheet q + 1 is the current
+//! one. Those that no probe came to stay unused.
 //!
 //! # A bid entry by entry
 //!
@@ -93,23 +123,26 @@
 //! # What is secret
 //!
 //! With t being (n - 1) / 2 rounded down: what any t parties together receive
-//! fits any other bids of the same bidders, entered in the same order, that have
-//! the same clearing index, for exactly one choice of the coins, but for masks
-//! that leave their range (at most 2^33 - 2 of 2^58 at each probe). Fewer than t
-//! parties see a part of that. It rests on this:
+//! fits any other bids of the same bidders, entered in the same order, that come
+//! to the same [i and the same j](crate#the-two-searches), or like them to none,
+//! for exactly one choice of the coins, but for masks that leave their range (at
+//! most 2^33 - 2 of 2^58 at each probe). Fewer than t parties see a part of that.
+//! It rests on this:
 //!
 //! * Coins are drawn uniformly, independently and used once.
 //! * The parties follow the protocol.
 //! * At most t parties pool what they have.
 //! * The dealer pools with nobody. Round 1 of each probe opens a sum to all
 //!   parties: a constant, minus the mask, plus total demand minus total supply
-//!   at the probed index. The dealer knows the mask, so a dealer who sees the
-//!   opened sum, from even one party or from the messages, learns total demand
-//!   minus total supply there.
+//!   at the probed index, or in the second search supply minus demand. The
+//!   dealer knows the mask, so a dealer who sees the opened sum, from even one
+//!   party or from the messages, learns total demand minus total supply there.
 //!
-//! Who bids, and in which order, is not hidden. Nor is what the price itself
-//! says of the totals: total demand is at least total supply up to the clearing
-//! index, and below it at every higher one.
+//! Who bids, and in which order, is not hidden. Nor is what the parties open:
+//! every verdict of both searches, and with them i, j and the answer. That is
+//! more than the price alone: total demand is below total supply at every index
+//! above i, equals it from j to i, and is above it at every lower one; where
+//! there is no j, it is above it at every index up to i.
 //!
 //! # Three uses that give bids away
 //!
@@ -130,7 +163,10 @@
 //!   session before its message leaves ([`Speaking::store`]), and resume only
 //!   the newest one, with the totals and the sheets that belong to it
 //!   ([`Speaking::resume`]). A session that starts anew gets new sheets from the
-//!   dealer.
+//!   dealer. Nor may one sheet stand in two places of those lent: P sheets lent
+//!   twice over have the right length and pass. Used in both searches, two opened
+//!   sums would have one mask, and differ by demand minus supply at the one probe
+//!   plus the same at the other, for all parties to read.
 //! * **Coins used again**: for another entry of the bid, for another bid, or for
 //!   an entry that is written anew with another amount. Where all t recur, a
 //!   party's two shares differ by just what the two amounts differ by, so that a
@@ -143,16 +179,17 @@
 //! # A small auction
 //!
 //! ```
-//! use clockivy::{deal, split, Collecting, Refusal, Speaking, SHEET_LEN};
+//! use clockivy::{deal, sheets_len, split, Collecting, Refusal, Speaking, SHEET_LEN};
 //!
 //! # fn main() -> Result<(), Refusal> {
 //! // Three parties and one listed price, at which 5 are wanted and 3 offered.
 //! // The coins are fixed for the sake of the example; real ones are random.
 //! let (n, k) = (3, 1);
 //! let (bidder, table, coins) = (640, [5, 3], [11, 12]);
-//! let (words, bytes) = ([7, 13], [14; 126 + 62]);
+//! // The dealer's, for the one probe of each search.
+//! let drawn = [([7, 13], [14; 126 + 62]), ([8, 15], [16; 126 + 62])];
 //!
-//! let mut kept = [([0; 2], [0; SHEET_LEN]); 3];
+//! let mut kept = [([0; 2], [0; sheets_len(1)]); 3];
 //! let mut parties = Vec::new();
 //! for (own, (totals, sheets)) in (1..).zip(&mut kept) {
 //!     let mut session = Collecting::open(n, own, k, totals)?;
@@ -162,7 +199,9 @@
 //!     // Sent again, it is refused and does not count double.
 //!     let again = session.add(totals, bidder, &shares);
 //!     assert_eq!(again, Err(Refusal::AlreadyEntered));
-//!     deal(n, own, &words, &bytes, sheets)?;
+//!     for ((words, bytes), sheet) in drawn.iter().zip(sheets.chunks_mut(SHEET_LEN)) {
+//!         deal(n, own, words, bytes, sheet)?;
+//!     }
 //!     parties.push(session.speak(totals, sheets));
 //! }
 //! while !parties[0].is_over() {
@@ -212,8 +251,8 @@ pub const ROUNDS: u64 = 33;
 pub const SHEET_LEN: usize = 127;
 /// The words of a roll, with a bit for each bidder's number.
 pub const ROLL_LEN: usize = 16;
-/// The words of a party's record: ten numbers, then the roll.
-pub const RECORD_LEN: usize = 10 + ROLL_LEN;
+/// The words of a party's record: ten numbers, the roll, then three numbers.
+pub const RECORD_LEN: usize = 10 + ROLL_LEN + 3;
 /// The words of a stored session: which of the two types it is, then its record.
 pub const STORED_LEN: usize = 1 + RECORD_LEN;
 
@@ -222,10 +261,16 @@ pub const fn threshold(n: u64) -> usize {
     (n.saturating_sub(1) / 2) as usize
 }
 
-/// The most probes that a search over `k` prices makes: the base-2 logarithm
+/// The most probes that one search over `k` prices makes: the base-2 logarithm
 /// of `k` + 1, rounded up.
 pub const fn probe_limit(k: u64) -> usize {
     (u64::BITS - k.leading_zeros()) as usize
+}
+
+/// The number of sheets that a party is lent, one for each probe that the two
+/// searches may make: twice [`probe_limit`]`(k)`.
+pub const fn sheet_count(k: u64) -> usize {
+    2 * probe_limit(k)
 }
 
 /// The length of the totals, of a bid's table and of its shares: 2`k`, or
@@ -251,9 +296,10 @@ pub const fn deal_bytes_len(n: u64) -> usize {
     threshold(n).saturating_mul(126).saturating_add(62)
 }
 
-/// The length of a party's preprocessing for all probes.
+/// The length of a party's preprocessing for all probes of both searches:
+/// [`sheet_count`]`(k)` sheets.
 pub const fn sheets_len(k: u64) -> usize {
-    SHEET_LEN * probe_limit(k)
+    SHEET_LEN * sheet_count(k)
 }
 
 /// Writes party `own`'s shares of a bid into `shares`.
@@ -332,7 +378,7 @@ pub fn split_entry(
 /// [`PRIME`]. `bytes` are t coefficients for each of bits 1 to 33 of the mask;
 /// then, for each of rounds 2 to 32, alpha, beta and t coefficients each for
 /// alpha, beta and their product. Call this once for each party with the same
-/// words and bytes, and draw new ones for each probe.
+/// words and bytes, and draw new ones for each of [`sheet_count`]`(k)` probes.
 ///
 /// Refused: [`OutOfRange`](Refusal::OutOfRange),
 /// [`WrongLength`](Refusal::WrongLength),

@@ -8,6 +8,12 @@ use crate::{RECORD_LEN, ROLL_LEN};
 /// which all parties know, gives the dealer total demand minus total supply at
 /// the probed index. The roll is no secret among the parties: before they speak
 /// they compare theirs, which have to be the same.
+///
+/// What `lo` and `hi` tell depends on which of [the two
+/// searches](crate#the-two-searches) is on. A probe's verdict can be read off
+/// the record that round 33 leaves. In the first search it is 1 where `lo` is
+/// the probed index now or, if that probe has ended the search, where `first`
+/// is; in the second, where `hi` is.
 #[derive(Debug, PartialEq, Eq)]
 #[non_exhaustive]
 pub struct Record {
@@ -19,11 +25,15 @@ pub struct Record {
     pub k: u64,
     /// Bids added: the number of marks on the roll, at most 1,000.
     pub bids: u64,
-    /// The highest index known to clear, or 0.
+    /// In the first search the highest index known to have demand at least
+    /// supply, in the second the highest known to have less supply than demand;
+    /// or 0.
     pub lo: u64,
-    /// The lowest index known not to clear, or `k` + 1.
+    /// In the first search the lowest index known to have less demand than
+    /// supply, or `k` + 1; in the second the lowest known to have supply at
+    /// least demand, or `first` + 1.
     pub hi: u64,
-    /// Probes done.
+    /// Probes done, of both searches.
     pub probes: u64,
     /// The round to be said and heard next, 1 to 33.
     pub round: u64,
@@ -34,6 +44,13 @@ pub struct Record {
     /// Who is in: bidder b is bit b % 64 of word b / 64, the lowest being bit
     /// 0. See [`has_bid`](Record::has_bid).
     pub roll: [u64; ROLL_LEN],
+    /// Which search is on: 1 or 2.
+    pub search: u64,
+    /// What the first search gave: the highest index at which demand is at
+    /// least supply, or 0 where there is none. It is 0 until that search ends.
+    pub first: u64,
+    /// The probes of the first search; 0 until it ends.
+    pub first_probes: u64,
 }
 
 impl Record {
@@ -46,7 +63,8 @@ impl Record {
     /// The record as words, in the order of the fields.
     pub(crate) fn to_words(&self) -> [u64; RECORD_LEN] {
         let mut words = [0; RECORD_LEN];
-        let (numbers, roll) = words.split_at_mut(RECORD_LEN - ROLL_LEN);
+        let (numbers, rest) = words.split_at_mut(10);
+        let (roll, searches) = rest.split_at_mut(ROLL_LEN);
         numbers.copy_from_slice(&[
             self.n,
             self.own,
@@ -60,12 +78,14 @@ impl Record {
             self.carry,
         ]);
         roll.copy_from_slice(&self.roll);
+        searches.copy_from_slice(&[self.search, self.first, self.first_probes]);
         words
     }
 
     /// The record of these words. Each call judges what they say.
     pub(crate) fn from_words(words: [u64; RECORD_LEN]) -> Record {
-        let [n, own, k, bids, lo, hi, probes, round, sum, carry, roll @ ..] = words;
+        let [n, own, k, bids, lo, hi, probes, round, sum, carry, rest @ ..] = words;
+        let [roll @ .., search, first, first_probes] = rest;
         Record {
             n,
             own,
@@ -78,6 +98,9 @@ impl Record {
             sum,
             carry,
             roll,
+            search,
+            first,
+            first_probes,
         }
     }
 

@@ -10,7 +10,8 @@ pub enum Refusal {
     /// 1: `n`, `own`, `k`, the entry's or the bidder's number is outside its
     /// range, or a field of the record is, or the first word of a stored
     /// session; `bids` is not the number of marks on the roll, or the roll marks
-    /// a number outside 1 to 1,000.
+    /// a number outside 1 to 1,000; the numbers of the two searches do not fit,
+    /// as where the first has ended and the second has not begun.
     OutOfRange = 1,
     /// 2: a slice has not the length that the call states.
     WrongLength = 2,

@@ -13,13 +13,16 @@ const COLLECTING: u64 = 0;
 /// The first word of a stored session that speaks.
 const SPEAKING: u64 = 1;
 
+/// The search whose end is that of the auction.
+const SECOND_SEARCH: u64 = 2;
+
 /// A party's session while it collects bids. The totals are kept beside it and
 /// lent to each call. It says nothing yet: a bid added between two messages
 /// [would be given away](crate#three-uses-that-give-bids-away).
 ///
 /// ```
 /// # use clockivy::Collecting;
-/// # let (mut totals, sheets) = ([0; 2], [0; 127]);
+/// # let (mut totals, sheets) = ([0; 2], [0; 2 * 127]);
 /// let mut session = Collecting::open(3, 1, 1, &mut totals)?;
 /// session.add(&mut totals, 1, &[5, 3])?;
 /// let speaking = session.speak(&totals, &sheets);
@@ -31,7 +34,7 @@ const SPEAKING: u64 = 1;
 ///
 /// ```compile_fail,E0382
 /// # use clockivy::Collecting;
-/// # let (mut totals, sheets) = ([0; 2], [0; 127]);
+/// # let (mut totals, sheets) = ([0; 2], [0; 2 * 127]);
 /// let mut session = Collecting::open(3, 1, 1, &mut totals)?;
 /// let speaking = session.speak(&totals, &sheets);
 /// session.add(&mut totals, 1, &[5, 3])?;
@@ -139,7 +142,7 @@ impl Collecting {
 ///
 /// ```
 /// # use clockivy::Collecting;
-/// # let (mut totals, sheets) = ([0; 2], [0; 127]);
+/// # let (mut totals, sheets) = ([0; 2], [0; 2 * 127]);
 /// # let session = Collecting::open(3, 1, 1, &mut totals)?;
 /// let speaking = session.speak(&totals, &sheets);
 /// assert_eq!(speaking.say()?, speaking.say()?);
@@ -150,7 +153,7 @@ impl Collecting {
 ///
 /// ```compile_fail,E0506
 /// # use clockivy::Collecting;
-/// # let (mut totals, sheets) = ([0; 2], [0; 127]);
+/// # let (mut totals, sheets) = ([0; 2], [0; 2 * 127]);
 /// # let session = Collecting::open(3, 1, 1, &mut totals)?;
 /// let speaking = session.speak(&totals, &sheets);
 /// totals[0] = 5;
@@ -162,7 +165,7 @@ impl Collecting {
 ///
 /// ```compile_fail,E0599
 /// # use clockivy::Collecting;
-/// # let (mut totals, sheets) = ([0; 2], [0; 127]);
+/// # let (mut totals, sheets) = ([0; 2], [0; 2 * 127]);
 /// # let session = Collecting::open(3, 1, 1, &mut totals)?;
 /// let speaking = session.speak(&totals, &sheets);
 /// let copy = speaking.clone();
@@ -175,13 +178,15 @@ pub struct Speaking<'a> {
     sheets: &'a [u64],
 }
 
-/// What an auction comes to.
+/// What an auction comes to. The highest index at which total demand is at least
+/// total supply is in the record, as [`first`](Record::first).
 #[derive(Clone, Copy, Debug, PartialEq, Eq)]
 pub struct Answer {
-    /// The highest index at which total demand is at least total supply, or 0
-    /// where there is none.
+    /// The index of the price: the middle of those at which total demand equals
+    /// total supply, rounded down. Where there are none, the highest at which
+    /// demand is above supply, or 0 for no price.
     pub index: u64,
-    /// The number of probes made.
+    /// The number of probes made, of both searches.
     pub probes: u64,
 }
 
@@ -202,7 +207,8 @@ impl<'a> Speaking<'a> {
 
     /// Takes all parties' messages of the current round, party 1's first, and
     /// goes on to the next round. Round 33 opens the verdict, moves `lo` or
-    /// `hi` and ends the probe.
+    /// `hi` and ends the probe; where that ends the first search, the second
+    /// [begins](crate#the-two-searches).
     ///
     /// Refused: [`OutOfRange`](Refusal::OutOfRange),
     /// [`WrongLength`](Refusal::WrongLength),
@@ -217,7 +223,7 @@ impl<'a> Speaking<'a> {
             .step(|record| words::hear(record, self.totals, self.sheets, messages))
     }
 
-    /// The clearing index, once the auction is over.
+    /// The index of the price, once the auction is over.
     ///
     /// Refused: [`OutOfRange`](Refusal::OutOfRange),
     /// [`OutOfTurn`](Refusal::OutOfTurn).
@@ -228,12 +234,14 @@ impl<'a> Speaking<'a> {
         Ok(Answer { index, probes })
     }
 
-    /// Whether the search is over, so that [`answer`](Speaking::answer) answers.
+    /// Whether the second search has ended. Then [`answer`](Speaking::answer)
+    /// answers, unless the record is out of range, as a resumed one may be.
     pub fn is_over(&self) -> bool {
-        self.record.hi.wrapping_sub(self.record.lo) == 1
+        self.record.search == SECOND_SEARCH && self.record.hi.wrapping_sub(self.record.lo) == 1
     }
 
-    /// The index that the current probe asks about.
+    /// The index that the current probe asks about; of no meaning once the
+    /// auction is over.
     pub fn index(&self) -> u64 {
         self.record.lo.midpoint(self.record.hi)
     }

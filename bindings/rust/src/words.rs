@@ -222,7 +222,8 @@ pub fn hear(record: &mut [u64], totals: &[u64], sheets: &[u64], messages: &[u64]
     }
 }
 
-/// Writes the clearing index and the number of probes. Refusals 1, 2, 3.
+/// Writes the index of the price and the number of probes of both searches.
+/// Refusals 1, 2, 3.
 pub fn answer(record: &[u64], index: &mut u64, probes: &mut u64) -> u64 {
     unsafe { clockivy_answer(record.as_ptr(), record.len(), index, probes) }
 }

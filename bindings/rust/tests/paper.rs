@@ -1,9 +1,9 @@
 //! The paper's checked lines and limits, through the typed calls.
 
 use clockivy::{
-    coins_len, deal, deal_bytes_len, deal_words_len, probe_limit, sheets_len, split, table_len,
-    threshold, Answer, Collecting, Refusal, Speaking, MASK_LIMIT, MAX_AMOUNT, PRIME, ROLL_LEN,
-    ROUNDS, SHEET_LEN, STORED_LEN,
+    coins_len, deal, deal_bytes_len, deal_words_len, probe_limit, sheet_count, sheets_len, split,
+    table_len, threshold, Answer, Collecting, Refusal, Speaking, MASK_LIMIT, MAX_AMOUNT, PRIME,
+    RECORD_LEN, ROLL_LEN, ROUNDS, SHEET_LEN, STORED_LEN,
 };
 
 /// All parties' shares of one amount, written as demand at the only price.
@@ -75,9 +75,9 @@ fn shares_wrap_around_the_prime() {
 fn a_round_that_lies_on_no_polynomial() {
     let mut totals = [0; 2];
     let session = Collecting::open(5, 1, 1, &mut totals).unwrap();
-    let mut sheet = [0; SHEET_LEN];
-    sheet[0] = (1 << 59) + (1 << 32) - 12;
-    let mut party = session.speak(&totals, &sheet);
+    let mut sheets = [0; sheets_len(1)];
+    sheets[0] = (1 << 59) + (1 << 32) - 12;
+    let mut party = session.speak(&totals, &sheets);
     assert_eq!(party.say(), Ok(12));
     let before = party.store();
     let mut hear = |last| party.hear(&[12, 21, 34, 51, last]);
@@ -87,29 +87,32 @@ fn a_round_that_lies_on_no_polynomial() {
     assert_eq!((party.store(), party.say()), (before, Ok(12)));
 }
 
-/// One probe of three parties on the given totals and mask: the opened sum and
-/// the verdict.
-fn probe(demand: u64, supply: u64, mask: u64) -> (u64, bool) {
+/// One probe of three parties on the given totals and mask, in the first search
+/// over one price or in the second, which follows a verdict of 1: the opened sum
+/// and the verdict.
+fn probe(search: u64, demand: u64, supply: u64, mask: u64) -> (u64, bool) {
     let n = 3;
     // Totals can be larger than any one bid, so they are shared by hand, each
     // with its own coefficient.
     let share = |secret: u64, coefficient: u64, own: u64| secret + coefficient * own;
     let words = [mask, 0x1234_5678];
     let bytes: Vec<u8> = (0..deal_bytes_len(n)).map(|i| (i * 89) as u8).collect();
+    // What the first search has left, 0 where it is on.
+    let left = search - 1;
     let kept: Vec<_> = (1..=n)
         .map(|own| {
             let totals = [share(demand, 99, own), share(supply, 55, own)];
-            let mut sheet = [0; SHEET_LEN];
-            deal(n, own, &words, &bytes, &mut sheet).unwrap();
-            (totals, sheet)
+            // The other search's sheet is none.
+            let mut sheets = [u64::MAX; sheets_len(1)];
+            let sheet = &mut sheets[left as usize * SHEET_LEN..][..SHEET_LEN];
+            deal(n, own, &words, &bytes, sheet).unwrap();
+            let numbers = [1, n, own, 1, 0, 0, 2, left, 1, 0, 0];
+            (stored(numbers, [search, left, left]), totals, sheets)
         })
         .collect();
-    let mut parties: Vec<Speaking> = (1..)
-        .zip(&kept)
-        .map(|(own, (totals, sheet))| {
-            let session = Collecting::open(n, own, 1, &mut [0; 2]).unwrap();
-            session.speak(totals, sheet)
-        })
+    let mut parties: Vec<Speaking> = kept
+        .iter()
+        .map(|(stored, totals, sheets)| Speaking::resume(stored, totals, sheets).unwrap())
         .collect();
     let mut sum = 0;
     for round in 1..=ROUNDS {
@@ -121,16 +124,34 @@ fn probe(demand: u64, supply: u64, mask: u64) -> (u64, bool) {
             }
         }
     }
-    let answer = parties[0].answer().unwrap();
-    assert_eq!(answer.probes, 1);
-    for party in &parties {
-        assert_eq!(party.answer(), Ok(answer));
+    let record = parties[0].record();
+    let verdict = match search {
+        1 => record.first == 1,
+        _ => record.hi == 1,
+    };
+    // The second search ends at lo 0 and hi 1, or at lo 1 and hi 2. The first
+    // ends with 0, and with that the second, or the second begins over 1 price.
+    let (lo, hi, first) = match (search, verdict) {
+        (1, _) => (0, 1 + u64::from(verdict), u64::from(verdict)),
+        (_, true) => (0, 1, 1),
+        (_, false) => (1, 2, 1),
+    };
+    for (own, party) in (1..).zip(&parties) {
+        let numbers = [1, n, own, 1, 0, lo, hi, search, 1, 0, 0];
+        assert_eq!(party.store(), stored(numbers, [2, first, 1]));
+        assert_eq!(party.is_over(), hi - lo == 1);
     }
-    (sum, answer.index == 1)
+    (sum, verdict)
 }
 
 #[test]
 fn comparisons() {
+    // The second search has the sides exchanged.
+    let probe = |more, less, mask| {
+        let first = probe(1, more, less, mask);
+        assert_eq!(probe(2, less, more, mask), first);
+        first
+    };
     let base = (1 << 59) + (1 << 32);
     assert_eq!(probe(5, 3, 7), (base - 5, true));
     assert_eq!(probe(3, 5, 7), (base - 9, false));
@@ -219,10 +240,12 @@ fn bidders_are_numbered_from_1_to_1000() {
     assert_eq!((session.record().bids, totals), (2, [4, 6]));
 }
 
-/// A stored session of nobody's bids: its words before the roll, then the roll.
-fn stored(numbers: [u64; STORED_LEN - ROLL_LEN]) -> [u64; STORED_LEN] {
+/// A stored session of nobody's bids: its words before the roll, and those of
+/// the searches behind it.
+fn stored(numbers: [u64; 11], searches: [u64; 3]) -> [u64; STORED_LEN] {
     let mut words = [0; STORED_LEN];
-    words[..numbers.len()].copy_from_slice(&numbers);
+    words[..11].copy_from_slice(&numbers);
+    words[11 + ROLL_LEN..].copy_from_slice(&searches);
     words
 }
 
@@ -233,7 +256,7 @@ fn limits_of_a_session() {
         Collecting::open(n, own, k, &mut totals).map(|session| (session.store(), totals))
     };
     for n in 3..=9 {
-        let opened = stored([0, n, n, 1_024, 0, 0, 1_025, 0, 1, 0, 0]);
+        let opened = stored([0, n, n, 1_024, 0, 0, 1_025, 0, 1, 0, 0], [1, 0, 0]);
         assert_eq!(open(n, n, 1_024), Ok((opened, vec![0; 2_048])));
         assert_eq!(open(n, n + 1, 1), Err(Refusal::OutOfRange));
         assert_eq!(open(n, 0, 1), Err(Refusal::OutOfRange));
@@ -252,19 +275,25 @@ fn limits_of_a_session() {
 
 #[test]
 fn answers_wait_for_the_end() {
-    let answer = |lo, probes, carry| {
-        let stored = stored([1, 3, 1, 1, 0, lo, 2, probes, 1, 0, carry]);
+    let answer = |[lo, hi, probes]: [u64; 3], searches: [u64; 3], carry| {
+        let stored = stored([1, 3, 1, 1, 0, lo, hi, probes, 1, 0, carry], searches);
         let party = Speaking::resume(&stored, &[], &[]).unwrap();
-        assert_eq!(party.is_over(), lo == 1);
-        party.answer()
+        assert_eq!(party.is_over(), searches[0] == 2 && hi - lo == 1);
+        party
+            .answer()
+            .map(|Answer { index, probes }| (index, probes))
     };
-    assert_eq!(answer(0, 0, 0), Err(Refusal::OutOfTurn));
-    let over = Answer {
-        index: 1,
-        probes: 1,
-    };
-    assert_eq!(answer(1, 1, 0), Ok(over));
-    assert_eq!(answer(1, 1, 256), Err(Refusal::OutOfRange));
+    let out_of_turn = Err(Refusal::OutOfTurn);
+    assert_eq!(answer([0, 2, 0], [1, 0, 0], 0), out_of_turn);
+    assert_eq!(answer([0, 2, 1], [2, 1, 1], 0), out_of_turn);
+    // No price; a balanced one; one that is not.
+    assert_eq!(answer([0, 1, 1], [2, 0, 1], 0), Ok((0, 1)));
+    assert_eq!(answer([0, 1, 2], [2, 1, 1], 0), Ok((1, 2)));
+    assert_eq!(answer([1, 2, 2], [2, 1, 1], 0), Ok((1, 2)));
+    let out_of_range = Err(Refusal::OutOfRange);
+    assert_eq!(answer([1, 2, 2], [2, 1, 1], 256), out_of_range);
+    // A first search that has ended has begun the second.
+    assert_eq!(answer([1, 2, 1], [1, 0, 0], 0), out_of_range);
 }
 
 #[test]
@@ -289,8 +318,13 @@ fn sizes() {
         [1, 2, 3, 4, 7, 8, 255, 256, 1_023, 1_024].map(probe_limit),
         [1, 2, 2, 3, 3, 4, 8, 9, 10, 11]
     );
+    assert_eq!(
+        [1, 2, 3, 4, 7, 8, 255, 256, 1_023, 1_024].map(sheet_count),
+        [2, 4, 4, 6, 6, 8, 16, 18, 20, 22]
+    );
     assert_eq!((deal_words_len(9), deal_bytes_len(9)), (5, 566));
-    assert_eq!((coins_len(9, 1_024), sheets_len(1_024)), (8_192, 1_397));
+    assert_eq!((coins_len(9, 1_024), sheets_len(1_024)), (8_192, 2_794));
+    assert_eq!((RECORD_LEN, STORED_LEN), (29, 30));
 }
 
 #[test]
@@ -305,7 +339,11 @@ fn sizes_of_any_number() {
     );
     assert_eq!([0, MOST].map(deal_words_len), [1, 1 << 63]);
     assert_eq!([0, MOST].map(deal_bytes_len), [62, usize::MAX]);
-    assert_eq!([0, HALF, MOST].map(sheets_len), [0, 127 * 64, 127 * 64]);
+    assert_eq!(
+        [0, HALF - 1, HALF, MOST].map(sheet_count),
+        [0, 126, 128, 128]
+    );
+    assert_eq!([0, HALF, MOST].map(sheets_len), [0, 127 * 128, 127 * 128]);
     for k in [HALF, MOST] {
         assert_eq!(
             [0, 3, MOST].map(|n| coins_len(n, k)),

@@ -11,16 +11,19 @@ const K: u64 = 2;
 const TABLE: [u64; 4] = [5, 2, 1, 4];
 /// The number of the one who bids it.
 const BIDDER: u64 = 640;
-/// The place of `bids` in a record, of its probes, its round and its roll.
+/// The place of `bids` in a record, of its probes, its round, its roll and the
+/// numbers of the searches.
 const BIDS: usize = 3;
 const PROBES: usize = 6;
 const ROUND: usize = 7;
-const ROLL: usize = RECORD_LEN - ROLL_LEN;
+const ROLL: usize = 10;
+const SEARCH: usize = ROLL + ROLL_LEN;
 
 /// The record of party 1 before the first round, with these bidders on the roll.
 fn with_bids(bidders: &[u64]) -> [u64; RECORD_LEN] {
     let mut record = [0; RECORD_LEN];
     record[..ROLL].copy_from_slice(&[N, 1, K, 0, 0, K + 1, 0, 1, 0, 0]);
+    record[SEARCH..].copy_from_slice(&[1, 0, 0]);
     record[BIDS] = bidders.len() as u64;
     for bidder in bidders {
         record[ROLL + *bidder as usize / 64] |= 1 << (bidder % 64);
@@ -114,6 +117,8 @@ fn the_fields_of_a_record_in_their_order() {
     ];
     assert_eq!(numbers, [10, 11, 12, 13, 14, 15, 16, 17, 18, 19]);
     assert_eq!(record.roll, std::array::from_fn(|place| place as u64 + 20));
+    let searches = [record.search, record.first, record.first_probes];
+    assert_eq!(searches, [36, 37, 38]);
     assert_eq!(party.store(), words);
 }
 
@@ -166,7 +171,7 @@ fn a_session_resumed_after_every_call_comes_to_its_answer() {
     }
     let answer = Answer {
         index: 1,
-        probes: 2,
+        probes: 3,
     };
     for party in &parties {
         assert_eq!(party.answer(), Ok(answer));
@@ -190,8 +195,9 @@ fn what_is_not_resumed() {
         let out_of_range = [Some(Refusal::OutOfRange); 2];
         assert_eq!(resume(&stored(first, opened)), out_of_range);
     }
-    // Eleven words were a session before there was a roll.
-    for length in [0, 11, RECORD_LEN, STORED_LEN + 1] {
+    // Eleven words were a session before there was a roll, and 27 before there
+    // was a second search.
+    for length in [0, 11, 27, RECORD_LEN, STORED_LEN + 1] {
         let wrong_length = [Some(Refusal::WrongLength); 2];
         assert_eq!(resume(&vec![7; length]), wrong_length);
     }
@@ -334,7 +340,7 @@ fn a_bid_is_judged_in_its_order() {
         }
     }
     // On plain words the record's length comes before all else.
-    for length in [0, 10, RECORD_LEN - 1, RECORD_LEN + 1] {
+    for length in [0, 10, 26, RECORD_LEN - 1, RECORD_LEN + 1] {
         let mut record = vec![u64::MAX; length];
         let number = words::add(&mut record, &mut [0; 4], 0, short);
         assert_eq!(number, Refusal::WrongLength.number());

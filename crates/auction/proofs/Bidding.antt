@@ -31,6 +31,7 @@ use Rattle.roll.proofs.Laws.{Proper, Free, marks-mark, marks-empty}
 use Rattle.record.specs.declared.Party.{Party}
 use Rattle.record.specs.Record.{blank}
 use Rattle.session.specs.Open.{open-judgement}
+use Rattle.search.specs.Searches.{first-search}
 use Rattle.record.specs.Updates.{fresh, entered}
 use Rattle.record.proofs.Replies.{next-party}
 use Rattle.record.proofs.Soundness.{Sound}
@@ -95,7 +96,12 @@ module _ (n j k : ℕ) (L : OnList n j k) (b : DrawnBid) (shares : List ℕ) (B 
 -- the record of party j with the bids of these on the roll held
 unfoldable pub holding : (n k : ℕ) (roll : Roll) (j : ℕ) → Party
 holding n k roll j =
-    record { n = n; own = j; k = k; bids = marks roll; lo = 0; hi = k + 1; probes = 0; round = 1; sum = 0; carry = 0; roll = roll }
+    record { n = n; own = j; k = k; bids = marks roll; search = first-search k; round = 1; sum = 0; carry = 0; roll = roll }
+
+-- no probe is made at the start
+none-made : (k : ℕ) → first-search k .probes ≡ 0
+unfolding first-search
+none-made k = refl
 
 pub fresh-holding : (n k j : ℕ) → fresh n j k ≡ holding n k empty j
 unfolding fresh holding
@@ -112,14 +118,11 @@ module _ (n k j : ℕ) (roll : Roll) (P : Proper roll) where
       let s = fresh-sound n j k L in
       record {
         listed = L;
-        apart = s .apart;
-        inside = s .inside;
+        search = s .search;
         round-least = s .round-least;
         round-most = s .round-most;
         sum = s .sum;
         carry = s .carry;
-        probes = s .probes;
-        ended = s .ended;
         roll = P;
         bids = refl;
       }
@@ -232,7 +235,7 @@ module _ {a : Auction} (A : IsAuction a) (j : ℕ) (h1 : 1 ≤ j) (hn : j ≤ a 
               free = free;
               totals-long = length-map fs (λ f. value amounts f j) ∙ F .many;
               shares-long = length-map (entries (b .0 .table) (b .1)) (λ f. value amounts f j) ∙ E .many;
-              no-probes = refl;
+              no-probes = none-made (a .k);
               first-round = refl;
               totals-below = at-party-below (threshold (a .n)) j fs hj (F .shared);
               shares-below = at-party-below (threshold (a .n)) j (entries (b .0 .table) (b .1)) hj (E .shared);

@@ -51,7 +51,7 @@ module _ (a : Auction) (c : Coins) (A : IsAuction a) (C : InRange a c) (desk : D
     canonical-decisions = ap (collect _) canonical-hearings ∙ rounds-decisions a c A C j j1 jn
 
     pub canonical-many : length (verdicts j (canonical a c desk)) ≡ length (probes a c)
-    canonical-many = length-map (decisions j (canonical a c desk)) (λ d. d .1) ∙ ap length canonical-decisions ∙ length-map (probes a c) decision
+    canonical-many = length-map (decisions j (canonical a c desk)) (λ d. d .verdict) ∙ ap length canonical-decisions ∙ length-map (probes a c) decision
 
     pub canonical-askings : askings j (canonical a c desk) ≡ record-at a c (end a c A C) j ∷ []
     canonical-askings = reads asking-in [] _ (setup-askings A C desk j j1 jn) (rounds-askings a c A C j j1 jn)

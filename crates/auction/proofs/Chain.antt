@@ -9,7 +9,8 @@ use native.Mathlib.Omega.{arith}
 use lib.ListN.{length}
 use Rattle.ranges.specs.Lists.{from}
 use Rattle.sharing.specs.Scheme.{points}
-use Rattle.search.specs.Bracket.{middle, over}
+use Rattle.search.specs.Searches.{finished}
+use Rattle.search.specs.Search.{Decision, decision-at}
 use Rattle.round.specs.Round.{heard}
 use Rattle.auction.specs.Auction.{Auction}
 use Rattle.auction.specs.Coins.{Coins}
@@ -20,7 +21,7 @@ use Rattle.auction.specs.Received.{collect, bid-in, Hearing, hearing-in,
 use Rattle.auction.specs.Demands.{all-accepted}
 use Rattle.auction.proofs.Closed.{Stage, record-at, sheets-at, seat}
 use Rattle.auction.proofs.Calls.{own-append, collect-append, collect-none, collect-some, all-accepted-append, all-accepted-points, map-points, Own, own-points}
-use Rattle.auction.proofs.Step.{bracket-of, Step}
+use Rattle.auction.proofs.Step.{Step}
 
 -- a round: the stage before it, and the word of each party
 pub record Turn : Type 0 where
@@ -43,12 +44,12 @@ module _ (a : Auction) (c : Coins) where
   from-ending (suc fuel) ss e = rw (e, from-rounds)
 
   module _ (σ : Stage) where
-    going-on : over (bracket-of σ) ≡ false → (i m : ℕ) → 1 ≤ m → all-over (map (seat a c σ) (from i m)) ≡ false
+    going-on : finished (σ .search) ≡ false → (i m : ℕ) → 1 ≤ m → all-over (map (seat a c σ) (from i m)) ≡ false
     unfolding all-over from seat record-at
     going-on e i zero h = absurd (omega arith)
     going-on e i (suc m) h = rw e
 
-    pub all-done : over (bracket-of σ) ≡ true → (xs : List ℕ) → all-over (map (seat a c σ) xs) ≡ true
+    pub all-done : finished (σ .search) ≡ true → (xs : List ℕ) → all-over (map (seat a c σ) xs) ≡ true
     unfolding all-over seat record-at
     all-done e [] = refl
     all-done e (x ∷ xs) = ap₂ _&&_ e (all-done e xs)
@@ -75,16 +76,16 @@ module _ (a : Auction) (c : Coins) where
   verdict-heard r = verdict-in (heard (a .n) (r .stage .round) (all-words r))
 
 -- rounds that lead from one stage to another, with the verdicts that are heard in them
-pub data Chain (a : Auction) (c : Coins) : Stage → List Turn → List (ℕ × ℕ) → Stage → Type 0 where
+pub data Chain (a : Auction) (c : Coins) : Stage → List Turn → List Decision → Stage → Type 0 where
   done : {σ : Stage} → Chain a c σ [] [] σ
-  quiet : {σ ρ τ : Stage} {w : ℕ → ℕ} {rs : List Turn} {ds : List (ℕ × ℕ)} → Step a c σ ρ w
+  quiet : {σ ρ τ : Stage} {w : ℕ → ℕ} {rs : List Turn} {ds : List Decision} → Step a c σ ρ w
       → verdict-heard a c (record { stage = σ; words = w }) ≡ none → Chain a c ρ rs ds τ → Chain a c σ (record { stage = σ; words = w } ∷ rs) ds τ
-  decides : {σ ρ τ : Stage} {w : ℕ → ℕ} {v : ℕ} {rs : List Turn} {ds : List (ℕ × ℕ)} → Step a c σ ρ w
+  decides : {σ ρ τ : Stage} {w : ℕ → ℕ} {v : ℕ} {rs : List Turn} {ds : List Decision} → Step a c σ ρ w
       → verdict-heard a c (record { stage = σ; words = w }) ≡ some v → Chain a c ρ rs ds τ
-      → Chain a c σ (record { stage = σ; words = w } ∷ rs) ((middle (bracket-of σ), v) ∷ ds) τ
+      → Chain a c σ (record { stage = σ; words = w } ∷ rs) (decision-at (σ .search) v ∷ ds) τ
 
 module _ {a : Auction} {c : Coins} where
-  pub chain-append : {σ ρ τ : Stage} {rs rs′ : List Turn} {ds ds′ : List (ℕ × ℕ)} → Chain a c σ rs ds ρ → Chain a c ρ rs′ ds′ τ
+  pub chain-append : {σ ρ τ : Stage} {rs rs′ : List Turn} {ds ds′ : List Decision} → Chain a c σ rs ds ρ → Chain a c ρ rs′ ds′ τ
       → Chain a c σ (rs ++ rs′) (ds ++ ds′) τ
   chain-append done d = d
   chain-append (quiet s e r) d = quiet s e (chain-append r d)
@@ -162,7 +163,7 @@ module _ (a : Auction) (c : Coins) (many : 1 ≤ a .n) where
       ∙ ap (λ (l : List Call). turn-calls a c (record { stage = σ; words = w }) ++ l) e
       ∙ sym (append-assoc (turn-calls a c (record { stage = σ; words = w })) (calls a c rs) (from-rounds a c fuel last))
 
-  pub chain-rounds : {σ τ : Stage} {rs : List Turn} {ds : List (ℕ × ℕ)} → Chain a c σ rs ds τ → (fuel : ℕ)
+  pub chain-rounds : {σ τ : Stage} {rs : List Turn} {ds : List Decision} → Chain a c σ rs ds τ → (fuel : ℕ)
       → from-rounds a c (length rs + fuel) (seats a c σ) ≡ calls a c rs ++ from-rounds a c fuel (seats a c τ)
   unfolding calls
   chain-rounds done fuel = rw zero-add
@@ -171,7 +172,7 @@ module _ (a : Auction) (c : Coins) (many : 1 ≤ a .n) where
   chain-rounds (decides {τ} {rs} s e r) fuel =
       rw suc-add (one-more rs (seats a c τ) s fuel (chain-rounds r fuel))
 
-  pub chain-accepted : {σ τ : Stage} {rs : List Turn} {ds : List (ℕ × ℕ)} → Chain a c σ rs ds τ → all-accepted (calls a c rs) ≡ true
+  pub chain-accepted : {σ τ : Stage} {rs : List Turn} {ds : List Decision} → Chain a c σ rs ds τ → all-accepted (calls a c rs) ≡ true
   unfolding calls all-accepted
   chain-accepted done = refl
   chain-accepted (quiet {σ} {w} {rs} s e r) =
@@ -187,20 +188,20 @@ module _ (a : Auction) (c : Coins) (many : 1 ≤ a .n) where
     reads f r rs xs ys e g =
         ap (collect f) (own-append j (turn-calls a c r) (calls a c rs)) ∙ collect-append f (own j (turn-calls a c r)) (own j (calls a c rs)) ∙ ap₂ _++_ e g
 
-    pub chain-hearings : {σ τ : Stage} {rs : List Turn} {ds : List (ℕ × ℕ)} → Chain a c σ rs ds τ
+    pub chain-hearings : {σ τ : Stage} {rs : List Turn} {ds : List Decision} → Chain a c σ rs ds τ
         → collect hearing-in (own j (calls a c rs)) ≡ map (hearing-of a c j) rs
     unfolding calls collect select
     chain-hearings done = refl
     chain-hearings (quiet {rs} s e r) = reads hearing-in _ rs _ (map (hearing-of a c j) rs) (turn-hearings s j j1 jn) (chain-hearings r)
     chain-hearings (decides {rs} s e r) = reads hearing-in _ rs _ (map (hearing-of a c j) rs) (turn-hearings s j j1 jn) (chain-hearings r)
 
-    pub chain-bids : {σ τ : Stage} {rs : List Turn} {ds : List (ℕ × ℕ)} → Chain a c σ rs ds τ → collect bid-in (own j (calls a c rs)) ≡ []
+    pub chain-bids : {σ τ : Stage} {rs : List Turn} {ds : List Decision} → Chain a c σ rs ds τ → collect bid-in (own j (calls a c rs)) ≡ []
     unfolding calls collect select
     chain-bids done = refl
     chain-bids (quiet {rs} s e r) = reads bid-in _ rs [] [] (turn-bids s j j1 jn) (chain-bids r)
     chain-bids (decides {rs} s e r) = reads bid-in _ rs [] [] (turn-bids s j j1 jn) (chain-bids r)
 
-    pub chain-askings : {σ τ : Stage} {rs : List Turn} {ds : List (ℕ × ℕ)} → Chain a c σ rs ds τ → collect asking-in (own j (calls a c rs)) ≡ []
+    pub chain-askings : {σ τ : Stage} {rs : List Turn} {ds : List Decision} → Chain a c σ rs ds τ → collect asking-in (own j (calls a c rs)) ≡ []
     unfolding calls collect select
     chain-askings done = refl
     chain-askings (quiet {rs} s e r) = reads asking-in _ rs [] [] (turn-askings s j j1 jn) (chain-askings r)
@@ -211,16 +212,16 @@ module _ (a : Auction) (c : Coins) (many : 1 ≤ a .n) where
     unfolding decision-in record-at
     none-decided r e = rw (e, decision-in)
 
-    one-decided : (r : Turn) (v : ℕ) → verdict-heard a c r ≡ some v → decision-in (hearing-of a c j r) ≡ some (middle (bracket-of (r .stage)), v)
+    one-decided : (r : Turn) (v : ℕ) → verdict-heard a c r ≡ some v → decision-in (hearing-of a c j r) ≡ some (decision-at (r .stage .search) v)
     unfolding decision-in record-at
     one-decided r v e = rw (e, decision-in)
 
-    pub chain-decisions : {σ τ : Stage} {rs : List Turn} {ds : List (ℕ × ℕ)} → Chain a c σ rs ds τ
+    pub chain-decisions : {σ τ : Stage} {rs : List Turn} {ds : List Decision} → Chain a c σ rs ds τ
         → collect decision-in (map (hearing-of a c j) rs) ≡ ds
     unfolding collect
     chain-decisions done = refl
     chain-decisions (quiet {σ} {w} {rs} s e r) =
         collect-none decision-in (hearing-of a c j (record { stage = σ; words = w })) (map (hearing-of a c j) rs) (none-decided _ e) ∙ chain-decisions r
     chain-decisions (decides {σ} {w} {v} {rs} s e r) =
-        collect-some decision-in (hearing-of a c j (record { stage = σ; words = w })) (map (hearing-of a c j) rs) (middle (bracket-of σ), v) (one-decided _ v e)
-        ∙ ap (λ (l : List (ℕ × ℕ)). (middle (bracket-of σ), v) ∷ l) (chain-decisions r)
+        collect-some decision-in (hearing-of a c j (record { stage = σ; words = w })) (map (hearing-of a c j) rs) (decision-at (σ .search) v) (one-decided _ v e)
+        ∙ ap (λ (l : List Decision). decision-at (σ .search) v ∷ l) (chain-decisions r)

@@ -1,4 +1,4 @@
--- An auction seen whole: the polynomials behind every party's totals and sheets, the state of the search, and what each party then has
+-- An auction seen whole: the polynomials behind every party's totals and sheets, where the searches stand, and what each party then has
 -- and says. Everything that a run computes is read off these. Assumes nothing.
 use mathlib.Core.Bool.{true, false}
 use mathlib.Core.List.{List, [], _∷_, map, flatten, zip}
@@ -11,8 +11,10 @@ use Rattle.sharing.specs.Polynomial.{value}
 use Rattle.sharing.specs.Linear.{sums}
 use Rattle.ranges.specs.Lists.{from}
 use Rattle.sharing.specs.Scheme.{threshold, points}
-use Rattle.search.specs.declared.Bracket.{Bracket}
-use Rattle.search.specs.Bracket.{start, middle, over, step}
+use Rattle.search.specs.declared.searches.Search.{Search}
+use Rattle.search.specs.Bracket.{middle}
+use Rattle.search.specs.Searches.{side, first-search, next, finished}
+use Rattle.search.specs.Search.{Decision, decision-at}
 use Rattle.comparison.specs.Probe.{SheetCoins, sheet-polynomials, sheet-shares, probe-messages, Probe, secret, round, carry-after, opened-sum, carry-one, last-polynomial}
 use Rattle.record.specs.declared.Party.{Party}
 use Rattle.roll.specs.declared.Roll.{Roll}
@@ -65,9 +67,25 @@ module _ (a : Auction) where
 
   -- ---- one probe
 
-  -- the probe at index i with the totals fs and this sheet
-  unfoldable pub probe-at : List (List ℕ) → ℕ → SheetCoins → Probe
-  probe-at fs i s = record { demand = getD fs (i - 1) []; supply = getD fs (a .k + i - 1) []; sheet = sheet-polynomials s }
+  -- the totals' polynomials at index i
+  abbrev pub demand-at : List (List ℕ) → ℕ → List ℕ
+  demand-at fs i = getD fs (i - 1) []
+
+  abbrev pub supply-at : List (List ℕ) → ℕ → List ℕ
+  supply-at fs i = getD fs (a .k + i - 1) []
+
+  -- the probe at index i with the totals fs and this sheet, in the second search with the sides exchanged
+  unfoldable pub probe-at : List (List ℕ) → (which i : ℕ) → SheetCoins → Probe
+  probe-at fs which i s =
+      record {
+        demand = side which (demand-at fs i) (supply-at fs i);
+        supply = side which (supply-at fs i) (demand-at fs i);
+        sheet = sheet-polynomials s;
+      }
+
+  -- where the searches stand
+  abbrev pub probe-of : List (List ℕ) → Search → SheetCoins → Probe
+  probe-of fs here s = probe-at fs (here .which) (middle (here .bracket)) s
 
 -- C_(m + 1): the carry after round m + 1
 unfoldable pub carry-at : Probe → ℕ → List ℕ
@@ -78,24 +96,24 @@ carry-at q (suc m) =
 
 -- ---- all probes
 
--- a probe that is made: where the search stands, the probe, and its verdict
+-- a probe that is made: where the searches stand, and the probe; and its verdict
 pub record Made : Type 0 where
-  pub bracket : Bracket
+  pub here : Search
   pub probe : Probe
 
 abbrev pub decided : Made → ℕ
 decided d = secret (last-polynomial (d .probe))
 
--- the probed index and the verdict
-abbrev pub decision : Made → ℕ × ℕ
-decision d = (middle (d .bracket), decided d)
+-- which search, the probed index and the verdict
+abbrev pub decision : Made → Decision
+decision d = decision-at (d .here) (decided d)
 
--- the probes that the search makes with these sheets, until it is over
-unfoldable pub made : (a : Auction) → List (List ℕ) → Bracket → List SheetCoins → List Made
-made a fs b [] = []
-made a fs b (s ∷ ss) =
-    let q = probe-at a fs (middle b) s in
-    elim (over b) [ true ↦ [] | false ↦ record { bracket = b; probe = q } ∷ made a fs (step b (secret (last-polynomial q))) ss ]
+-- the probes that the searches make with these sheets, until they are finished
+unfoldable pub made : (a : Auction) → List (List ℕ) → Search → List SheetCoins → List Made
+made a fs here [] = []
+made a fs here (s ∷ ss) =
+    let q = probe-of a fs here s in
+    elim (finished here) [ true ↦ [] | false ↦ record { here = here; probe = q } ∷ made a fs (next here (secret (last-polynomial q))) ss ]
 
 -- the messages of the n parties, round by round
 unfoldable pub spoken : (n : ℕ) → Probe → List (List ℕ)
@@ -109,20 +127,18 @@ all-spoken n ds = flatten (map (λ d. spoken n (d .probe)) ds)
 
 -- what all parties know in a round, and the polynomial of the carry
 pub record Stage : Type 0 where
-  pub lo : ℕ
-  pub hi : ℕ
-  pub probes : ℕ
+  pub search : Search
   pub round : ℕ
   pub sum : ℕ
   pub carry : List ℕ
 
 -- before round 1 of a probe
-abbrev pub fresh-stage : Bracket → ℕ → Stage
-fresh-stage b m = record { lo = b .lo; hi = b .hi; probes = m; round = 1; sum = 0; carry = [] }
+abbrev pub fresh-stage : Search → Stage
+fresh-stage here = record { search = here; round = 1; sum = 0; carry = [] }
 
 -- before round i + 2 of the probe q
-abbrev pub inner-stage : Bracket → ℕ → Probe → ℕ → Stage
-inner-stage b m q i = record { lo = b .lo; hi = b .hi; probes = m; round = i + 2; sum = opened-sum q; carry = carry-at q i }
+abbrev pub inner-stage : Search → Probe → ℕ → Stage
+inner-stage here q i = record { search = here; round = i + 2; sum = opened-sum q; carry = carry-at q i }
 
 module _ (a : Auction) (c : Coins) where
   unfoldable pub record-at : Stage → ℕ → Party
@@ -132,9 +148,7 @@ module _ (a : Auction) (c : Coins) where
         own = j;
         k = a .k;
         bids = marks (full-roll a);
-        lo = σ .lo;
-        hi = σ .hi;
-        probes = σ .probes;
+        search = σ .search;
         round = σ .round;
         sum = σ .sum;
         carry = value bytes (σ .carry) j;
@@ -149,4 +163,4 @@ module _ (a : Auction) (c : Coins) where
 
   -- all the probes of an auction
   abbrev pub probes : List Made
-  probes = made a (polynomials a c) (start (a .k)) (c .sheets)
+  probes = made a (polynomials a c) (first-search (a .k)) (c .sheets)

@@ -6,9 +6,9 @@ use native.Mathlib.Omega.{arith}
 use lib.Dec.{ltb}
 use borrow.Author.Tests.{le-leb, lt-ltb, ltb-true, ltb-false}
 use Rattle.ranges.specs.Lists.{count}
-use Rattle.auction.specs.Auction.{Auction, IsAuction, demand, supply}
+use Rattle.auction.specs.Auction.{Auction, IsAuction, left-side, right-side}
 use Rattle.auction.specs.Demands.{stays}
-use Rattle.auction.proofs.Totals.{demand-small, supply-small}
+use Rattle.auction.proofs.Totals.{left-small, right-small}
 
 -- ---- counting
 
@@ -41,20 +41,25 @@ count-moved test m w up down f h k l =
 
 -- ---- masks
 
-falls-not : (a b : Auction) (i mask : ℕ) → demand a i + supply b i ≤ mask + (demand b i + supply a i)
-    → mask + (demand b i + supply a i) < 2 ^ 58 + (demand a i + supply b i) → not (stays a b i mask) ≡ false
-unfolding stays
-falls-not a b i mask h k =
-    rw (
-      le-leb (demand a i + supply b i) (mask + demand b i + supply a i) (omega arith),
-      lt-ltb (mask + demand b i + supply a i) (2 ^ 58 + (demand a i + supply b i)) (omega arith),
-    )
+module _ (a b : Auction) (which i : ℕ) where
+  abbrev up : ℕ
+  up = left-side a which i + right-side b which i
 
-pub few-fall-below : (a b : Auction) (i : ℕ) → demand a i < 2 ^ 32 → supply a i < 2 ^ 32 → demand b i < 2 ^ 32 → supply b i < 2 ^ 32
-    → count (λ mask. not (stays a b i mask)) (2 ^ 58) ≤ 2 ^ 33 - 2
-few-fall-below a b i da sa db sb =
-    count-moved (λ mask. not (stays a b i mask)) (2 ^ 58) (2 ^ 33 - 2) (demand a i + supply b i) (demand b i + supply a i)
-    (falls-not a b i) (omega arith) (omega arith) (omega arith)
+  abbrev down : ℕ
+  down = left-side b which i + right-side a which i
 
-pub few-fall : (a b : Auction) → IsAuction a → IsAuction b → (i : ℕ) → count (λ mask. not (stays a b i mask)) (2 ^ 58) ≤ 2 ^ 33 - 2
-few-fall a b A B i = few-fall-below a b i (demand-small A i) (supply-small A i) (demand-small B i) (supply-small B i)
+  falls-not : (mask : ℕ) → up ≤ mask + down → mask + down < 2 ^ 58 + up → not (stays a b which i mask) ≡ false
+  unfolding stays
+  falls-not mask h k =
+      rw (
+        le-leb up (mask + left-side b which i + right-side a which i) (omega arith),
+        lt-ltb (mask + left-side b which i + right-side a which i) (2 ^ 58 + up) (omega arith),
+      )
+
+  pub few-fall : IsAuction a → IsAuction b → count (λ mask. not (stays a b which i mask)) (2 ^ 58) ≤ 2 ^ 33 - 2
+  few-fall A B =
+      let la = left-small A which i in
+      let ra = right-small A which i in
+      let lb = left-small B which i in
+      let rb = right-small B which i in
+      count-moved (λ mask. not (stays a b which i mask)) (2 ^ 58) (2 ^ 33 - 2) up down falls-not (omega arith) (omega arith) (omega arith)

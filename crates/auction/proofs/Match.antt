@@ -1,34 +1,33 @@
 -- The matching coins match: with them the second auction is the same as the first for t pooled parties and in every word that is said,
 -- and no other coins do this. Assumes nothing.
 use mathlib.Core.Path.{_≡_, refl, sym, ap, subst, _∙_}
-use mathlib.Core.Bool.{cond, true}
+use mathlib.Core.Bool.{true}
 use mathlib.Core.List.{List, [], _∷_, map, zip, flatten, List·Memᴰ, List·Memᴰ·not-nil, List·Memᴰ·cases-cons}
 use mathlib.Core.Logic.{_⊎_, inl, inr}
-use Prim.Native.Nat.{ℕ, _+_, _-_, _*_, _≤_, _<_}
+use Prim.Native.Nat.{ℕ, _-_, _*_, _≤_, _<_}
 use native.Mathlib.Omega.{arith}
-use lib.Dec.{leb}
 use lib.ListN.{length, drop, getD, length-map}
 use Rattle.ranges.specs.Sizes.{sheet-size}
 use Rattle.fields.specs.Amount.{p, amounts}
 use Rattle.sharing.specs.Polynomial.{shares}
 use Rattle.sharing.specs.Scheme.{threshold}
 use Rattle.sharing.proofs.Points.{Different, with-zero}
-use Rattle.verdict.specs.Verdict.{verdict}
-use Rattle.search.specs.Bracket.{start, middle}
-use Rattle.search.specs.Search.{promise, trail}
-use Rattle.search.proofs.Narrowing.{encloses-start}
-use Rattle.search.proofs.Clearing.{verdict-by-clearing}
+use Rattle.search.specs.Searches.{first-search}
+use Rattle.search.specs.Search.{promise, decision-at, trail}
+use Rattle.search.proofs.Balance.{same-promises}
+use Rattle.search.proofs.Bounds.{roomy-start}
 use Rattle.comparison.specs.Probe.{probe-messages, Each}
 use Rattle.comparison.proofs.Agreement.{In}
 use Rattle.auction.specs.Auction.{Auction, Bid, IsAuction, demand, supply}
 use Rattle.auction.specs.Coins.{Coins, InRange, flat}
 use Rattle.auction.specs.Demands.{Alike, Pool, probed, stays, Stay}
 use Rattle.auction.proofs.Matched.{matched-bids, matched-sheets, match-coins}
-use Rattle.auction.proofs.Closed.{totals-after, no-totals, at-party, bid-words, polynomials, probe-at, decision, made, spoken, sheets-at, probes}
-use Rattle.auction.proofs.Totals.{all-good, no-totals-held, totals-monotone, polynomial-shared, demand-small, supply-small, demand-secret, supply-secret}
+use Rattle.auction.proofs.Closed.{totals-after, no-totals, at-party, bid-words, polynomials, decision, made, spoken, sheets-at, probes}
+use Rattle.auction.proofs.Totals.{all-good, no-totals-held, totals-monotone}
+use Rattle.auction.proofs.Comparing.{compares}
 use Rattle.auction.proofs.SameBids.{bids-many, bids-ranged, bids-words, bids-only, totals-same, shares-same}
 use Rattle.auction.proofs.SameSheets.{spoken-same}
-use Rattle.auction.proofs.SameProbes.{auction, Compared, Setting, Course, course, sheets-ranged, sheets-many, words-same, made-same, unused-same, sheets-only}
+use Rattle.auction.proofs.SameProbes.{auction, Setting, Course, course, sheets-ranged, sheets-many, words-same, made-same, unused-same, sheets-only}
 
 -- what the second auction, with these coins, has in common with the first
 pub record Match (a b : Auction) (xs : List ℕ) (c : Coins) : Type 0 where
@@ -38,8 +37,8 @@ pub record Match (a b : Auction) (xs : List ℕ) (c : Coins) : Type 0 where
   pub same-totals : (j : ℕ) → List·Memᴰ j xs → at-party j (polynomials b (match-coins a b xs c)) ≡ at-party j (polynomials a c)
   pub same-shares : (e : ℕ) → shares amounts (getD (polynomials b (match-coins a b xs c)) e []) xs ≡ shares amounts (getD (polynomials a c) e []) xs
   pub same-sheets : (j : ℕ) → List·Memᴰ j xs → sheets-at b (match-coins a b xs c) j ≡ sheets-at a c j
-  -- the probes: where the search stands at each, the words that are said, the verdicts, and how many there are
-  pub same-brackets : map (λ d. d .bracket) (probes b (match-coins a b xs c)) ≡ map (λ d. d .bracket) (probes a c)
+  -- the probes: where the searches stand at each, the words that are said, the verdicts, and how many there are
+  pub same-searches : map (λ d. d .here) (probes b (match-coins a b xs c)) ≡ map (λ d. d .here) (probes a c)
   pub same-messages : (j : ℕ) → map (λ d. probe-messages (d .probe) j) (probes b (match-coins a b xs c)) ≡ map (λ d. probe-messages (d .probe) j) (probes a c)
   pub same-spoken : map (λ d. spoken (b .n) (d .probe)) (probes b (match-coins a b xs c)) ≡ map (λ d. spoken (a .n) (d .probe)) (probes a c)
   pub same-decisions : map decision (probes b (match-coins a b xs c)) ≡ map decision (probes a c)
@@ -53,21 +52,6 @@ pub record Match (a b : Auction) (xs : List ℕ) (c : Coins) : Type 0 where
       → ((j : ℕ) → 1 ≤ j → j ≤ a .n → drop (sheet-size * length (probes a c)) (sheets-at b o j) ≡ drop (sheet-size * length (probes a c)) (sheets-at a c j))
       → flatten (map (λ d. spoken (b .n) (d .probe)) (probes b o)) ≡ flatten (map (λ d. spoken (a .n) (d .probe)) (probes a c))
       → o ≡ match-coins a b xs c
-
--- every probe at a listed index compares the totals there
-pub compared : (a : Auction) (c : Coins) → IsAuction a → InRange a c → Compared a (polynomials a c)
-unfolding probe-at
-compared a c A C i lo hi s h =
-    record {
-      demand-shared = polynomial-shared A C (i - 1) (omega arith);
-      supply-shared = polynomial-shared A C (a .k + i - 1) (omega arith);
-      demand-is = demand-secret A C i lo hi;
-      supply-is = supply-secret A C i lo hi;
-      demand-lt = demand-small A i;
-      supply-lt = supply-small A i;
-      ranged = h;
-      sheet-is = refl;
-    }
 
 -- a party's number is one of the field
 in-field : (xs : List ℕ) → Different xs → (j : ℕ) → In j xs → j < p
@@ -126,11 +110,6 @@ module _ (n k : ℕ) (bids bids′ : List Bid) (A : IsAuction (auction n k bids)
 
   -- ---- probes
 
-  agree : (i : ℕ) → 1 ≤ i → i ≤ k → verdict (demand a i) (supply a i) ≡ verdict (demand b i) (supply b i)
-  agree i lo hi =
-      verdict-by-clearing (totals-monotone A) i lo hi ∙ ap (λ (z : ℕ). cond (leb i z) 1 0) (sym (alike .answer))
-      ∙ sym (verdict-by-clearing (totals-monotone B) i lo hi)
-
   setting : Setting n k bids bids′ xs (polynomials a c) (polynomials b c₀)
   setting =
       record {
@@ -138,19 +117,19 @@ module _ (n k : ℕ) (bids bids′ : List Bid) (A : IsAuction (auction n k bids)
         more = omega (arith, A .n-least);
         pool = pool .parties;
         pooled = pool .many;
-        first = compared a c A C;
-        second = compared b c₀ B first-ranged;
+        first = compares a c A C;
+        second = compares b c₀ B first-ranged;
         seen = shares-same xs (polynomials a c) (polynomials b c₀) same-totals;
-        agree = agree;
+        agree = same-promises (totals-monotone A) (totals-monotone B) (sym (alike .highest)) (sym (alike .lowest));
       }
 
-  on-course : Course n k bids bids′ xs (polynomials a c) (polynomials b c₀) (start k) (c .sheets) (matched-sheets a b xs (probed a) (c .sheets))
+  on-course : Course n k bids bids′ xs (polynomials a c) (polynomials b c₀) (first-search k) (c .sheets) (matched-sheets a b xs (probed a) (c .sheets))
   on-course =
       subst
-      (λ (z : ℕ). Each (λ s. stays a b (s .0) (s .1 .mask) ≡ true) (zip (map (λ d. d .0) (trail (promise (demand a) (supply a)) z (start k))) (c .sheets))
-      → Course n k bids bids′ xs (polynomials a c) (polynomials b c₀) (start k) (c .sheets)
-      (matched-sheets a b xs (map (λ d. d .0) (trail (promise (demand a) (supply a)) z (start k))) (c .sheets)))
-      (C .sheets-many) (course setting (c .sheets) (start k) (encloses-start _ k) (C .sheets)) stay
+      (λ (z : ℕ). Each (λ s. stays a b (s .0 .which) (s .0 .index) (s .1 .mask) ≡ true) (zip (trail (promise (demand a) (supply a)) z (first-search k)) (c .sheets))
+      → Course n k bids bids′ xs (polynomials a c) (polynomials b c₀) (first-search k) (c .sheets)
+      (matched-sheets a b xs (trail (promise (demand a) (supply a)) z (first-search k)) (c .sheets)))
+      (C .sheets-many) (course setting (c .sheets) (first-search k) (roomy-start k (A .k-least)) (C .sheets)) stay
 
   -- ---- other coins
 
@@ -172,7 +151,7 @@ module _ (n k : ℕ) (bids bids′ : List Bid) (A : IsAuction (auction n k bids)
     unfolding sheets-at
     other-sheets =
         sheets-only setting on-course (o .sheets) (O .sheets-many ∙ sym (C .sheets-many)) (O .sheets) vs us
-        (ap (λ (z : List (List ℕ)). flatten (map (λ d. spoken n (d .probe)) (made b z (start k) (o .sheets)))) (sym other-polynomials) ∙ said)
+        (ap (λ (z : List (List ℕ)). flatten (map (λ d. spoken n (d .probe)) (made b z (first-search k) (o .sheets)))) (sym other-polynomials) ∙ said)
 
     coins-only : o ≡ c′
     unfolding match-coins
@@ -193,13 +172,13 @@ module _ (n k : ℕ) (bids bids′ : List Bid) (A : IsAuction (auction n k bids)
         same-totals = same-totals;
         same-shares = shares-same xs (polynomials a c) (polynomials b c₀) same-totals;
         same-sheets = λ j i. ap flat (words-same j i on-course);
-        same-brackets = made-same (λ d. d .bracket) (λ br s s′ P. refl) on-course;
-        same-messages = λ j. made-same (λ d. probe-messages (d .probe) j) (λ br s s′ P. P .said j) on-course;
-        same-spoken = made-same (λ d. spoken n (d .probe)) (λ br s s′ P. spoken-same n _ _ (P .said)) on-course;
-        same-decisions = made-same decision (λ br s s′ P. ap (λ (z : ℕ). (middle br, z)) (P .same)) on-course;
+        same-searches = made-same (λ d. d .here) (λ here s s′ P. refl) on-course;
+        same-messages = λ j. made-same (λ d. probe-messages (d .probe) j) (λ here s s′ P. P .said j) on-course;
+        same-spoken = made-same (λ d. spoken n (d .probe)) (λ here s s′ P. spoken-same n _ _ (P .said)) on-course;
+        same-decisions = made-same decision (λ here s s′ P. ap (decision-at here) (P .same)) on-course;
         same-many =
-            sym (length-map (made b (polynomials b c₀) (start k) (matched-sheets a b xs (probed a) (c .sheets))) (λ d. d .bracket))
-            ∙ ap length (made-same (λ d. d .bracket) (λ br s s′ P. refl) on-course) ∙ length-map (probes a c) (λ d. d .bracket);
+            sym (length-map (made b (polynomials b c₀) (first-search k) (matched-sheets a b xs (probed a) (c .sheets))) (λ d. d .here))
+            ∙ ap length (made-same (λ d. d .here) (λ here s s′ P. refl) on-course) ∙ length-map (probes a c) (λ d. d .here);
         same-unused = λ j. unused-same j on-course;
         only = coins-only;
       }

@@ -4,9 +4,10 @@ use mathlib.Core.List.{List, [], _∷_}
 use Prim.Native.Nat.{ℕ, _+_, _-_, _^_}
 use Rattle.fields.proofs.Fields.{amount-field}
 use Rattle.sharing.proofs.Laws.{recolour}
+use Rattle.search.specs.Search.{Decision}
 use Rattle.comparison.specs.Probe.{SheetCoins}
 use Rattle.comparison.proofs.Matched.{moved, matched}
-use Rattle.auction.specs.Auction.{Auction, Bid, demand, supply}
+use Rattle.auction.specs.Auction.{Auction, Bid, left-side, right-side}
 use Rattle.auction.specs.Coins.{Coins}
 use Rattle.auction.specs.Demands.{probed}
 
@@ -29,16 +30,18 @@ module _ (xs : List ℕ) where
   matched-bids (b ∷ bids) (b′ ∷ bids′) (gs ∷ gss) = matched-groups (b .table) (b′ .table) gs ∷ matched-bids bids bids′ gss
 
 module _ (a b : Auction) (xs : List ℕ) where
-  -- the sheet of the probe at index i: its mask moved by the second's surplus minus the first's, so that the same T opens
-  unfoldable pub matched-sheet : (i : ℕ) → SheetCoins → SheetCoins
-  matched-sheet i s =
-      matched xs (opening (demand a i) (supply a i) (s .mask)) (moved (s .mask) (demand a i) (supply a i) (demand b i) (supply b i)) s
+  -- the sheet of the probe at index i: its mask moved by the second's surplus minus the first's, where the surplus is the left side minus
+  -- the right one, so that the same T opens
+  unfoldable pub matched-sheet : (which i : ℕ) → SheetCoins → SheetCoins
+  matched-sheet which i s =
+      matched xs (opening (left-side a which i) (right-side a which i) (s .mask))
+      (moved (s .mask) (left-side a which i) (right-side a which i) (left-side b which i) (right-side b which i)) s
 
-  -- one sheet for each probed index, and unused sheets kept
-  unfoldable pub matched-sheets : (indices : List ℕ) → List SheetCoins → List SheetCoins
+  -- one sheet for each probe, and unused sheets kept
+  unfoldable pub matched-sheets : (probes : List Decision) → List SheetCoins → List SheetCoins
   matched-sheets [] ss = ss
-  matched-sheets (i ∷ is) [] = []
-  matched-sheets (i ∷ is) (s ∷ ss) = matched-sheet i s ∷ matched-sheets is ss
+  matched-sheets (d ∷ ds) [] = []
+  matched-sheets (d ∷ ds) (s ∷ ss) = matched-sheet (d .which) (d .index) s ∷ matched-sheets ds ss
 
   unfoldable pub match-coins : Coins → Coins
   match-coins c = record { bids = matched-bids xs (a .bids) (b .bids) (c .bids); sheets = matched-sheets (probed a) (c .sheets) }

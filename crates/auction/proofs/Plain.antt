@@ -10,13 +10,14 @@ use lib.ListN.{length, replicate, length-replicate}
 use borrow.Author.Tests.{le-leb, lt-ltb}
 use Rattle.fields.specs.Amount.{p}
 use Rattle.sharing.specs.Scheme.{threshold}
-use Rattle.search.specs.Limit.{limit}
+use Rattle.search.specs.Limit.{most-probes}
+use Rattle.search.specs.Search.{Decision}
 use Rattle.comparison.specs.Probe.{SheetCoins, SheetInRange, Group, Each}
 use Rattle.comparison.proofs.Plain.{each-replicate, zeros-group, plain-coins, plain-mask, plain-ranged}
-use Rattle.auction.specs.Auction.{Auction, IsAuction, demand, supply}
+use Rattle.auction.specs.Auction.{Auction, IsAuction, left-side, right-side}
 use Rattle.auction.specs.Coins.{Coins, InRange}
 use Rattle.auction.specs.Demands.{probed, stays, Stay}
-use Rattle.auction.proofs.Totals.{demand-small, supply-small}
+use Rattle.auction.proofs.Totals.{left-small, right-small}
 
 module _ (a : Auction) where
   -- every coefficient 0, every mask in the middle of its range
@@ -27,7 +28,7 @@ module _ (a : Auction) where
   plain =
       record {
         bids = replicate (length (a .bids)) (replicate (2 * a .k) (replicate (threshold (a .n)) 0));
-        sheets = replicate (limit (a .k)) plain-sheet;
+        sheets = replicate (most-probes (a .k)) plain-sheet;
       }
 
   plain-in-range : InRange a plain
@@ -39,29 +40,29 @@ module _ (a : Auction) where
         bids =
             each-replicate (λ groups. (length groups ≡ 2 * a .k) × Each (Group p t) groups) (length (a .bids)) _
             (length-replicate (2 * a .k) _, each-replicate (Group p t) (2 * a .k) _ (zeros-group p t (lit< tt)));
-        sheets-many = length-replicate (limit (a .k)) _;
-        sheets = each-replicate (SheetInRange t) (limit (a .k)) _ (plain-ranged t (2 ^ 57) (lit< tt));
+        sheets-many = length-replicate (most-probes (a .k)) _;
+        sheets = each-replicate (SheetInRange t) (most-probes (a .k)) _ (plain-ranged t (2 ^ 57) (lit< tt));
       }
 
 module _ (a b : Auction) (A : IsAuction a) (B : IsAuction b) where
   -- surpluses are far smaller than half the range of masks
-  middle-stays : (i : ℕ) → stays a b i (2 ^ 57) ≡ true
+  middle-stays : (which i : ℕ) → stays a b which i (2 ^ 57) ≡ true
   unfolding stays
-  middle-stays i =
-      let da = demand-small A i in
-      let sa = supply-small A i in
-      let db = demand-small B i in
-      let sb = supply-small B i in
-      let up : ℕ = 2 ^ 57 + demand b i + supply a i in
-      let down : ℕ = demand a i + supply b i in
+  middle-stays which i =
+      let la = left-small A which i in
+      let ra = right-small A which i in
+      let lb = left-small B which i in
+      let rb = right-small B which i in
+      let up : ℕ = 2 ^ 57 + left-side b which i + right-side a which i in
+      let down : ℕ = left-side a which i + right-side b which i in
       ap₂ _&&_ (le-leb down up (omega arith)) (lt-ltb up (2 ^ 58 + down) (omega arith))
 
-  all-stay : (indices : List ℕ) (m : ℕ) → Each (λ s. stays a b (s .0) (s .1 .mask) ≡ true) (zip indices (replicate m (plain-sheet a)))
+  all-stay : (ds : List Decision) (m : ℕ) → Each (λ s. stays a b (s .0 .which) (s .0 .index) (s .1 .mask) ≡ true) (zip ds (replicate m (plain-sheet a)))
   unfolding plain-sheet zip
   all-stay [] m = tt
-  all-stay (i ∷ is) zero = tt
-  all-stay (i ∷ is) (suc m) = (rw (plain-mask (threshold (a .n)) (2 ^ 57)) (middle-stays i), all-stay is m)
+  all-stay (d ∷ ds) zero = tt
+  all-stay (d ∷ ds) (suc m) = (rw (plain-mask (threshold (a .n)) (2 ^ 57)) (middle-stays (d .which) (d .index)), all-stay ds m)
 
   pub some-coins : (c : Coins) × InRange a c × Stay a b c
   unfolding plain
-  some-coins = (plain a, plain-in-range a, all-stay (probed a) (limit (a .k)))
+  some-coins = (plain a, plain-in-range a, all-stay (probed a) (most-probes (a .k)))

@@ -2,15 +2,15 @@
 use mathlib.Core.Path.{_≡_, refl, sym, ap, ap₂, subst, _∙_}
 use mathlib.Core.List.{List, [], _∷_, map, flatten, List·Memᴰ, List·Memᴰ·cases-cons, List·Memᴰ·not-nil}
 use mathlib.Core.Logic.{⊎-elim}
-use Prim.Native.Nat.{ℕ, zero, suc, _*_, _≤_, _<_}
+use Prim.Native.Nat.{ℕ, zero, suc, _+_, _*_, _/_, _≤_, _<_}
 use native.Mathlib.Omega.{arith}
 use lib.ListN.{length, drop, getD, replicate, getD-replicate}
 use Rattle.ranges.specs.Sizes.{sheet-size, probe-rounds}
 use Rattle.ranges.specs.Distinct.{Distinct}
-use Rattle.search.specs.Bracket.{start}
-use Rattle.search.specs.Limit.{limit}
-use Rattle.search.specs.Clearing.{highest, covered, clearing}
-use Rattle.search.specs.Search.{promise, trail}
+use Rattle.search.specs.Limit.{most-probes}
+use Rattle.search.specs.Searches.{first-search}
+use Rattle.search.specs.Search.{promise, made-in}
+use Rattle.search.proofs.Balance.{equal-between, equal-nowhere-else, all-equal}
 use Rattle.search.proofs.Trails.{trail-given}
 use Rattle.ranges.specs.Lists.{member}
 use Rattle.roll.specs.Marks.{marked}
@@ -18,17 +18,18 @@ use Rattle.roll.proofs.Entry.{entered-marked}
 use Rattle.record.specs.declared.Party.{Party}
 use Rattle.session.specs.declared.reply.Answer.the-variants.{Cleared}
 use Rattle.session.specs.Answer.{answer-reply}
-use Rattle.auction.specs.Auction.{Auction, bidders, IsAuction, sum, demand, supply, clearing-answer}
+use Rattle.auction.specs.Auction.{Auction, bidders, IsAuction, sum, demand, supply, clearing-answer, balanced-answer, price-answer}
 use Rattle.auction.specs.Coins.{Coins, InRange}
 use Rattle.auction.specs.Call.{Call}
 use Rattle.auction.specs.Run.{Run}
 use Rattle.auction.specs.Received.{received-bids, sheets, messages, decisions, verdicts, unused}
-use Rattle.auction.specs.Demands.{Outcome, Demand2, Alike, Pool, Same, Matched, Demand3}
+use Rattle.auction.specs.Demands.{probed, Found, Outcome, Demand2, Alike, Pool, Same, Matched, Demand3}
 use Rattle.auction.proofs.Matched.{match-coins}
 use Rattle.auction.proofs.Closed.{bid-words, full-roll, decision, all-spoken, record-at, sheets-at, probes}
 use Rattle.auction.proofs.Orders.{canonical-run, run-bids, run-messages, run-sheets, run-decisions, run-verdicts, run-askings}
 use Rattle.auction.proofs.Canonical.{canonical-accepted, canonical-bids, canonical-messages, canonical-sheets, canonical-decisions, canonical-many, canonical-askings}
-use Rattle.auction.proofs.Search.{probes-trail, probes-few, probes-some}
+use Rattle.auction.proofs.Totals.{totals-monotone}
+use Rattle.auction.proofs.Search.{probes-trail, probes-few, probes-some, highest-found, lowest-found, none-found, spent-found}
 use Rattle.comparison.proofs.Plain.{each-replicate}
 use Rattle.auction.proofs.Rounds.{end, end-answer}
 use Rattle.auction.proofs.Falling.{few-fall}
@@ -65,8 +66,8 @@ module _ (a : Auction) (c : Coins) (A : IsAuction a) (C : InRange a c) (l : List
   decisions-are : decisions j l ≡ map decision (probes a c)
   decisions-are = run-decisions a c l run j ∙ canonical-decisions a c A C (run .desk) (run .complete) j j1 jn
 
-  verdicts-are : verdicts j l ≡ map (λ d. d .1) (map decision (probes a c))
-  verdicts-are = ap (map (λ d. d .1)) decisions-are
+  verdicts-are : verdicts j l ≡ map (λ d. d .verdict) (map decision (probes a c))
+  verdicts-are = ap (map (λ d. d .verdict)) decisions-are
 
   many : length (verdicts j l) ≡ length (probes a c)
   many = ap length (run-verdicts a c l run j) ∙ canonical-many a c A C (run .desk) (run .complete) j j1 jn
@@ -83,32 +84,57 @@ module _ (a : Auction) (c : Coins) (A : IsAuction a) (C : InRange a c) (l : List
   unfolding record-at full-roll
   marked-are = entered-marked (bidders a) (A .bidders)
 
+  -- what the searches found, at the end
+  found-are : Found a (decisions j l) (record-at a c (end a c A C) j)
+  unfolding record-at
+  found-are =
+      record {
+        highest = highest-found a c A C;
+        its-probes = spent-found a c A C ∙ ap (made-in 1) (sym (decisions-are ∙ probes-trail a c A C));
+        lowest = lowest-found a c A C;
+        none = none-found a c A C;
+      }
+
   outcome : Outcome a l j
   outcome =
-      let given : ℕ → ℕ = promise (demand a) (supply a) in
-      let e : decisions j l ≡ trail given (limit (a .k)) (start (a .k)) = decisions-are ∙ probes-trail a c A C in
+      let given : (which i : ℕ) → ℕ = promise (demand a) (supply a) in
+      let e : decisions j l ≡ probed a = decisions-are ∙ probes-trail a c A C in
       let q : Party = record-at a c (end a c A C) j in
       let r = run-askings a c l run j q (canonical-askings a c A C (run .desk) (run .complete) j j1 jn) in
       record {
-        promised = ap (map (λ d. d .1)) e ∙ trail-given given (limit (a .k)) (start (a .k)) ∙ ap (λ ds. map given (map (λ d. d .0) ds)) (sym e);
+        promised =
+            ap (map (λ d. d .verdict)) e ∙ trail-given given (most-probes (a .k)) (first-search (a .k))
+            ∙ ap (map (λ d. given (d .which) (d .index))) (sym e);
+        searched = e;
         asked = r .0;
         cleared =
             ap (map answer-reply) (r .1) ∙ map-replicate answer-reply (suc (r .0)) q
-            ∙ ap (replicate (suc (r .0))) (end-answer a c A C j j1 jn ∙ ap (Cleared (clearing-answer a)) (sym many));
-        few = subst (λ (m : ℕ). m ≤ limit (a .k)) (sym many) (probes-few a c A C);
+            ∙ ap (replicate (suc (r .0))) (end-answer a c A C j j1 jn ∙ ap (Cleared (price-answer a)) (sym many));
+        found = rw (r .1) (each-replicate _ (suc (r .0)) q found-are);
+        few = subst (λ (m : ℕ). m ≤ most-probes (a .k)) (sym many) (probes-few a c A C);
         rolled = rw (r .1) (each-replicate _ (suc (r .0)) q marked-are);
       }
 
 -- DEMAND 2: no call of a run is refused but those that stand between; each verdict is the promise at the true totals; each answer is
--- the clearing answer, with as many probes as verdicts, at most P; and the roll marks the bidders.
+-- the price index, with as many probes as verdicts, at most 2P; the record has what the searches found; and the roll marks the bidders.
 pub demand-2 : (a : Auction) → IsAuction a → (c : Coins) → InRange a c → Demand2 a c
 demand-2 a A c C = record { none-refused = canonical-accepted a c A C; outcome = λ l run j j1 jn. outcome a c A C l run j j1 jn }
 
--- "No bids gives k."
-pub no-bids : (n k : ℕ) → clearing-answer (record { n = n; k = k; bids = [] }) ≡ k
-unfolding clearing highest covered demand supply sum
-no-bids n zero = refl
-no-bids n (suc i) = refl
+-- "where demand equals supply at several neighbouring prices": in every auction these are the indices from j to i, and no others
+module _ {a : Auction} (A : IsAuction a) where
+  pub balanced-between : 0 < balanced-answer a → (x : ℕ) → balanced-answer a ≤ x → x ≤ clearing-answer a → demand a x ≡ supply a x
+  balanced-between = equal-between (totals-monotone A)
+
+  pub balanced-nowhere-else : (x : ℕ) → 1 ≤ x → x ≤ a .k → demand a x ≡ supply a x
+      → (0 < balanced-answer a) × (balanced-answer a ≤ x) × (x ≤ clearing-answer a)
+  balanced-nowhere-else = equal-nowhere-else (totals-monotone A)
+
+-- "No bids now clears at (k + 1)/2 rounded down."
+pub no-bids : (n k : ℕ) → 1 ≤ k → price-answer (record { n = n; k = k; bids = [] }) ≡ (k + 1) / 2
+unfolding demand supply sum
+no-bids n k some =
+    let nobody : Auction = record { n = n; k = k; bids = [] } in
+    all-equal (demand nobody) (supply nobody) k some (λ i. refl)
 
 -- ---- demand 3
 
@@ -141,7 +167,7 @@ module _ (a b : Auction) (A : IsAuction a) (B : IsAuction b) (alike : Alike a b)
               unused-are b o B R m runM j j1 (jb j jn) ∙ ap (λ (k : ℕ). replicate (probe-rounds * k) (drop (sheet-size * k) (sheets-at b o j))) count
               ∙ ap (replicate (probe-rounds * L)) (left j) ∙ sym (unused-are a c A C l runL j j1 jn);
           words = λ j j1 jn. messages-are b o B R m runM j j1 (jb j jn) ∙ spoken ∙ sym (messages-are a c A C l runL j j1 jn);
-          verdicts-heard = λ j j1 jn. verdicts-are b o B R m runM j j1 (jb j jn) ∙ ap (map (λ d. d .1)) decided ∙ sym (verdicts-are a c A C l runL j j1 jn);
+          verdicts-heard = λ j j1 jn. verdicts-are b o B R m runM j j1 (jb j jn) ∙ ap (map (λ d. d .verdict)) decided ∙ sym (verdicts-are a c A C l runL j j1 jn);
           probes = λ j j1 jn. many b o B R m runM j j1 (jb j jn) ∙ count ∙ sym (many a c A C l runL j j1 jn);
         }
 
@@ -186,11 +212,11 @@ module _ (a b : Auction) (A : IsAuction a) (B : IsAuction b) (alike : Alike a b)
         only = λ o R l m runL runM S. same-coins o R l m runL runM S;
       }
 
--- DEMAND 3: any t parties together learn nothing but the clearing answer.
+-- DEMAND 3: any t parties together learn nothing but i and j.
 pub demand-3 : Demand3
 demand-3 =
     record {
       matched = λ a b A B alike pool P c C stay. matched a b A B alike pool P c C (matching a b A B alike pool P c C stay);
-      few-fall = λ a b A B alike i. few-fall a b A B i;
+      few-fall = λ a b A B alike which i. few-fall a b which i A B;
       runs = λ a A c C desk D. canonical-run a c desk D;
     }

@@ -3,7 +3,6 @@ use mathlib.Core.Path.{_≡_, refl, sym, ap, ap₂, _∙_}
 use mathlib.Core.Bool.{Bool, true, false, cond}
 use mathlib.Core.List.{List, [], _∷_, map, map-map}
 use Prim.Native.Nat.{ℕ, zero, suc, _+_, _-_, _*_, _/_, _%_, _^_, _≤_, _<_}
-use native.Mathlib.Numerals.{add-one}
 use native.Mathlib.Omega.{arith}
 use lib.Dec.{leb}
 use lib.ListN.{drop, getD}
@@ -17,9 +16,11 @@ use Rattle.openings.specs.Opening.{opened}
 use Rattle.openings.specs.declared.opening.Opening.the-variants.{Secret}
 use Rattle.openings.proofs.Laws.{opens, amount-fits, byte-fits}
 use Rattle.verdict.specs.Verdict.{verdict}
-use Rattle.search.specs.declared.Bracket.{Bracket}
-use Rattle.search.specs.Bracket.{middle, over, step}
-use Rattle.search.specs.Limit.{limit}
+use Rattle.search.specs.declared.searches.Search.{Search}
+use Rattle.search.specs.Bracket.{middle}
+use Rattle.search.specs.Searches.{side, next, finished}
+use Rattle.search.proofs.Sides.{side-map}
+use Rattle.search.proofs.Bounds as searches
 use Rattle.comparison.specs.Local.{on-shares, on-polynomials}
 use Rattle.comparison.specs.Rounds.{both, masked, first-carry, left, right, next-carry, last}
 use Rattle.comparison.specs.Probe.{SheetCoins, SheetInRange, sheet-polynomials, sheet-shares, Probe, Round, secret, round, carry-after, sum-polynomial, opened-sum, carry-one, last-polynomial, probe-messages}
@@ -27,20 +28,20 @@ use Rattle.comparison.proofs.Values.{Shared, secret-value, masked-value, first-
 use Rattle.comparison.proofs.Dealt.{ProbeShared, SheetShared, bit-at, sum-shared, last-polynomial-shared}
 use Rattle.comparison.proofs.Promise.{Compares, probe-shared, sum-least, sum-most, promised}
 use Rattle.round.specs.declared.Heard.the-variants.{Sum, Factors, Verdict}
-use Rattle.saying.specs.Say.{message}
+use Rattle.saying.specs.Say.{demand-share, supply-share, message}
 use Rattle.round.specs.Round.{heard, sum-of, factors-of, verdict-of, sum-outside, verdict-outside}
 use Rattle.record.specs.Updates.{in-round, decided}
 use Rattle.hearing.specs.Hear.{after}
 use Rattle.saying.proofs.Messages.{first-message, product-message, last-message}
 use Rattle.round.proofs.Opened.{heard-sum, heard-factors, heard-verdict}
-use Rattle.auction.specs.Auction.{Auction, IsAuction, demand, supply}
+use Rattle.auction.specs.Auction.{Auction, IsAuction, left-side, right-side}
 use Rattle.auction.specs.Coins.{Coins, InRange}
-use Rattle.auction.proofs.Closed.{at-party, polynomials, probe-at, carry-at, Stage, fresh-stage, inner-stage, record-at}
+use Rattle.auction.proofs.Closed.{at-party, polynomials, demand-at, supply-at, probe-at, probe-of, carry-at, Stage, fresh-stage, inner-stage, record-at}
 use Rattle.auction.proofs.Calls.{map-points}
 use Rattle.auction.proofs.Sheets.{no-triple, mask-word, bit-word, alpha-word, beta-word, gamma-word, byte-below}
 use Rattle.auction.proofs.Carry.{round-at, carry-next, carry-first, last-carry, triple-at, carry-shared, round-at-shared, product-said, last-said}
-use Rattle.auction.proofs.Comparing.{compares, demand-shared, supply-shared, index-least, index-most}
-use Rattle.auction.proofs.Step.{Step, Placed, fresh-sane, sheet-left, coins-ranged, demand-word, supply-word, step-of}
+use Rattle.auction.proofs.Comparing.{compares}
+use Rattle.auction.proofs.Step.{Step, Placed, fresh-sane, coins-ranged, demand-word, supply-word, step-of}
 
 -- ---- what is shared opens
 
@@ -80,81 +81,86 @@ verdict-most d s = split (leb s d)
 -- ---- the stages of a probe
 
 -- before round i + 1
-abbrev pub stage-of : Bracket → ℕ → Probe → ℕ → Stage
-stage-of b m q zero = fresh-stage b m
-stage-of b m q (suc i) = inner-stage b m q i
+abbrev pub stage-of : Search → Probe → ℕ → Stage
+stage-of here q zero = fresh-stage here
+stage-of here q (suc i) = inner-stage here q i
 
 -- party j's word in round i + 1
 abbrev pub words-at : Probe → ℕ → ℕ → ℕ
 words-at q i j = getD (probe-messages q j) i 0
 
 -- a probe is to be made with the sheet s
-pub record Ready (a : Auction) (c : Coins) (b : Bracket) (m : ℕ) (s : SheetCoins) (ss : List SheetCoins) : Type 0 where
-  pub apart : b .lo < b .hi
-  pub inside : b .hi ≤ a .k + 1
-  pub going : over b ≡ false
-  pub left : drop m (c .sheets) ≡ s ∷ ss
+pub record Ready (a : Auction) (c : Coins) (here : Search) (s : SheetCoins) (ss : List SheetCoins) : Type 0 where
+  pub sound : searches.Sound (a .k) here
+  pub going : finished here ≡ false
+  pub left : drop (here .probes) (c .sheets) ≡ s ∷ ss
 
-module _ (a : Auction) (c : Coins) (A : IsAuction a) (C : InRange a c) (b : Bracket) (m : ℕ) (s : SheetCoins)
-    (ss : List SheetCoins) (R : Ready a c b m s ss) where
+module _ (a : Auction) (c : Coins) (A : IsAuction a) (C : InRange a c) (here : Search) (s : SheetCoins)
+    (ss : List SheetCoins) (R : Ready a c here s ss) where
   abbrev t : ℕ
   t = threshold (a .n)
 
   abbrev q : Probe
-  q = probe-at a (polynomials a c) (middle b) s
+  q = probe-of a (polynomials a c) here s
+
+  abbrev fs : List (List ℕ)
+  fs = polynomials a c
 
   abbrev T : ℕ
   T = opened-sum q
 
-  few : m < limit (a .k)
-  few = sheet-left a c A C m s ss (R .left)
-
-  fresh-placed : Placed a c (fresh-stage b m) s ss
+  fresh-placed : Placed a c (fresh-stage here) s ss
   fresh-placed =
       record {
-        sane = fresh-sane a b m (R .apart) (R .inside) (omega (arith, few)) (λ e. absurd (omega (arith, few)));
+        sane = fresh-sane a here (R .sound);
         going = R .going;
         left = R .left;
       }
 
   ranged : SheetInRange t s
-  ranged = coins-ranged a c A C (fresh-stage b m) s ss fresh-placed
+  ranged = coins-ranged a c A C (fresh-stage here) s ss fresh-placed
 
-  one : 1 ≤ middle b
-  one = index-least (a .k) b (R .apart) (R .inside) (R .going)
+  -- the search that is on, the probed index and the two sides there
+  abbrev which : ℕ
+  which = here .which
 
-  most : middle b ≤ a .k
-  most = index-most (a .k) b (R .apart) (R .inside) (R .going)
+  abbrev index : ℕ
+  index = middle (here .bracket)
 
-  pub comparing : Compares t (demand a (middle b)) (supply a (middle b)) s q
-  comparing = compares a c A C (middle b) one most s ranged
+  abbrev d : ℕ
+  d = left-side a which index
+
+  abbrev e : ℕ
+  e = right-side a which index
+
+  pub comparing : Compares t d e s q
+  comparing =
+      let F = searches.probing (a .k) here (R .sound) (R .going) in
+      compares a c A C index (F .index-least) (F .index-most) which s ranged
 
   shared : ProbeShared t q
-  shared = probe-shared t (demand a (middle b)) (supply a (middle b)) s q comparing
+  shared = probe-shared t d e s q comparing
 
   sheet-shared : SheetShared t (sheet-polynomials s)
   unfolding probe-at
   sheet-shared = shared .sheet
 
   least-sum : 2 ^ 58 + 2 ≤ T
-  least-sum = sum-least t (demand a (middle b)) (supply a (middle b)) s q comparing
+  least-sum = sum-least t d e s q comparing
 
   most-sum : T ≤ 2 ^ 59 + 2 ^ 33 - 1
-  most-sum = sum-most t (demand a (middle b)) (supply a (middle b)) s q comparing
+  most-sum = sum-most t d e s q comparing
 
-  inner-placed : (i : ℕ) → i ≤ 31 → Placed a c (inner-stage b m q i) s ss
+  inner-placed : (i : ℕ) → i ≤ 31 → Placed a c (inner-stage here q i) s ss
   inner-placed i l =
       record {
         sane =
             record {
-              apart = R .apart;
-              inside = R .inside;
+              search = R .sound;
               round-least = omega arith;
               round-most = omega arith;
               sum = omega (arith, most-sum);
               carry = carry-shared t q shared i l .1;
-              probes = omega (arith, few);
-              ended = λ e. absurd (omega (arith, few));
             };
         going = R .going;
         left = R .left;
@@ -163,15 +169,24 @@ module _ (a : Auction) (c : Coins) (A : IsAuction a) (C : InRange a c) (b : Brac
   -- ---- round 1
 
   first-says : (j : ℕ) → 1 ≤ j → j ≤ a .n
-      → message (record-at a c (fresh-stage b m) j) (at-party j (polynomials a c)) (sheet-shares j (sheet-polynomials s)) ≡ words-at q 0 j
+      → message (record-at a c (fresh-stage here) j) (at-party j (polynomials a c)) (sheet-shares j (sheet-polynomials s)) ≡ words-at q 0 j
   unfolding record-at probe-at sum-polynomial probe-messages
   first-says j j1 jn =
-      first-message (record-at a c (fresh-stage b m) j) (at-party j (polynomials a c)) (sheet-shares j (sheet-polynomials s)) refl
-      ∙ masked-same (mask-word t j (sheet-polynomials s) sheet-shared) (demand-word a c A C (fresh-stage b m) s ss fresh-placed j j1 jn)
-      (supply-word a c A C (fresh-stage b m) s ss fresh-placed j j1 jn)
+      first-message (record-at a c (fresh-stage here) j) (at-party j (polynomials a c)) (sheet-shares j (sheet-polynomials s)) refl
+      ∙ masked-same (mask-word t j (sheet-polynomials s) sheet-shared) (sided _ _ demand supply) (sided _ _ supply demand)
       ∙ sym
-      (masked-value t j (sheet-polynomials s .mask) (getD (polynomials a c) (middle b - 1) []) (getD (polynomials a c) (a .k + middle b - 1) [])
-      (sheet-shared .mask) (demand-shared a c A C (middle b) one most) (supply-shared a c A C (middle b) one most) (omega (arith, A .n-most)))
+      (masked-value t j (sheet-polynomials s .mask) (side which (demand-at a fs index) (supply-at a fs index))
+      (side which (supply-at a fs index) (demand-at a fs index)) (sheet-shared .mask) (comparing .demand-shared) (comparing .supply-shared)
+      (omega (arith, A .n-most)))
+    where
+      demand : demand-share (record-at a c (fresh-stage here) j) (at-party j fs) ≡ value amounts (demand-at a fs index) j
+      demand = demand-word a c A C (fresh-stage here) s ss fresh-placed j j1 jn
+
+      supply : supply-share (record-at a c (fresh-stage here) j) (at-party j fs) ≡ value amounts (supply-at a fs index) j
+      supply = supply-word a c A C (fresh-stage here) s ss fresh-placed j j1 jn
+
+      sided : {x y : ℕ} (f g : List ℕ) → x ≡ value amounts f j → y ≡ value amounts g j → side which x y ≡ value amounts (side which f g) j
+      sided f g p r = ap₂ (side which) p r ∙ side-map (λ h. value amounts h j) which f g
 
   pub first-opens : heard (a .n) 1 (map (words-at q 0) (points (a .n))) ≡ Sum T
   unfolding probe-messages
@@ -188,16 +203,16 @@ module _ (a : Auction) (c : Coins) (A : IsAuction a) (C : InRange a c) (b : Brac
       ∙ ap (first-carry (on-shares bytes) T) (sym (bit-word t j (sheet-polynomials s) sheet-shared 0 (omega arith)))
 
   first-turns : (j : ℕ) → 1 ≤ j → j ≤ a .n
-      → after (record-at a c (fresh-stage b m) j) (sheet-shares j (sheet-polynomials s)) (Sum T) ≡ record-at a c (inner-stage b m q 0) j
+      → after (record-at a c (fresh-stage here) j) (sheet-shares j (sheet-polynomials s)) (Sum T) ≡ record-at a c (inner-stage here q 0) j
   unfolding record-at after in-round decided
   first-turns j j1 jn = rw (first-carry-is j j1 jn)
 
   tame : sum-outside (Sum T) ≡ false
   tame = rw (le-leb (2 ^ 58 + 2) T least-sum, le-leb T (2 ^ 59 + 2 ^ 33 - 1) most-sum)
 
-  pub first-step : Step a c (fresh-stage b m) (inner-stage b m q 0) (words-at q 0)
+  pub first-step : Step a c (fresh-stage here) (inner-stage here q 0) (words-at q 0)
   first-step =
-      step-of a c A C (fresh-stage b m) s ss fresh-placed (inner-stage b m q 0) (words-at q 0) (Sum T) first-says first-opens refl tame refl first-turns
+      step-of a c A C (fresh-stage here) s ss fresh-placed (inner-stage here q 0) (words-at q 0) (Sum T) first-says first-opens refl tame refl first-turns
 
   -- ---- rounds 2 to 32
 
@@ -206,7 +221,7 @@ module _ (a : Auction) (c : Coins) (A : IsAuction a) (C : InRange a c) (b : Brac
     r = round-at q i
 
     abbrev now : Stage
-    now = inner-stage b m q i
+    now = inner-stage here q i
 
     module _ (j : ℕ) (j1 : 1 ≤ j) (jn : j ≤ a .n) where
       abbrev W : List ℕ
@@ -256,7 +271,7 @@ module _ (a : Auction) (c : Coins) (A : IsAuction a) (C : InRange a c) (b : Brac
           ∙ next-same T (i + 2) (secret (r .left)) (secret (r .right)) (sym (alpha-word t j (sheet-polynomials s) sheet-shared i l))
           (sym (beta-word t j (sheet-polynomials s) sheet-shared i l)) (sym (gamma-word t j (sheet-polynomials s) sheet-shared i l))
 
-      product-turns : after (record-at a c now j) W (Factors (secret (r .left)) (secret (r .right))) ≡ record-at a c (inner-stage b m q (suc i)) j
+      product-turns : after (record-at a c now j) W (Factors (secret (r .left)) (secret (r .right))) ≡ record-at a c (inner-stage here q (suc i)) j
       unfolding record-at after in-round decided
       product-turns =
           let e : suc i + 2 ≡ i + 2 + 1 = omega arith in
@@ -290,18 +305,18 @@ module _ (a : Auction) (c : Coins) (A : IsAuction a) (C : InRange a c) (b : Brac
     product-opens =
         heard-factors (a .n) (i + 2) (map (words-at q (suc i)) (points (a .n))) (λ e. omega arith) (omega arith) ∙ ap₂ factors-of low-opens high-opens
 
-    pub product-step : Step a c now (inner-stage b m q (suc i)) (words-at q (suc i))
+    pub product-step : Step a c now (inner-stage here q (suc i)) (words-at q (suc i))
     product-step =
-        step-of a c A C now s ss (inner-placed i (omega arith)) (inner-stage b m q (suc i)) (words-at q (suc i))
+        step-of a c A C now s ss (inner-placed i (omega arith)) (inner-stage here q (suc i)) (words-at q (suc i))
         (Factors (secret (r .left)) (secret (r .right))) product-says product-opens refl refl refl product-turns
 
   -- ---- round 33
 
   module _ (j : ℕ) (j1 : 1 ≤ j) (jn : j ≤ a .n) where
-    last-says : message (record-at a c (inner-stage b m q 31) j) (at-party j (polynomials a c)) (sheet-shares j (sheet-polynomials s)) ≡ words-at q 32 j
+    last-says : message (record-at a c (inner-stage here q 31) j) (at-party j (polynomials a c)) (sheet-shares j (sheet-polynomials s)) ≡ words-at q 32 j
     unfolding record-at last-polynomial probe-at
     last-says =
-        last-message (record-at a c (inner-stage b m q 31) j) (at-party j (polynomials a c)) (sheet-shares j (sheet-polynomials s)) refl
+        last-message (record-at a c (inner-stage here q 31) j) (at-party j (polynomials a c)) (sheet-shares j (sheet-polynomials s)) refl
         ∙ ap (λ (x : ℕ). last (on-shares bytes) T x (value bytes (carry-at q 31) j)) (bit-word t j (sheet-polynomials s) sheet-shared 32 (omega arith))
         ∙ sym
         (last-value T 33 t j (omega (arith, A .n-most)) (getD (sheet-polynomials s .bits) 32 []) (carry-at q 31)
@@ -309,10 +324,10 @@ module _ (a : Auction) (c : Coins) (A : IsAuction a) (C : InRange a c) (b : Brac
         ∙ ap (λ (x : List ℕ). value bytes (last (on-polynomials bytes) T (getD (sheet-polynomials s .bits) 32 []) x) j) (sym (last-carry t q shared))
         ∙ sym (last-said t q shared j)
 
-    last-turns : after (record-at a c (inner-stage b m q 31) j) (sheet-shares j (sheet-polynomials s)) (Verdict (secret (last-polynomial q)))
-        ≡ record-at a c (fresh-stage (step b (secret (last-polynomial q))) (suc m)) j
+    last-turns : after (record-at a c (inner-stage here q 31) j) (sheet-shares j (sheet-polynomials s)) (Verdict (secret (last-polynomial q)))
+        ≡ record-at a c (fresh-stage (next here (secret (last-polynomial q)))) j
     unfolding record-at after value in-round decided
-    last-turns = rw add-one
+    last-turns = refl
 
   pub last-opens : heard (a .n) 33 (map (words-at q 32) (points (a .n))) ≡ Verdict (secret (last-polynomial q))
   last-opens =
@@ -321,13 +336,13 @@ module _ (a : Auction) (c : Coins) (A : IsAuction a) (C : InRange a c) (b : Brac
       (ap (opened byte-scheme (a .n)) (map-points (words-at q 32) (value bytes (last-polynomial q)) (a .n) (λ j j1 jn. last-said t q shared j))
       ∙ byte-opens (a .n) (last-polynomial q) (A .n-least) (A .n-most) (last-polynomial-shared t q shared))
 
-  pub verdict-is : secret (last-polynomial q) ≡ verdict (demand a (middle b)) (supply a (middle b))
-  verdict-is = promised t (demand a (middle b)) (supply a (middle b)) s q comparing
+  pub verdict-is : secret (last-polynomial q) ≡ verdict d e
+  verdict-is = promised t d e s q comparing
 
   a-bit : verdict-outside (Verdict (secret (last-polynomial q))) ≡ false
-  a-bit = le-ltb 1 (secret (last-polynomial q)) (rw verdict-is (verdict-most (demand a (middle b)) (supply a (middle b))))
+  a-bit = le-ltb 1 (secret (last-polynomial q)) (rw verdict-is (verdict-most d e))
 
-  pub last-step : Step a c (inner-stage b m q 31) (fresh-stage (step b (secret (last-polynomial q))) (suc m)) (words-at q 32)
+  pub last-step : Step a c (inner-stage here q 31) (fresh-stage (next here (secret (last-polynomial q)))) (words-at q 32)
   last-step =
-      step-of a c A C (inner-stage b m q 31) s ss (inner-placed 31 (omega arith)) (fresh-stage (step b (secret (last-polynomial q))) (suc m))
+      step-of a c A C (inner-stage here q 31) s ss (inner-placed 31 (omega arith)) (fresh-stage (next here (secret (last-polynomial q))))
       (words-at q 32) (Verdict (secret (last-polynomial q))) last-says last-opens refl refl a-bit last-turns

@@ -3,8 +3,7 @@ use mathlib.Core.Path.{_≡_, refl, ap, ap₂, _∙_}
 use mathlib.Core.Bool.{true}
 use mathlib.Core.List.{List, [], _∷_, _++_, map, map-map, append-nil, flatten}
 use mathlib.Core.Option.{Option}
-use Prim.Native.Nat.{ℕ, suc, _+_, _-_, _*_, _≤_}
-use native.Mathlib.Nat.{zero-add}
+use Prim.Native.Nat.{ℕ, _+_, _-_, _*_, _≤_}
 use native.Mathlib.Omega.{arith}
 use lib.ListN.{length, replicate}
 use Rattle.ranges.specs.Sizes.{probe-rounds}
@@ -12,13 +11,13 @@ use Rattle.refusal.specs.Judging.{judged}
 use Rattle.refusal.specs.declared.Judgement.the-variants.{Accepted}
 use Rattle.ranges.specs.Lists.{from}
 use Rattle.sharing.specs.Scheme.{points}
-use Rattle.search.specs.Bracket.{start, over}
-use Rattle.search.proofs.Narrowing.{over-true}
+use Rattle.search.specs.Searches.{first-search, finished, price}
+use Rattle.search.proofs.Bounds.{roomy-sound}
 use Rattle.record.specs.declared.Party.{Party}
 use Rattle.session.specs.declared.reply.Answer.the-variants.{Cleared}
-use Rattle.record.specs.Record.{bracket, sound}
+use Rattle.record.specs.Record.{sound}
 use Rattle.session.specs.Answer.{answer-judgement, answered, answer-reply}
-use Rattle.auction.specs.Auction.{Auction, IsAuction, clearing-answer}
+use Rattle.auction.specs.Auction.{Auction, IsAuction, price-answer}
 use Rattle.auction.specs.Coins.{Coins, InRange}
 use Rattle.auction.specs.Call.{Call, accepted, is-accepted, judgement, whose, of-party, given}
 use Rattle.auction.specs.Canonical.{enough-rounds, ask, from-rounds}
@@ -30,11 +29,11 @@ use Rattle.auction.proofs.Calls.{own-append, collect-append, all-accept
 use Rattle.auction.proofs.Step.{fresh-sane, sound-at}
 use Rattle.auction.proofs.Chain.{Turn, from-ending, all-done, seats, all-words, calls, hearing-of, chain-rounds, chain-accepted, chain-hearings, chain-bids, chain-askings, chain-decisions}
 use Rattle.auction.proofs.Probed.{turn-of}
-use Rattle.auction.proofs.Search.{turns-of, turns-length, after-probes, Leads, whole, probes-few, search-ends}
+use Rattle.auction.proofs.Search.{turns-of, turns-length, after-probes, Leads, whole, probes-counted, probes-few, price-found}
 
 -- all calls from the first saying on
 abbrev pub round-calls : Auction → Coins → List Call
-round-calls a c = from-rounds a c (enough-rounds a) (map (seat a c (fresh-stage (start (a .k)) 0)) (points (a .n)))
+round-calls a c = from-rounds a c (enough-rounds a) (map (seat a c (fresh-stage (first-search (a .k)))) (points (a .n)))
 
 -- ---- lists
 
@@ -46,32 +45,32 @@ map-same : {A B : Type 0} (y : B) (xs : List A) → map (λ x. y) xs ≡ replica
 map-same y [] = refl
 map-same {B} y (x ∷ xs) = ap (λ (l : List B). y ∷ l) (map-same y xs)
 
-turns-spoken : (a : Auction) (c : Coins) (m : ℕ) (ds : List Made) → map (all-words a c) (turns-of m ds) ≡ all-spoken (a .n) ds
+turns-spoken : (a : Auction) (c : Coins) (ds : List Made) → map (all-words a c) (turns-of ds) ≡ all-spoken (a .n) ds
 unfolding turns-of flatten spoken
-turns-spoken a c m [] = refl
-turns-spoken a c m (d ∷ ds) =
-    map-append (all-words a c) (map (turn-of (d .bracket) m (d .probe)) (from 0 probe-rounds)) (turns-of (suc m) ds)
-    ∙ ap₂ _++_ (map-map (all-words a c) (turn-of (d .bracket) m (d .probe)) (from 0 probe-rounds)) (turns-spoken a c (suc m) ds)
+turns-spoken a c [] = refl
+turns-spoken a c (d ∷ ds) =
+    map-append (all-words a c) (map (turn-of (d .here) (d .probe)) (from 0 probe-rounds)) (turns-of ds)
+    ∙ ap₂ _++_ (map-map (all-words a c) (turn-of (d .here) (d .probe)) (from 0 probe-rounds)) (turns-spoken a c ds)
 
 -- ---- asking for the answer
 
-ask-accepted : (q : Party) → sound q ≡ true → over (bracket q) ≡ true → answer-judgement q ≡ Accepted
+ask-accepted : (q : Party) → sound q ≡ true → finished (q .search) ≡ true → answer-judgement q ≡ Accepted
 unfolding answer-judgement judged
 ask-accepted q s o = rw (s, o)
 
-ask-cleared : (q : Party) → answer-judgement q ≡ Accepted → answer-reply q ≡ Cleared (q .lo) (q .probes)
+ask-cleared : (q : Party) → answer-judgement q ≡ Accepted → answer-reply q ≡ Cleared (price (q .search)) (q .search .probes)
 unfolding answered
 ask-cleared q e = rw e
 
 module _ (a : Auction) (c : Coins) (A : IsAuction a) (C : InRange a c) where
   abbrev rs : List Turn
-  rs = turns-of 0 (probes a c)
+  rs = turns-of (probes a c)
 
   -- the stage at the end
   abbrev pub end : Stage
-  end = fresh-stage (after-probes (start (a .k)) (probes a c)) (0 + length (probes a c))
+  end = fresh-stage (after-probes (first-search (a .k)) (probes a c))
 
-  L : Leads a c (start (a .k)) 0 (c .sheets) (probes a c)
+  L : Leads a c (first-search (a .k)) (c .sheets) (probes a c)
   L = whole a c A C
 
   many : 1 ≤ a .n
@@ -81,8 +80,7 @@ module _ (a : Auction) (c : Coins) (A : IsAuction a) (C : InRange a c) where
     end-sound : sound (record-at a c end j) ≡ true
     end-sound =
         sound-at a c A end
-        (fresh-sane a (after-probes (start (a .k)) (probes a c)) (0 + length (probes a c)) (L .encloses .apart) (L .encloses .inside) (L .encloses .few)
-        (λ e. omega (arith, over-true _ (L .ended))))
+        (fresh-sane a (after-probes (first-search (a .k)) (probes a c)) (roomy-sound (a .k) _ (L .promised .roomy)))
         j j1 jn
 
     end-judged : answer-judgement (record-at a c end j) ≡ Accepted
@@ -93,9 +91,9 @@ module _ (a : Auction) (c : Coins) (A : IsAuction a) (C : InRange a c) where
     unfolding ask seat judgement is-accepted
     asked = rw end-judged
 
-    pub end-answer : answer-reply (record-at a c end j) ≡ Cleared (clearing-answer a) (length (probes a c))
+    pub end-answer : answer-reply (record-at a c end j) ≡ Cleared (price-answer a) (length (probes a c))
     unfolding record-at
-    end-answer = ask-cleared (record-at a c end j) end-judged ∙ ap₂ Cleared (search-ends a c A C) (zero-add (length (probes a c)))
+    end-answer = ask-cleared (record-at a c end j) end-judged ∙ ap₂ Cleared (price-found a c A C) (probes-counted a c A C)
 
     ask-own : Own j (ask a c (seat a c end j))
     unfolding ask seat record-at whose of-party
@@ -106,8 +104,8 @@ module _ (a : Auction) (c : Coins) (A : IsAuction a) (C : InRange a c) where
   -- the rounds of the probes, then n askings
   pub calls-are : round-calls a c ≡ calls a c rs ++ map (λ j. ask a c (seat a c end j)) (points (a .n))
   calls-are =
-      let left : enough-rounds a ≡ length rs + (enough-rounds a - length rs) = omega (arith, turns-length 0 (probes a c), probes-few a c A C) in
-      ap (λ (x : ℕ). from-rounds a c x (seats a c (fresh-stage (start (a .k)) 0))) left
+      let left : enough-rounds a ≡ length rs + (enough-rounds a - length rs) = omega (arith, turns-length (probes a c), probes-few a c A C) in
+      ap (λ (x : ℕ). from-rounds a c x (seats a c (fresh-stage (first-search (a .k))))) left
       ∙ chain-rounds a c many (L .chain) (enough-rounds a - length rs)
       ∙ ap (λ (l : List Call). calls a c rs ++ l)
       (from-ending a c (enough-rounds a - length rs) (seats a c end) (all-done a c end (L .ended) (points (a .n)))
@@ -140,14 +138,14 @@ module _ (a : Auction) (c : Coins) (A : IsAuction a) (C : InRange a c) where
 
     pub rounds-messages : map (λ h. h .messages) (collect hearing-in (own j (round-calls a c))) ≡ all-spoken (a .n) (probes a c)
     rounds-messages =
-        ap (map (λ h. h .messages)) rounds-hearings ∙ map-map (λ h. h .messages) (hearing-of a c j) rs ∙ turns-spoken a c 0 (probes a c)
+        ap (map (λ h. h .messages)) rounds-hearings ∙ map-map (λ h. h .messages) (hearing-of a c j) rs ∙ turns-spoken a c (probes a c)
 
     pub rounds-sheets : map (λ h. h .sheets) (collect hearing-in (own j (round-calls a c))) ≡ replicate (probe-rounds * length (probes a c)) (sheets-at a c j)
     rounds-sheets =
         ap (map (λ h. h .sheets)) rounds-hearings
         ∙ map-map (λ h. h .sheets) (hearing-of a c j) rs
         ∙ map-same (sheets-at a c j) rs
-        ∙ ap (λ (x : ℕ). replicate x (sheets-at a c j)) (turns-length 0 (probes a c))
+        ∙ ap (λ (x : ℕ). replicate x (sheets-at a c j)) (turns-length (probes a c))
 
     pub rounds-decisions : collect decision-in (collect hearing-in (own j (round-calls a c))) ≡ map decision (probes a c)
     rounds-decisions = ap (collect decision-in) rounds-hearings ∙ chain-decisions a c many j j1 jn (L .chain)

@@ -1,4 +1,4 @@
--- The probes of two auctions with the same clearing answer, sheet by sheet: with the matching sheets the second makes the same probes, in
+-- The probes of two auctions with the same answers of both searches, sheet by sheet: with the matching sheets the second makes the same probes, in
 -- which all parties say the same and the pool has the same words; and no other sheets do this. Assumes nothing.
 use mathlib.Core.Path.{_≡_, refl, sym, ap, ap₂, subst, _∙_}
 use mathlib.Core.Bool.{Bool, true, false}
@@ -6,7 +6,7 @@ use mathlib.Core.List.{List, [], _∷_, _++_, map, zip, zipWith, flatten}
 use Prim.Native.Nat.{ℕ, suc, _+_, _-_, _*_, _^_, _≤_, _<_}
 use native.Mathlib.Nat.{suc-inj}
 use native.Mathlib.Omega.{arith}
-use lib.Dec.{eqb, leb}
+use lib.Dec.{leb}
 use lib.ListN.{length, drop, getD}
 use lib.Seq.{drop-append-add}
 use borrow.Author.Tests.{leb-true, ltb-true}
@@ -16,45 +16,45 @@ use Rattle.sharing.specs.Polynomial.{shares}
 use Rattle.sharing.specs.Scheme.{threshold}
 use Rattle.ranges.specs.Distinct.{Distinct}
 use Rattle.ranges.proofs.Loops.{and-left, and-right}
-use Rattle.verdict.specs.Verdict.{verdict}
-use Rattle.search.specs.declared.Bracket.{Bracket}
-use Rattle.search.specs.Bracket.{middle, over, step}
-use Rattle.search.specs.Search.{promise, trail}
-use Rattle.search.proofs.Narrowing.{Encloses, encloses-step, over-false, middle-above, middle-below}
+use Rattle.search.specs.declared.searches.Search.{Search}
+use Rattle.search.specs.Bracket.{middle}
+use Rattle.search.specs.Searches.{side, next, finished}
+use Rattle.search.specs.Search.{promise, Decision, trail}
+use Rattle.search.proofs.Sides.{side-map}
+use Rattle.search.proofs.Bounds.{Roomy, roomy-next, roomy-sound, probing}
 use Rattle.comparison.specs.Probe.{SheetCoins, Each, Probe, SheetInRange, sheet-shares, sheet-polynomials, probe-messages, secret, opened-sum, last-polynomial}
 use Rattle.comparison.proofs.Matched.{moved, matched}
 use Rattle.comparison.proofs.Promise.{Compares, probe-shared, sum-law, promised}
 use Rattle.comparison.proofs.Agreement.{In, map-same, same-map}
 use Rattle.comparison.proofs.Hiding.{Other, Matches, append-parts, hides}
 use Rattle.search.proofs.Trails.{trail-over, trail-going}
-use Rattle.auction.specs.Auction.{Auction, Bid, demand, supply}
+use Rattle.auction.specs.Auction.{Auction, Bid, demand, supply, left-side, right-side}
 use Rattle.auction.specs.Coins.{flat}
 use Rattle.auction.specs.Demands.{stays}
 use Rattle.auction.proofs.Matched.{opening, matched-sheet, matched-sheets}
-use Rattle.auction.proofs.Closed.{probe-at, Made, made, spoken}
+use Rattle.auction.proofs.Closed.{demand-at, supply-at, probe-at, probe-of, Made, made, spoken}
 use Rattle.auction.proofs.Sheets.{words-long}
-use Rattle.auction.proofs.Search.{made-over}
+use Rattle.auction.proofs.Search.{made-over, made-going}
 use Rattle.auction.proofs.SameSheets.{sheet-fixed, spoken-long, spoken-heard}
 
--- ---- the search, probe by probe
+-- ---- the searches, probe by probe
 
--- a probe with the sheet s where the search stands
-abbrev probing-at : Auction → List (List ℕ) → Bracket → SheetCoins → Made
-probing-at a fs br s = record { bracket = br; probe = probe-at a fs (middle br) s }
+-- a probe with the sheet s where the searches stand
+abbrev probing-at : Auction → List (List ℕ) → Search → SheetCoins → Made
+probing-at a fs here s = record { here = here; probe = probe-of a fs here s }
 
 -- and its verdict
-abbrev canonical-at : Auction → List (List ℕ) → Bracket → SheetCoins → ℕ
-canonical-at a fs br s = secret (last-polynomial (probe-at a fs (middle br) s))
+abbrev verdict-at : Auction → List (List ℕ) → Search → SheetCoins → ℕ
+verdict-at a fs here s = secret (last-polynomial (probe-of a fs here s))
 
-module _ (a : Auction) (fs : List (List ℕ)) (br : Bracket) where
-  made-none : made a fs br [] ≡ []
+module _ (a : Auction) (fs : List (List ℕ)) (here : Search) where
+  made-none : made a fs here [] ≡ []
   unfolding made
   made-none = refl
 
-  made-going : (s : SheetCoins) (ss : List SheetCoins) {next : Bracket} → over br ≡ false → step br (canonical-at a fs br s) ≡ next
-      → made a fs br (s ∷ ss) ≡ probing-at a fs br s ∷ made a fs next ss
-  unfolding made
-  made-going s ss {next} o e = rw (o, made) (ap (λ (z : Bracket). probing-at a fs br s ∷ made a fs z ss) e)
+  made-first : (s : SheetCoins) (ss : List SheetCoins) {after : Search} → finished here ≡ false → next here (verdict-at a fs here s) ≡ after
+      → made a fs here (s ∷ ss) ≡ probing-at a fs here s ∷ made a fs after ss
+  made-first s ss o e = made-going a fs here s ss o ∙ ap (λ (z : Search). probing-at a fs here s ∷ made a fs z ss) e
 
 -- ---- two auctions of n parties and k prices
 
@@ -64,8 +64,8 @@ auction n k bids = record { n = n; k = k; bids = bids }
 -- every probe at a listed index compares the totals there
 abbrev pub Compared : Auction → List (List ℕ) → Type 0
 Compared a fs =
-    (i : ℕ) → 1 ≤ i → i ≤ a .k → (s : SheetCoins) → SheetInRange (threshold (a .n)) s
-    → Compares (threshold (a .n)) (demand a i) (supply a i) s (probe-at a fs i s)
+    (i : ℕ) → 1 ≤ i → i ≤ a .k → (which : ℕ) (s : SheetCoins) → SheetInRange (threshold (a .n)) s
+    → Compares (threshold (a .n)) (left-side a which i) (right-side a which i) s (probe-at a fs which i s)
 
 -- fs and fs′ are the polynomials of their totals, of which the pool xs has the same shares
 pub record Setting (n k : ℕ) (bids bids′ : List Bid) (xs : List ℕ) (fs fs′ : List (List ℕ)) : Type 0 where
@@ -76,29 +76,29 @@ pub record Setting (n k : ℕ) (bids bids′ : List Bid) (xs : List ℕ) (fs fs�
   pub first : Compared (auction n k bids) fs
   pub second : Compared (auction n k bids′) fs′
   pub seen : (e : ℕ) → shares amounts (getD fs′ e []) xs ≡ shares amounts (getD fs e []) xs
-  pub agree : (i : ℕ) → 1 ≤ i → i ≤ k
-      → verdict (demand (auction n k bids) i) (supply (auction n k bids) i) ≡ verdict (demand (auction n k bids′) i) (supply (auction n k bids′) i)
+  pub agree : (which i : ℕ) → 1 ≤ i → i ≤ k
+      → promise (demand (auction n k bids)) (supply (auction n k bids)) which i ≡ promise (demand (auction n k bids′)) (supply (auction n k bids′)) which i
 
 -- the sheets s and s′ of two probes at the index i
-pub record Pair (n k : ℕ) (bids bids′ : List Bid) (xs : List ℕ) (fs fs′ : List (List ℕ)) (i : ℕ) (s s′ : SheetCoins) : Type 0 where
+pub record Pair (n k : ℕ) (bids bids′ : List Bid) (xs : List ℕ) (fs fs′ : List (List ℕ)) (which i : ℕ) (s s′ : SheetCoins) : Type 0 where
   pub least : 1 ≤ i
   pub most : i ≤ k
   pub ranged : SheetInRange (threshold n) s
   pub ranged′ : SheetInRange (threshold n) s′
   pub words : (x : ℕ) → In x xs → sheet-shares x (sheet-polynomials s′) ≡ sheet-shares x (sheet-polynomials s)
-  pub said : (j : ℕ) → probe-messages (probe-at (auction n k bids′) fs′ i s′) j ≡ probe-messages (probe-at (auction n k bids) fs i s) j
-  pub same : secret (last-polynomial (probe-at (auction n k bids′) fs′ i s′)) ≡ secret (last-polynomial (probe-at (auction n k bids) fs i s))
+  pub said : (j : ℕ) → probe-messages (probe-at (auction n k bids′) fs′ which i s′) j ≡ probe-messages (probe-at (auction n k bids) fs which i s) j
+  pub same : secret (last-polynomial (probe-at (auction n k bids′) fs′ which i s′)) ≡ secret (last-polynomial (probe-at (auction n k bids) fs which i s))
   pub only : (e : SheetCoins) → SheetInRange (threshold n) e → ((x : ℕ) → In x xs → sheet-shares x (sheet-polynomials e) ≡ sheet-shares x (sheet-polynomials s))
-      → ((j : ℕ) → 1 ≤ j → j ≤ n → probe-messages (probe-at (auction n k bids′) fs′ i e) j ≡ probe-messages (probe-at (auction n k bids) fs i s) j)
+      → ((j : ℕ) → 1 ≤ j → j ≤ n → probe-messages (probe-at (auction n k bids′) fs′ which i e) j ≡ probe-messages (probe-at (auction n k bids) fs which i s) j)
       → e ≡ s′
 
--- the sheets of two searches from the same bracket on
-pub data Course (n k : ℕ) (bids bids′ : List Bid) (xs : List ℕ) (fs fs′ : List (List ℕ)) : Bracket → List SheetCoins → List SheetCoins → Type 0 where
-  none : {br : Bracket} → Course n k bids bids′ xs fs fs′ br [] []
-  ended : {br : Bracket} {ss : List SheetCoins} → over br ≡ true → Each (SheetInRange (threshold n)) ss → Course n k bids bids′ xs fs fs′ br ss ss
-  probing : {br next : Bracket} {s s′ : SheetCoins} {ss ss′ : List SheetCoins} → over br ≡ false
-      → Pair n k bids bids′ xs fs fs′ (middle br) s s′ → step br (canonical-at (auction n k bids) fs br s) ≡ next
-      → Course n k bids bids′ xs fs fs′ next ss ss′ → Course n k bids bids′ xs fs fs′ br (s ∷ ss) (s′ ∷ ss′)
+-- the sheets of two auctions whose searches stand at the same place
+pub data Course (n k : ℕ) (bids bids′ : List Bid) (xs : List ℕ) (fs fs′ : List (List ℕ)) : Search → List SheetCoins → List SheetCoins → Type 0 where
+  none : {here : Search} → Course n k bids bids′ xs fs fs′ here [] []
+  ended : {here : Search} {ss : List SheetCoins} → finished here ≡ true → Each (SheetInRange (threshold n)) ss → Course n k bids bids′ xs fs fs′ here ss ss
+  probed : {here after : Search} {s s′ : SheetCoins} {ss ss′ : List SheetCoins} → finished here ≡ false
+      → Pair n k bids bids′ xs fs fs′ (here .which) (middle (here .bracket)) s s′ → next here (verdict-at (auction n k bids) fs here s) ≡ after
+      → Course n k bids bids′ xs fs fs′ after ss ss′ → Course n k bids bids′ xs fs fs′ here (s ∷ ss) (s′ ∷ ss′)
 
 -- what a probe opens, as a difference
 opening-is : (T demand supply mask : ℕ) → T + mask + supply ≡ 2 ^ 59 + 2 ^ 32 + demand → T ≡ opening demand supply mask
@@ -116,58 +116,81 @@ module _ {n k : ℕ} {bids bids′ : List Bid} {xs : List ℕ} {fs fs′ : List 
 
   -- ---- one probe
 
-  module _ (i : ℕ) (lo : 1 ≤ i) (hi : i ≤ k) (s : SheetCoins) (h : SheetInRange t s) (stay : stays a b i (s .mask) ≡ true) where
-    mask-stays : demand a i + supply b i ≤ s .mask + demand b i + supply a i
-    unfolding stays
-    mask-stays = leb-true (demand a i + supply b i) (s .mask + demand b i + supply a i) (and-left (leb (demand a i + supply b i) (s .mask + demand b i + supply a i)) _ stay)
+  module _ (which i : ℕ) (lo : 1 ≤ i) (hi : i ≤ k) (s : SheetCoins) (h : SheetInRange t s) (stay : stays a b which i (s .mask) ≡ true) where
+    -- the two sides of each auction
+    abbrev d : ℕ
+    d = left-side a which i
 
-    mask-small : s .mask + demand b i + supply a i < 2 ^ 58 + (demand a i + supply b i)
-    unfolding stays
-    mask-small =
-        ltb-true (s .mask + demand b i + supply a i) (2 ^ 58 + (demand a i + supply b i))
-        (and-right (leb (demand a i + supply b i) (s .mask + demand b i + supply a i)) _ stay)
+    abbrev e : ℕ
+    e = right-side a which i
 
-    other : Other n t xs (demand a i) (supply a i) s (probe-at a fs i s) (demand b i) (supply b i) (getD fs′ (i - 1) []) (getD fs′ (k + i - 1) [])
+    abbrev d′ : ℕ
+    d′ = left-side b which i
+
+    abbrev e′ : ℕ
+    e′ = right-side b which i
+
+    -- and the polynomials of the second's
+    abbrev f′ : List ℕ
+    f′ = side which (demand-at b fs′ i) (supply-at b fs′ i)
+
+    abbrev g′ : List ℕ
+    g′ = side which (supply-at b fs′ i) (demand-at b fs′ i)
+
+    mask-stays : d + e′ ≤ s .mask + d′ + e
+    unfolding stays
+    mask-stays = leb-true (d + e′) (s .mask + d′ + e) (and-left (leb (d + e′) (s .mask + d′ + e)) _ stay)
+
+    mask-small : s .mask + d′ + e < 2 ^ 58 + (d + e′)
+    unfolding stays
+    mask-small = ltb-true (s .mask + d′ + e) (2 ^ 58 + (d + e′)) (and-right (leb (d + e′) (s .mask + d′ + e)) _ stay)
+
+    -- the pool has the same shares of each side
+    side-seen : (x y : ℕ) → shares amounts (side which (getD fs′ x []) (getD fs′ y [])) xs ≡ shares amounts (side which (getD fs x []) (getD fs y [])) xs
+    side-seen x y =
+        sym (side-map (λ f. shares amounts f xs) which (getD fs′ x []) (getD fs′ y [])) ∙ ap₂ (side which) (S .seen x) (S .seen y)
+        ∙ side-map (λ f. shares amounts f xs) which (getD fs x []) (getD fs y [])
+
+    other : Other n t xs d e s (probe-at a fs which i s) d′ e′ f′ g′
     unfolding probe-at
     other =
-        let C : Compares t (demand b i) (supply b i) s (probe-at b fs′ i s) = S .second i lo hi s h in
+        let C : Compares t d′ e′ s (probe-at b fs′ which i s) = S .second i lo hi which s h in
         record {
           at-most = S .at-most;
           more = S .more;
           pool = S .pool;
           pooled = S .pooled;
-          first = S .first i lo hi s h;
+          first = S .first i lo hi which s h;
           demand-shared = C .demand-shared;
           supply-shared = C .supply-shared;
           demand-is = C .demand-is;
           supply-is = C .supply-is;
           demand-lt = C .demand-lt;
           supply-lt = C .supply-lt;
-          demand-seen = S .seen (i - 1);
-          supply-seen = S .seen (k + i - 1);
-          verdict-same = S .agree i lo hi;
+          demand-seen = side-seen (i - 1) (k + i - 1);
+          supply-seen = side-seen (k + i - 1) (i - 1);
+          verdict-same = S .agree which i lo hi;
           mask-stays = mask-stays;
           mask-lt = omega (arith, mask-stays, mask-small);
         }
 
-    fits : Matches n t xs (probe-at a fs i s) (getD fs′ (i - 1) []) (getD fs′ (k + i - 1) []) (matched-sheet a b xs i s)
+    fits : Matches n t xs (probe-at a fs which i s) f′ g′ (matched-sheet a b xs which i s)
     unfolding matched-sheet
     fits =
-        subst
-        (λ (z : ℕ). Matches n t xs (probe-at a fs i s) (getD fs′ (i - 1) []) (getD fs′ (k + i - 1) []) (matched xs z (moved (s .mask) (demand a i) (supply a i) (demand b i) (supply b i)) s))
-        (opening-is (opened-sum (probe-at a fs i s)) (demand a i) (supply a i) (s .mask) (sum-law t (demand a i) (supply a i) s (probe-at a fs i s) (S .first i lo hi s h)))
-        (hides n t xs (demand a i) (supply a i) s (probe-at a fs i s) (demand b i) (supply b i) (getD fs′ (i - 1) []) (getD fs′ (k + i - 1) []) other)
+        subst (λ (z : ℕ). Matches n t xs (probe-at a fs which i s) f′ g′ (matched xs z (moved (s .mask) d e d′ e′) s))
+        (opening-is (opened-sum (probe-at a fs which i s)) d e (s .mask) (sum-law t d e s (probe-at a fs which i s) (S .first i lo hi which s h)))
+        (hides n t xs d e s (probe-at a fs which i s) d′ e′ f′ g′ other)
 
-    pair : Pair n k bids bids′ xs fs fs′ i s (matched-sheet a b xs i s)
+    pair : Pair n k bids bids′ xs fs fs′ which i s (matched-sheet a b xs which i s)
     unfolding probe-at
     pair =
-        let M : Matches n t xs (probe-at a fs i s) (getD fs′ (i - 1) []) (getD fs′ (k + i - 1) []) (matched-sheet a b xs i s) = fits in
+        let M : Matches n t xs (probe-at a fs which i s) f′ g′ (matched-sheet a b xs which i s) = fits in
         record {
           least = lo;
           most = hi;
           ranged = h;
           ranged′ = M .ranged;
-          words = same-map (λ x. sheet-shares x (sheet-polynomials (matched-sheet a b xs i s))) (λ x. sheet-shares x (sheet-polynomials s)) xs (M .same-words);
+          words = same-map (λ x. sheet-shares x (sheet-polynomials (matched-sheet a b xs which i s))) (λ x. sheet-shares x (sheet-polynomials s)) xs (M .same-words);
           said = M .same-messages;
           same = M .same-verdict;
           only = λ e he w said. M .only e he (map-same (λ x. sheet-shares x (sheet-polynomials e)) (λ x. sheet-shares x (sheet-polynomials s)) xs w) said;
@@ -175,47 +198,41 @@ module _ {n k : ℕ} {bids bids′ : List Bid} {xs : List ℕ} {fs fs′ : List 
 
   -- ---- the matching sheets
 
-  abbrev given : ℕ → ℕ
+  abbrev given : (which i : ℕ) → ℕ
   given = promise (demand a) (supply a)
 
-  abbrev marked : ℕ → Bool
-  marked i = eqb (given i) 1
+  abbrev Staying : List Decision → List SheetCoins → Type 0
+  Staying ds ss = Each (λ z. stays a b (z .0 .which) (z .0 .index) (z .1 .mask) ≡ true) (zip ds ss)
 
-  abbrev indices : ℕ → Bracket → List ℕ
-  indices q br = map (λ d. d .0) (trail given q br)
-
-  abbrev Staying : ℕ → Bracket → List SheetCoins → Type 0
-  Staying q br ss = Each (λ z. stays a b (z .0) (z .1 .mask) ≡ true) (zip (indices q br) ss)
-
-  pub course : (ss : List SheetCoins) {m : ℕ} (br : Bracket) → Encloses marked k m br → Each (SheetInRange t) ss → Staying (length ss) br ss
-      → Course n k bids bids′ xs fs fs′ br ss (matched-sheets a b xs (indices (length ss) br) ss)
+  pub course : (ss : List SheetCoins) (here : Search) → Roomy k here → Each (SheetInRange t) ss → Staying (trail given (length ss) here) ss
+      → Course n k bids bids′ xs fs fs′ here ss (matched-sheets a b xs (trail given (length ss) here) ss)
   unfolding trail matched-sheets zip zipWith
-  course [] br E h st = none
-  course (s ∷ ss) {m} br E h st = split (over br) refl (course ss {m = suc m} (step br (given (middle br))))
+  course [] here R h st = none
+  course (s ∷ ss) here R h st = split (finished here) refl (course ss (next here (given (here .which) (middle (here .bracket)))))
     where
-      split : (o : Bool) → over br ≡ o
-          → (Encloses marked k (suc m) (step br (given (middle br))) → Each (SheetInRange t) ss → Staying (length ss) (step br (given (middle br))) ss
-          → Course n k bids bids′ xs fs fs′ (step br (given (middle br))) ss (matched-sheets a b xs (indices (length ss) (step br (given (middle br)))) ss))
-          → Course n k bids bids′ xs fs fs′ br (s ∷ ss) (matched-sheets a b xs (indices (suc (length ss)) br) (s ∷ ss))
-      split true o later =
-          subst (λ (z : List (ℕ × ℕ)). Course n k bids bids′ xs fs fs′ br (s ∷ ss) (matched-sheets a b xs (map (λ d. d .0) z) (s ∷ ss)))
-          (sym (trail-over given (suc (length ss)) br o)) (ended o h)
-      split false o later =
-          let i : ℕ = middle br in
-          let next : Bracket = step br (given (middle br)) in
-          let gap : br .lo + 1 < br .hi = over-false br (E .apart) o in
-          let lo : 1 ≤ middle br = omega (arith, middle-above br gap) in
-          let hi : middle br ≤ k = omega (arith, E .inside, middle-below br gap) in
-          let staying : (stays a b (middle br) (s .mask) ≡ true) × Staying (length ss) next ss =
-          subst (λ (z : List (ℕ × ℕ)). Each (λ z. stays a b (z .0) (z .1 .mask) ≡ true) (zip (map (λ d. d .0) z) (s ∷ ss)))
-          (trail-going given (length ss) br o) st in
-          subst (λ (z : List (ℕ × ℕ)). Course n k bids bids′ xs fs fs′ br (s ∷ ss) (matched-sheets a b xs (map (λ d. d .0) z) (s ∷ ss)))
-          (sym (trail-going given (length ss) br o))
-          (probing o (pair (middle br) lo hi s (h .0) (staying .0))
-          (ap (step br) (promised t (demand a i) (supply a i) s (probe-at a fs i s) (S .first i lo hi s (h .0))))
-          (later (encloses-step marked k E o (given (middle br)) refl) (h .1) (staying .1)))
+      after : Search
+      after = next here (given (here .which) (middle (here .bracket)))
 
--- ---- what two such searches have in common
+      split : (o : Bool) → finished here ≡ o
+          → (Roomy k after → Each (SheetInRange t) ss → Staying (trail given (length ss) after) ss
+          → Course n k bids bids′ xs fs fs′ after ss (matched-sheets a b xs (trail given (length ss) after) ss))
+          → Course n k bids bids′ xs fs fs′ here (s ∷ ss) (matched-sheets a b xs (trail given (suc (length ss)) here) (s ∷ ss))
+      split true o later =
+          subst (λ (z : List Decision). Course n k bids bids′ xs fs fs′ here (s ∷ ss) (matched-sheets a b xs z (s ∷ ss)))
+          (sym (trail-over given (suc (length ss)) here o)) (ended o h)
+      split false o later =
+          let which : ℕ = here .which in
+          let i : ℕ = middle (here .bracket) in
+          let F = probing k here (roomy-sound k here R) o in
+          let staying : (stays a b which i (s .mask) ≡ true) × Staying (trail given (length ss) after) ss =
+          subst (λ (z : List Decision). Staying z (s ∷ ss)) (trail-going given (length ss) here o) st in
+          subst (λ (z : List Decision). Course n k bids bids′ xs fs fs′ here (s ∷ ss) (matched-sheets a b xs z (s ∷ ss)))
+          (sym (trail-going given (length ss) here o))
+          (probed o (pair which i (F .index-least) (F .index-most) s (h .0) (staying .0))
+          (ap (next here) (promised t (left-side a which i) (right-side a which i) s (probe-at a fs which i s) (S .first i (F .index-least) (F .index-most) which s (h .0))))
+          (later (roomy-next k here (given which i) R o) (h .1) (staying .1)))
+
+-- ---- what two such auctions have in common
 
 -- party j's words of a list of sheets, sheet by sheet
 abbrev pub words-of : ℕ → List SheetCoins → List (List ℕ)
@@ -231,44 +248,44 @@ drop-words t j m {m′} s ss h l =
     ap (λ (z : ℕ). drop z (w ++ flat (words-of j ss))) e ∙ drop-append-add w (flat (words-of j ss)) (sheet-size * m)
 
 module _ {n k : ℕ} {bids bids′ : List Bid} {xs : List ℕ} {fs fs′ : List (List ℕ)} where
-  pub sheets-ranged : {br : Bracket} {ss ss′ : List SheetCoins} → Course n k bids bids′ xs fs fs′ br ss ss′ → Each (SheetInRange (threshold n)) ss′
+  pub sheets-ranged : {here : Search} {ss ss′ : List SheetCoins} → Course n k bids bids′ xs fs fs′ here ss ss′ → Each (SheetInRange (threshold n)) ss′
   sheets-ranged none = tt
   sheets-ranged (ended o h) = h
-  sheets-ranged (probing o P e C) = (P .ranged′, sheets-ranged C)
+  sheets-ranged (probed o P e C) = (P .ranged′, sheets-ranged C)
 
-  pub sheets-many : {br : Bracket} {ss ss′ : List SheetCoins} → Course n k bids bids′ xs fs fs′ br ss ss′ → length ss′ ≡ length ss
+  pub sheets-many : {here : Search} {ss ss′ : List SheetCoins} → Course n k bids bids′ xs fs fs′ here ss ss′ → length ss′ ≡ length ss
   sheets-many none = refl
   sheets-many (ended o h) = refl
-  sheets-many (probing o P e C) = ap suc (sheets-many C)
+  sheets-many (probed o P e C) = ap suc (sheets-many C)
 
   -- the pool's words
-  pub words-same : (j : ℕ) → In j xs → {br : Bracket} {ss ss′ : List SheetCoins} → Course n k bids bids′ xs fs fs′ br ss ss′ → words-of j ss′ ≡ words-of j ss
+  pub words-same : (j : ℕ) → In j xs → {here : Search} {ss ss′ : List SheetCoins} → Course n k bids bids′ xs fs fs′ here ss ss′ → words-of j ss′ ≡ words-of j ss
   words-same j i none = refl
   words-same j i (ended o h) = refl
-  words-same j i (probing o P e C) = ap₂ (λ (z : List ℕ) (zs : List (List ℕ)). z ∷ zs) (P .words j i) (words-same j i C)
+  words-same j i (probed o P e C) = ap₂ (λ (z : List ℕ) (zs : List (List ℕ)). z ∷ zs) (P .words j i) (words-same j i C)
 
   -- the probes, one by one: whatever is the same of the probes of each pair
   pub made-same : {X : Type 0} (f : Made → X)
-      → ((br : Bracket) (s s′ : SheetCoins) → Pair n k bids bids′ xs fs fs′ (middle br) s s′
-      → f (probing-at (auction n k bids′) fs′ br s′) ≡ f (probing-at (auction n k bids) fs br s))
-      → {br : Bracket} {ss ss′ : List SheetCoins} → Course n k bids bids′ xs fs fs′ br ss ss′
-      → map f (made (auction n k bids′) fs′ br ss′) ≡ map f (made (auction n k bids) fs br ss)
-  made-same f h {br} none = ap (map f) (made-none (auction n k bids′) fs′ br ∙ sym (made-none (auction n k bids) fs br))
-  made-same f h {br} {ss} (ended o r) = ap (map f) (made-over (auction n k bids′) fs′ br ss o ∙ sym (made-over (auction n k bids) fs br ss o))
-  made-same {X} f h (probing {br = br} {s = s} {s′ = s′} {ss = ss} {ss′ = ss′} o P e C) =
-      ap (map f) (made-going (auction n k bids′) fs′ br s′ ss′ o (ap (step br) (P .same) ∙ e))
-      ∙ ap₂ (λ (z : X) (zs : List X). z ∷ zs) (h br s s′ P) (made-same f h C)
-      ∙ ap (map f) (sym (made-going (auction n k bids) fs br s ss o e))
+      → ((here : Search) (s s′ : SheetCoins) → Pair n k bids bids′ xs fs fs′ (here .which) (middle (here .bracket)) s s′
+      → f (probing-at (auction n k bids′) fs′ here s′) ≡ f (probing-at (auction n k bids) fs here s))
+      → {here : Search} {ss ss′ : List SheetCoins} → Course n k bids bids′ xs fs fs′ here ss ss′
+      → map f (made (auction n k bids′) fs′ here ss′) ≡ map f (made (auction n k bids) fs here ss)
+  made-same f h {here} none = ap (map f) (made-none (auction n k bids′) fs′ here ∙ sym (made-none (auction n k bids) fs here))
+  made-same f h {here} {ss} (ended o r) = ap (map f) (made-over (auction n k bids′) fs′ here ss o ∙ sym (made-over (auction n k bids) fs here ss o))
+  made-same {X} f h (probed {here = here} {s = s} {s′ = s′} {ss = ss} {ss′ = ss′} o P e C) =
+      ap (map f) (made-first (auction n k bids′) fs′ here s′ ss′ o (ap (next here) (P .same) ∙ e))
+      ∙ ap₂ (λ (z : X) (zs : List X). z ∷ zs) (h here s s′ P) (made-same f h C)
+      ∙ ap (map f) (sym (made-first (auction n k bids) fs here s ss o e))
 
   -- unused sheets
-  pub unused-same : (j : ℕ) {br : Bracket} {ss ss′ : List SheetCoins} → Course n k bids bids′ xs fs fs′ br ss ss′
-      → drop (sheet-size * length (made (auction n k bids) fs br ss)) (flat (words-of j ss′))
-      ≡ drop (sheet-size * length (made (auction n k bids) fs br ss)) (flat (words-of j ss))
+  pub unused-same : (j : ℕ) {here : Search} {ss ss′ : List SheetCoins} → Course n k bids bids′ xs fs fs′ here ss ss′
+      → drop (sheet-size * length (made (auction n k bids) fs here ss)) (flat (words-of j ss′))
+      ≡ drop (sheet-size * length (made (auction n k bids) fs here ss)) (flat (words-of j ss))
   unused-same j none = refl
   unused-same j (ended o h) = refl
-  unused-same j (probing {br = br} {next = next} {s = s} {s′ = s′} {ss = ss} {ss′ = ss′} o P e C) =
-      let m : ℕ = length (made (auction n k bids) fs next ss) in
-      let one : length (made (auction n k bids) fs br (s ∷ ss)) ≡ suc m = ap length (made-going (auction n k bids) fs br s ss o e) in
+  unused-same j (probed {here = here} {after = after} {s = s} {s′ = s′} {ss = ss} {ss′ = ss′} o P e C) =
+      let m : ℕ = length (made (auction n k bids) fs after ss) in
+      let one : length (made (auction n k bids) fs here (s ∷ ss)) ≡ suc m = ap length (made-first (auction n k bids) fs here s ss o e) in
       drop-words (threshold n) j m s′ ss′ (P .ranged′) one ∙ unused-same j C ∙ sym (drop-words (threshold n) j m s ss (P .ranged) one)
 
 -- ---- and no other sheets
@@ -298,46 +315,47 @@ module _ {n k : ℕ} {bids bids′ : List Bid} {xs : List ℕ} {fs fs′ : List 
   abbrev all-said : List Made → List (List ℕ)
   all-said ds = flatten (map (λ d. spoken n (d .probe)) ds)
 
-  said-parts : (q q′ : Probe) (ds ds′ : List Made) (br br′ : Bracket)
-      → all-said (record { bracket = br′; probe = q′ } ∷ ds′) ≡ all-said (record { bracket = br; probe = q } ∷ ds)
+  said-parts : (q q′ : Probe) (ds ds′ : List Made) (here here′ : Search)
+      → all-said (record { here = here′; probe = q′ } ∷ ds′) ≡ all-said (record { here = here; probe = q } ∷ ds)
       → (spoken n q′ ≡ spoken n q) × (all-said ds′ ≡ all-said ds)
   unfolding flatten
-  said-parts q q′ ds ds′ br br′ e = append-parts (spoken n q′) (spoken n q) (all-said ds′) (all-said ds) (spoken-long n q′ ∙ sym (spoken-long n q)) e
+  said-parts q q′ ds ds′ here here′ e = append-parts (spoken n q′) (spoken n q) (all-said ds′) (all-said ds) (spoken-long n q′ ∙ sym (spoken-long n q)) e
 
-  pub sheets-only : {br : Bracket} {ss ss′ : List SheetCoins} → Course n k bids bids′ xs fs fs′ br ss ss′
+  pub sheets-only : {here : Search} {ss ss′ : List SheetCoins} → Course n k bids bids′ xs fs fs′ here ss ss′
       → (us : List SheetCoins) → length us ≡ length ss → Each (SheetInRange (threshold n)) us
       → ((j : ℕ) → In j xs → flat (words-of j us) ≡ flat (words-of j ss))
       → ((j : ℕ) → 1 ≤ j → j ≤ n
-      → drop (sheet-size * length (made (auction n k bids) fs br ss)) (flat (words-of j us))
-      ≡ drop (sheet-size * length (made (auction n k bids) fs br ss)) (flat (words-of j ss)))
-      → all-said (made (auction n k bids′) fs′ br us) ≡ all-said (made (auction n k bids) fs br ss)
+      → drop (sheet-size * length (made (auction n k bids) fs here ss)) (flat (words-of j us))
+      ≡ drop (sheet-size * length (made (auction n k bids) fs here ss)) (flat (words-of j ss)))
+      → all-said (made (auction n k bids′) fs′ here us) ≡ all-said (made (auction n k bids) fs here ss)
       → us ≡ ss′
   sheets-only none [] l h w v e = refl
   sheets-only none (u ∷ us) l h w v e = absurd (omega arith)
-  sheets-only {br} {ss} (ended o r) us l h w v e =
+  sheets-only {here} {ss} (ended o r) us l h w v e =
       sheets-fixed n (threshold n) (S .more) (S .at-most) ss us r h l
       (λ j h1 hn.
       subst (λ (z : List Made). drop (sheet-size * length z) (flat (words-of j us)) ≡ drop (sheet-size * length z) (flat (words-of j ss)))
-      (made-over (auction n k bids) fs br ss o) (v j h1 hn))
-  sheets-only (probing o P n′ C) [] l h w v e = absurd (omega arith)
-  sheets-only (probing {br = br} {next = next} {s = s} {s′ = s′} {ss = ss} {ss′ = ss′} o P n′ C) (u ∷ us) l h w v e =
+      (made-over (auction n k bids) fs here ss o) (v j h1 hn))
+  sheets-only (probed o P n′ C) [] l h w v e = absurd (omega arith)
+  sheets-only (probed {here = here} {after = after} {s = s} {s′ = s′} {ss = ss} {ss′ = ss′} o P n′ C) (u ∷ us) l h w v e =
       let a : Auction = auction n k bids in
       let b : Auction = auction n k bids′ in
       let t : ℕ = threshold n in
-      let i : ℕ = middle br in
-      let m : ℕ = length (made a fs next ss) in
-      let one : length (made a fs br (s ∷ ss)) ≡ suc m = ap length (made-going a fs br s ss o n′) in
-      let parts : (spoken n (probe-at b fs′ i u) ≡ spoken n (probe-at a fs i s))
-      × (all-said (made b fs′ (step br (canonical-at b fs′ br u)) us) ≡ all-said (made a fs next ss)) =
-      said-parts (probe-at a fs i s) (probe-at b fs′ i u) (made a fs next ss) (made b fs′ (step br (canonical-at b fs′ br u)) us) br br
-      (ap all-said (sym (made-going b fs′ br u us o refl)) ∙ e ∙ ap all-said (made-going a fs br s ss o n′)) in
+      let which : ℕ = here .which in
+      let i : ℕ = middle (here .bracket) in
+      let m : ℕ = length (made a fs after ss) in
+      let one : length (made a fs here (s ∷ ss)) ≡ suc m = ap length (made-first a fs here s ss o n′) in
+      let parts : (spoken n (probe-at b fs′ which i u) ≡ spoken n (probe-at a fs which i s))
+      × (all-said (made b fs′ (next here (verdict-at b fs′ here u)) us) ≡ all-said (made a fs after ss)) =
+      said-parts (probe-at a fs which i s) (probe-at b fs′ which i u) (made a fs after ss) (made b fs′ (next here (verdict-at b fs′ here u)) us) here here
+      (ap all-said (sym (made-first b fs′ here u us o refl)) ∙ e ∙ ap all-said (made-first a fs here s ss o n′)) in
       let same : u ≡ s′ =
       P .only u (h .0) (λ x m. words-parts n t (S .more) (S .at-most) x s u ss us (P .ranged) (h .0) (w x m) .0)
-      (spoken-heard n t (probe-at a fs i s) (probe-at b fs′ i u)
-      (probe-shared t (demand a i) (supply a i) s (probe-at a fs i s) (S .first i (P .least) (P .most) s (P .ranged)))
-      (probe-shared t (demand b i) (supply b i) u (probe-at b fs′ i u) (S .second i (P .least) (P .most) u (h .0))) (parts .0)) in
-      let on : step br (canonical-at b fs′ br u) ≡ next = ap (λ (z : SheetCoins). step br (canonical-at b fs′ br z)) same ∙ ap (step br) (P .same) ∙ n′ in
+      (spoken-heard n t (probe-at a fs which i s) (probe-at b fs′ which i u)
+      (probe-shared t (left-side a which i) (right-side a which i) s (probe-at a fs which i s) (S .first i (P .least) (P .most) which s (P .ranged)))
+      (probe-shared t (left-side b which i) (right-side b which i) u (probe-at b fs′ which i u) (S .second i (P .least) (P .most) which u (h .0))) (parts .0)) in
+      let on : next here (verdict-at b fs′ here u) ≡ after = ap (λ (z : SheetCoins). next here (verdict-at b fs′ here z)) same ∙ ap (next here) (P .same) ∙ n′ in
       ap₂ (λ (z : SheetCoins) (zs : List SheetCoins). z ∷ zs) same
       (sheets-only C us (suc-inj l) (h .1) (λ x m. words-parts n t (S .more) (S .at-most) x s u ss us (P .ranged) (h .0) (w x m) .1)
       (λ j h1 hn. sym (drop-words t j m u us (h .0) one) ∙ v j h1 hn ∙ drop-words t j m s ss (P .ranged) one)
-      (ap (λ (z : Bracket). all-said (made b fs′ z us)) (sym on) ∙ parts .1))
+      (ap (λ (z : Search). all-said (made b fs′ z us)) (sym on) ∙ parts .1))

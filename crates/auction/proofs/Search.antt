@@ -1,47 +1,49 @@
--- The probes that the search makes, as rounds one after another: they end where it is over, at the clearing answer. Assumes nothing.
+-- The probes that the searches make, as rounds one after another: they end where both are over, at the price. Assumes nothing.
 use mathlib.Core.Path.{_≡_, refl, sym, ap, _∙_}
 use mathlib.Core.Bool.{Bool, true, false, true≢false}
-use mathlib.Core.List.{List, [], _∷_, _++_, map, nil≢cons, tail-eq-of-cons-eq}
-use Prim.Native.Nat.{ℕ, zero, suc, _+_, _*_, _≤_}
-use native.Mathlib.Nat.{add-zero, zero-add}
+use mathlib.Core.List.{List, [], _∷_, _++_, map, map-map, nil≢cons, tail-eq-of-cons-eq}
+use Prim.Native.Nat.{ℕ, zero, suc, _+_, _*_, _≤_, _<_}
+use native.Mathlib.Nat.{zero-add}
+use native.Mathlib.Numerals.{add-one}
 use native.Mathlib.Omega.{arith}
-use lib.Dec.{eqb}
 use lib.ListN.{length, drop, length-append, length-map}
 use Rattle.ranges.specs.Sizes.{probe-rounds}
 use Rattle.ranges.specs.Lists.{from}
 use Rattle.ranges.proofs.Loops.{length-from}
-use Rattle.search.specs.declared.Bracket.{Bracket}
-use Rattle.search.specs.Bracket.{start, middle, over, step}
-use Rattle.search.specs.Limit.{limit}
-use Rattle.search.specs.Clearing.{covered, clearing}
-use Rattle.search.specs.Search.{promise, follow, trail, Searched}
-use Rattle.search.proofs.Narrowing.{Encloses, encloses-start, encloses-step, enough, open-at-start}
-use Rattle.search.proofs.Price.{promised, enclosed}
+use Rattle.search.specs.declared.searches.Search.{Search}
+use Rattle.search.specs.Bracket.{middle}
+use Rattle.search.specs.Limit.{most-probes}
+use Rattle.search.specs.Searches.{first-search, next, finished, price}
+use Rattle.search.specs.Search.{promise, follow, Decision, decision-at, trail, made-in, Searched}
+use Rattle.search.proofs.Bounds.{roomy-sound, probes-enough, next-probes, follow-probes, first-unfinished, second-finished, finished-second}
+use Rattle.search.proofs.Narrowing.{over-true}
+use Rattle.search.proofs.Promised.{Promised, promised-start, promised-next, enclosed}
 use Rattle.comparison.specs.Probe.{SheetCoins, Probe, secret, last-polynomial}
-use Rattle.search.proofs.Trails.{trail-over, trail-going}
-use Rattle.auction.specs.Auction.{Auction, IsAuction, demand, supply}
+use Rattle.search.proofs.Trails.{trail-over, trail-going, spent-on-first}
+use Rattle.auction.specs.Auction.{Auction, IsAuction, demand, supply, clearing-answer, balanced-answer, price-answer}
 use Rattle.auction.specs.Coins.{Coins, InRange}
-use Rattle.auction.proofs.Closed.{polynomials, probe-at, Made, decided, made, fresh-stage, probes, decision}
+use Rattle.auction.specs.Demands.{probed}
+use Rattle.auction.proofs.Closed.{polynomials, probe-of, Made, decided, made, fresh-stage, probes, decision}
 use Rattle.auction.proofs.Totals.{totals-monotone}
 use Rattle.auction.proofs.Round.{Ready, verdict-is}
 use Rattle.auction.proofs.Chain.{Turn, Chain, done, chain-append}
 use Rattle.auction.proofs.Probed.{turn-of, probe-chain}
 
--- the rounds of probes, m of which were made before
-unfoldable pub turns-of : ℕ → List Made → List Turn
-turns-of m [] = []
-turns-of m (d ∷ ds) = map (turn-of (d .bracket) m (d .probe)) (from 0 probe-rounds) ++ turns-of (suc m) ds
+-- the rounds of probes
+unfoldable pub turns-of : List Made → List Turn
+turns-of [] = []
+turns-of (d ∷ ds) = map (turn-of (d .here) (d .probe)) (from 0 probe-rounds) ++ turns-of ds
 
-pub turns-length : (m : ℕ) (ds : List Made) → length (turns-of m ds) ≡ probe-rounds * length ds
+pub turns-length : (ds : List Made) → length (turns-of ds) ≡ probe-rounds * length ds
 unfolding turns-of
-turns-length m [] = refl
-turns-length m (d ∷ ds) =
-    length-append (map (turn-of (d .bracket) m (d .probe)) (from 0 probe-rounds)) (turns-of (suc m) ds)
-    ∙ omega (arith, length-map (from 0 probe-rounds) (turn-of (d .bracket) m (d .probe)), length-from 0 probe-rounds, turns-length (suc m) ds)
+turns-length [] = refl
+turns-length (d ∷ ds) =
+    length-append (map (turn-of (d .here) (d .probe)) (from 0 probe-rounds)) (turns-of ds)
+    ∙ omega (arith, length-map (from 0 probe-rounds) (turn-of (d .here) (d .probe)), length-from 0 probe-rounds, turns-length ds)
 
 -- where probes lead
-abbrev pub after-probes : Bracket → List Made → Bracket
-after-probes b ds = follow b (map decided ds)
+abbrev pub after-probes : Search → List Made → Search
+after-probes here ds = follow here (map decided ds)
 
 -- a part of a list
 drop-next : {A : Type 0} (m : ℕ) (xs : List A) (s : A) (ss : List A) → drop m xs ≡ s ∷ ss → drop (suc m) xs ≡ ss
@@ -51,104 +53,141 @@ drop-next (suc m) [] s ss e = absurd (nil≢cons e)
 drop-next (suc m) (x ∷ xs) s ss e = drop-next m xs s ss e
 
 module _ (a : Auction) (fs : List (List ℕ)) where
-  pub made-over : (b : Bracket) (ss : List SheetCoins) → over b ≡ true → made a fs b ss ≡ []
+  pub made-over : (here : Search) (ss : List SheetCoins) → finished here ≡ true → made a fs here ss ≡ []
   unfolding made
-  made-over b [] e = refl
-  made-over b (s ∷ ss) e = rw (e, made)
+  made-over here [] e = refl
+  made-over here (s ∷ ss) e = rw (e, made)
 
-  made-going : (b : Bracket) (s : SheetCoins) (ss : List SheetCoins) → over b ≡ false
-      → made a fs b (s ∷ ss)
-      ≡ record { bracket = b; probe = probe-at a fs (middle b) s } ∷ made a fs (step b (secret (last-polynomial (probe-at a fs (middle b) s)))) ss
+  pub made-going : (here : Search) (s : SheetCoins) (ss : List SheetCoins) → finished here ≡ false
+      → made a fs here (s ∷ ss)
+      ≡ record { here = here; probe = probe-of a fs here s } ∷ made a fs (next here (secret (last-polynomial (probe-of a fs here s)))) ss
   unfolding made
-  made-going b s ss e = rw (e, made)
+  made-going here s ss e = rw (e, made)
 
--- what the probes ds with these sheets are, from the bracket b on
-pub record Leads (a : Auction) (c : Coins) (b : Bracket) (m : ℕ) (ss : List SheetCoins) (ds : List Made) : Type 0 where
-  pub chain : Chain a c (fresh-stage b m) (turns-of m ds) (map decision ds) (fresh-stage (after-probes b ds) (m + length ds))
-  pub encloses : Encloses (covered (demand a) (supply a)) (a .k) (m + length ds) (after-probes b ds)
-  pub ended : over (after-probes b ds) ≡ true
-  pub trail-is : map decision ds ≡ trail (promise (demand a) (supply a)) (length ss) b
+-- what the probes ds with these sheets are, from here on
+pub record Leads (a : Auction) (c : Coins) (here : Search) (ss : List SheetCoins) (ds : List Made) : Type 0 where
+  pub chain : Chain a c (fresh-stage here) (turns-of ds) (map decision ds) (fresh-stage (after-probes here ds))
+  pub promised : Promised (demand a) (supply a) (a .k) (after-probes here ds)
+  pub ended : finished (after-probes here ds) ≡ true
+  pub trail-is : map decision ds ≡ trail (promise (demand a) (supply a)) (length ss) here
 
 module _ (a : Auction) (c : Coins) (A : IsAuction a) (C : InRange a c) where
-  abbrev passes : ℕ → Bool
-  passes = covered (demand a) (supply a)
-
-  abbrev given : ℕ → ℕ
+  abbrev given : (which i : ℕ) → ℕ
   given = promise (demand a) (supply a)
 
-  -- no probe
-  none-left : (b : Bracket) (m : ℕ) (ss : List SheetCoins) → Encloses passes (a .k) m b → over b ≡ true → Leads a c b m ss []
-  unfolding turns-of follow
-  none-left b m ss E o =
-      record { chain = rw add-zero done; encloses = rw add-zero E; ended = o; trail-is = sym (trail-over given (length ss) b o) }
+  abbrev Here : Search → Type 0
+  Here here = Promised (demand a) (supply a) (a .k) here
 
-  module _ (b : Bracket) (m : ℕ) (s : SheetCoins) (ss : List SheetCoins) (R : Ready a c b m s ss) where
+  -- no probe
+  none-left : (here : Search) (ss : List SheetCoins) → Here here → finished here ≡ true → Leads a c here ss []
+  unfolding turns-of follow
+  none-left here ss K o =
+      record { chain = done; promised = K; ended = o; trail-is = sym (trail-over given (length ss) here o) }
+
+  module _ (here : Search) (s : SheetCoins) (ss : List SheetCoins) (R : Ready a c here s ss) where
     abbrev q : Probe
-    q = probe-at a (polynomials a c) (middle b) s
+    q = probe-of a (polynomials a c) here s
 
     abbrev v : ℕ
     v = secret (last-polynomial q)
 
-    promise-kept : v ≡ given (middle b)
-    promise-kept = verdict-is a c A C b m s ss R
+    promise-kept : v ≡ given (here .which) (middle (here .bracket))
+    promise-kept = verdict-is a c A C here s ss R
 
     -- one probe, and those after it
-    one-more : (ds : List Made) → Leads a c (step b v) (suc m) ss ds → Leads a c b m (s ∷ ss) (record { bracket = b; probe = q } ∷ ds)
+    one-more : (ds : List Made) → Leads a c (next here v) ss ds → Leads a c here (s ∷ ss) (record { here = here; probe = q } ∷ ds)
     unfolding turns-of follow
     one-more ds L =
-        let e : m + suc (length ds) ≡ suc m + length ds = omega arith in
         record {
-          chain = rw e (chain-append (probe-chain a c A C b m s ss R) (L .chain));
-          encloses = rw e (L .encloses);
+          chain = chain-append (probe-chain a c A C here s ss R) (L .chain);
+          promised = L .promised;
           ended = L .ended;
           trail-is =
-              ap (λ (l : List (ℕ × ℕ)). (middle b, v) ∷ l) (L .trail-is)
-              ∙ ap (λ (x : ℕ). (middle b, x) ∷ trail given (length ss) (step b x)) promise-kept
-              ∙ sym (trail-going given (length ss) b (R .going));
+              ap (λ (l : List Decision). decision-at here v ∷ l) (L .trail-is)
+              ∙ ap (λ (x : ℕ). decision-at here x ∷ trail given (length ss) (next here x)) promise-kept
+              ∙ sym (trail-going given (length ss) here (R .going));
         }
 
-    narrower : Encloses passes (a .k) m b → Encloses passes (a .k) (suc m) (step b v)
-    narrower E = encloses-step passes (a .k) E (R .going) v (ap (λ (x : ℕ). eqb x 1) promise-kept ∙ promised (demand a) (supply a) (middle b))
+    further : Here here → Here (next here v)
+    further K = promised-next (demand a) (supply a) (a .k) (totals-monotone A) here K (R .going) v promise-kept
 
-  leads : (ss : List SheetCoins) (b : Bracket) (m : ℕ) → Encloses passes (a .k) m b → drop m (c .sheets) ≡ ss → m + length ss ≡ limit (a .k)
-      → Leads a c b m ss (made a (polynomials a c) b ss)
+  leads : (ss : List SheetCoins) (here : Search) → Here here → drop (here .probes) (c .sheets) ≡ ss → here .probes + length ss ≡ most-probes (a .k)
+      → Leads a c here ss (made a (polynomials a c) here ss)
   unfolding made
-  leads [] b m E e l = none-left b m [] E (enough passes (a .k) E (omega arith))
-  leads (s ∷ ss) b m E e l =
-      split (over b) refl (λ E′. leads ss (step b verdict) (suc m) E′ (drop-next m (c .sheets) s ss e) (omega arith))
+  leads [] here K e l = none-left here [] K (probes-enough (a .k) here (roomy-sound (a .k) here (K .roomy)) (omega arith))
+  leads (s ∷ ss) here K e l = split (finished here) refl (leads ss (next here verdict))
     where
       verdict : ℕ
-      verdict = secret (last-polynomial (probe-at a (polynomials a c) (middle b) s))
+      verdict = secret (last-polynomial (probe-of a (polynomials a c) here s))
 
-      split : (o : Bool) → over b ≡ o
-          → (Encloses passes (a .k) (suc m) (step b verdict) → Leads a c (step b verdict) (suc m) ss (made a (polynomials a c) (step b verdict) ss))
-          → Leads a c b m (s ∷ ss) (made a (polynomials a c) b (s ∷ ss))
-      split true o later = rw (made-over a (polynomials a c) b (s ∷ ss) o) (none-left b m (s ∷ ss) E o)
+      count : next here verdict .probes ≡ here .probes + 1
+      count = next-probes here verdict
+
+      split : (o : Bool) → finished here ≡ o
+          → (Here (next here verdict) → drop (next here verdict .probes) (c .sheets) ≡ ss → next here verdict .probes + length ss ≡ most-probes (a .k)
+          → Leads a c (next here verdict) ss (made a (polynomials a c) (next here verdict) ss))
+          → Leads a c here (s ∷ ss) (made a (polynomials a c) here (s ∷ ss))
+      split true o later = rw (made-over a (polynomials a c) here (s ∷ ss) o) (none-left here (s ∷ ss) K o)
       split false o later =
-          let R : Ready a c b m s ss = record { apart = E .apart; inside = E .inside; going = o; left = e } in
-          rw (made-going a (polynomials a c) b s ss o)
-          (one-more b m s ss R (made a (polynomials a c) (step b verdict) ss) (later (narrower b m s ss R E)))
+          let R : Ready a c here s ss = record { sound = roomy-sound (a .k) here (K .roomy); going = o; left = e } in
+          let sheets : drop (next here verdict .probes) (c .sheets) ≡ ss =
+          ap (λ (m : ℕ). drop m (c .sheets)) (count ∙ add-one (here .probes)) ∙ drop-next (here .probes) (c .sheets) s ss e in
+          rw (made-going a (polynomials a c) here s ss o)
+          (one-more here s ss R (made a (polynomials a c) (next here verdict) ss) (later (further here s ss R K) sheets (omega (arith, count, l))))
 
-  -- the whole search
-  pub whole : Leads a c (start (a .k)) 0 (c .sheets) (probes a c)
-  whole = leads (c .sheets) (start (a .k)) 0 (encloses-start passes (a .k)) refl (zero-add _ ∙ C .sheets-many)
+  -- both searches whole
+  pub whole : Leads a c (first-search (a .k)) (c .sheets) (probes a c)
+  unfolding first-search
+  whole =
+      leads (c .sheets) (first-search (a .k)) (promised-start (demand a) (supply a) (a .k) (A .k-least)) refl (zero-add _ ∙ C .sheets-many)
 
-  pub probes-trail : map decision (probes a c) ≡ trail given (limit (a .k)) (start (a .k))
-  probes-trail = whole .trail-is ∙ ap (λ (x : ℕ). trail given x (start (a .k))) (C .sheets-many)
+  pub probes-trail : map decision (probes a c) ≡ probed a
+  probes-trail = whole .trail-is ∙ ap (λ (x : ℕ). trail given x (first-search (a .k))) (C .sheets-many)
 
-  searched : Searched (demand a) (supply a) (a .k) (0 + length (probes a c)) (after-probes (start (a .k)) (probes a c))
-  searched = enclosed (totals-monotone A) (whole .encloses)
+  abbrev end : Search
+  end = after-probes (first-search (a .k)) (probes a c)
 
-  pub probes-few : length (probes a c) ≤ limit (a .k)
-  probes-few = omega (arith, searched .few)
+  searched : Searched (demand a) (supply a) (a .k) (end .probes) end
+  searched = enclosed (totals-monotone A) end (whole .promised)
+
+  pub probes-counted : end .probes ≡ length (probes a c)
+  unfolding first-search
+  probes-counted =
+      follow-probes (map decided (probes a c)) (first-search (a .k)) ∙ zero-add _ ∙ length-map (probes a c) decided
+
+  pub probes-few : length (probes a c) ≤ most-probes (a .k)
+  probes-few = omega (arith, searched .few, probes-counted)
 
   pub probes-some : 1 ≤ length (probes a c)
-  unfolding follow
+  unfolding follow first-search
   probes-some = split (probes a c) (whole .ended)
     where
-      split : (ds : List Made) → over (after-probes (start (a .k)) ds) ≡ true → 1 ≤ length ds
-      split [] o = absurd (true≢false (sym o ∙ open-at-start (a .k) (A .k-least)))
+      split : (ds : List Made) → finished (after-probes (first-search (a .k)) ds) ≡ true → 1 ≤ length ds
+      split [] o = absurd (true≢false (sym o ∙ first-unfinished (first-search (a .k)) refl))
       split (d ∷ ds) o = omega arith
 
-  pub search-ends : after-probes (start (a .k)) (probes a c) .lo ≡ clearing (demand a) (supply a) (a .k)
-  search-ends = searched .answer (whole .ended)
+  pub price-found : price end ≡ price-answer a
+  price-found = searched .answer (whole .ended)
+
+  -- and the second is on
+  on : end .which ≡ 2
+  on = finished-second end (whole .ended)
+
+  last : end .bracket .hi ≡ end .bracket .lo + 1
+  last = over-true (end .bracket) (sym (second-finished end on) ∙ whole .ended)
+
+  pub highest-found : end .first ≡ clearing-answer a
+  highest-found = searched .first-kept on
+
+  pub lowest-found : 0 < balanced-answer a → end .bracket .hi ≡ balanced-answer a
+  lowest-found some =
+      let h = searched .second-around on some in
+      omega (arith, h .0, h .1, last)
+
+  pub none-found : balanced-answer a ≡ 0 → end .bracket .hi ≡ clearing-answer a + 1
+  none-found none = searched .second-none on none ∙ ap (λ (x : ℕ). x + 1) highest-found
+
+  pub spent-found : end .spent ≡ made-in 1 (probed a)
+  spent-found =
+      ap (λ (vs : List ℕ). follow (first-search (a .k)) vs .spent) (sym (map-map (λ d. d .verdict) decision (probes a c)) ∙ ap (map (λ d. d .verdict)) probes-trail)
+      ∙ spent-on-first given (a .k) (A .k-least)

@@ -9,7 +9,7 @@ use Rattle.refusal.specs.declared.Judgement.the-variants.{Accepted}
 use Rattle.ranges.specs.Sizes.{sheet-size}
 use Rattle.sharing.specs.Polynomial.{value}
 use Rattle.sharing.specs.Scheme.{threshold, points}
-use Rattle.search.specs.Bracket.{start}
+use Rattle.search.specs.Searches.{first-search}
 use Rattle.comparison.specs.Probe.{SheetCoins, SheetInRange, Each}
 use Rattle.roll.specs.declared.Roll.{Roll}
 use Rattle.roll.specs.Marks.{empty, mark}
@@ -109,22 +109,22 @@ module _ {a : Auction} {c : Coins} (A : IsAuction a) (C : InRange a c) where
   all-entering = entering-all A (c .bids) (C .bids-many)
 
   pub dealt-seat : (j : ℕ) → 1 ≤ j → j ≤ a .n
-      → after-dealing a c (holding-seat a (full-roll a) (polynomials a c) j) ≡ seat a c (fresh-stage (start (a .k)) 0) j
-  unfolding after-dealing sheet-for holding-seat holding seat record-at sheets-at start value
+      → after-dealing a c (holding-seat a (full-roll a) (polynomials a c) j) ≡ seat a c (fresh-stage (first-search (a .k))) j
+  unfolding after-dealing sheet-for holding-seat holding seat record-at sheets-at value
   dealt-seat j h1 hn =
       ap (λ (z : List (List ℕ)). record { party = holding (a .n) (a .k) (full-roll a) j; totals = at-party j (polynomials a c); sheets = flat z })
       (map-each _ _ (c .sheets)
       (each-imp (SheetInRange t) _ (c .sheets) (λ s h. deal-writes (a .n) j (one-of-n _ _ _ (member A j h1 hn)) s h (replicate sheet-size 0) (length-replicate {A = ℕ} sheet-size 0)) (C .sheets)))
 
   dealt-all : map (after-dealing a c) (map (holding-seat a (full-roll a) (polynomials a c)) (points (a .n)))
-      ≡ map (seat a c (fresh-stage (start (a .k)) 0)) (points (a .n))
+      ≡ map (seat a c (fresh-stage (first-search (a .k)))) (points (a .n))
   dealt-all =
-      map-through (after-dealing a c) (holding-seat a (full-roll a) (polynomials a c)) (seat a c (fresh-stage (start (a .k)) 0)) (a .n) dealt-seat
+      map-through (after-dealing a c) (holding-seat a (full-roll a) (polynomials a c)) (seat a c (fresh-stage (first-search (a .k)))) (a .n) dealt-seat
 
   -- ---- the list of calls
 
   abbrev after : List Call
-  after = from-rounds a c (enough-rounds a) (map (seat a c (fresh-stage (start (a .k)) 0)) (points (a .n)))
+  after = from-rounds a c (enough-rounds a) (map (seat a c (fresh-stage (first-search (a .k)))) (points (a .n)))
 
   deals-holding : (roll : Roll) (fs : List (List ℕ)) (js : List ℕ) → deals a c (map (holding-seat a roll fs) js) ≡ deal-calls a c js
   unfolding deals deal-calls deal-for deal-at holding-seat holding
@@ -192,7 +192,7 @@ module _ {a : Auction} {c : Coins} (A : IsAuction a) (C : InRange a c) where
         ∙ from-bids-calls bs (mark roll (b .0 .bidder)) gs (B .1) (added-held (a .k) t fs (entries (b .0 .table) (b .1)) F (entries-held (a .k) t b (B .0))) (entering-more a roll b bs l) e))
         ∙ sym (append-assoc splits (adds ++ bid-calls a c desk bs (mark roll (b .0 .bidder)) gs) rest ∙ ap (λ (z : List Call). splits ++ z) (append-assoc adds (bid-calls a c desk bs (mark roll (b .0 .bidder)) gs) rest))
 
-    pub canonical-setup : canonical a c desk ≡ setup-calls a c desk ++ from-rounds a c (enough-rounds a) (map (seat a c (fresh-stage (start (a .k)) 0)) (points (a .n)))
+    pub canonical-setup : canonical a c desk ≡ setup-calls a c desk ++ from-rounds a c (enough-rounds a) (map (seat a c (fresh-stage (first-search (a .k)))) (points (a .n)))
     unfolding canonical setup-calls open-at polynomials
     canonical-setup =
         let opens : List Call = map (open-at a c) (points (a .n)) in

@@ -1,7 +1,7 @@
 -- One round of all parties: when every call of it is accepted, and what every party then has. Assumes nothing.
 use mathlib.Core.Path.{_≡_, refl, sym, ap, _∙_}
 use mathlib.Core.Bool.{true, false}
-use mathlib.Core.List.{List, [], _∷_, map}
+use mathlib.Core.List.{List, _∷_, map}
 use Prim.Native.Nat.{ℕ, _+_, _-_, _*_, _^_, _≤_, _<_}
 use native.Mathlib.Omega.{arith}
 use lib.ListN.{length, drop, getD, length-map, length-drop}
@@ -14,9 +14,11 @@ use Rattle.ranges.specs.Below.{AllBelow}
 use Rattle.sharing.specs.Polynomial.{value}
 use Rattle.sharing.specs.Scheme.{threshold, points}
 use Rattle.ranges.proofs.Loops.{length-from, map-from}
-use Rattle.search.specs.declared.Bracket.{Bracket}
-use Rattle.search.specs.Bracket.{middle, over}
-use Rattle.search.specs.Limit.{limit}
+use Rattle.search.specs.declared.searches.Search.{Search}
+use Rattle.search.specs.Bracket.{middle}
+use Rattle.search.specs.Limit.{most-probes}
+use Rattle.search.specs.Searches.{finished}
+use Rattle.search.proofs.Bounds as searches
 use Rattle.comparison.specs.Probe.{SheetCoins, SheetInRange, sheet-polynomials, sheet-shares, Each}
 use Rattle.comparison.proofs.Dealt.{SheetShared, dealt-shared, each-drop}
 use Rattle.round.specs.declared.Heard.{Heard}
@@ -33,19 +35,16 @@ use Rattle.auction.specs.Auction.{Auction, bidders, IsAuction}
 use Rattle.auction.specs.Coins.{Coins, InRange}
 use Rattle.auction.specs.Call.{accepted, is-accepted, judgement}
 use Rattle.auction.specs.Canonical.{word, say-by, word-by, hear-by, after-hearing}
-use Rattle.auction.proofs.Closed.{at-party, polynomials, full-roll, Stage, fresh-stage, record-at, sheets-at, seat}
+use Rattle.auction.proofs.Closed.{at-party, polynomials, demand-at, supply-at, full-roll, Stage, fresh-stage, record-at, sheets-at, seat}
 use Rattle.auction.proofs.Totals.{each-imp, polynomials-length}
 use Rattle.auction.proofs.Sheets.{flat-length, flat-at, words-long, mask-word, getD-amounts, amount-below, byte-below, sheet-bytes-below}
-use Rattle.auction.proofs.Comparing.{demand-shared, supply-shared, index-least, index-most}
+use Rattle.auction.proofs.Comparing.{demand-shared, supply-shared}
 
 -- ---- one round
 
-abbrev pub bracket-of : Stage → Bracket
-bracket-of σ = record { lo = σ .lo; hi = σ .hi }
-
 -- from the stage σ all say the words w, and are then at the stage τ
 pub record Step (a : Auction) (c : Coins) (σ τ : Stage) (w : ℕ → ℕ) : Type 0 where
-  pub going : over (bracket-of σ) ≡ false
+  pub going : finished (σ .search) ≡ false
   pub saying : (j : ℕ) → 1 ≤ j → j ≤ a .n → accepted (say-by a c (seat a c σ j)) ≡ true
   pub word : (j : ℕ) → 1 ≤ j → j ≤ a .n → word-by a c (seat a c σ j) ≡ w j
   pub hearing : (j : ℕ) → 1 ≤ j → j ≤ a .n → accepted (hear-by a c (map w (points (a .n))) (seat a c σ j)) ≡ true
@@ -53,34 +52,21 @@ pub record Step (a : Auction) (c : Coins) (σ τ : Stage) (w : ℕ → ℕ) : Ty
 
 -- a stage whose records are sound
 pub record Sane (a : Auction) (σ : Stage) : Type 0 where
-  pub apart : σ .lo < σ .hi
-  pub inside : σ .hi ≤ a .k + 1
+  pub search : searches.Sound (a .k) (σ .search)
   pub round-least : 1 ≤ σ .round
   pub round-most : σ .round ≤ 33
   pub sum : σ .sum < 2 ^ 59 + 2 ^ 33
   pub carry : AllBelow 256 (σ .carry)
-  pub probes : σ .probes ≤ limit (a .k)
-  pub ended : σ .probes ≡ limit (a .k) → σ .hi ≤ σ .lo + 1
 
--- one at which the search goes on, with the sheet s
+-- one at which the searches go on, with the sheet s
 pub record Placed (a : Auction) (c : Coins) (σ : Stage) (s : SheetCoins) (ss : List SheetCoins) : Type 0 where
   pub sane : Sane a σ
-  pub going : over (bracket-of σ) ≡ false
-  pub left : drop (σ .probes) (c .sheets) ≡ s ∷ ss
+  pub going : finished (σ .search) ≡ false
+  pub left : drop (σ .search .probes) (c .sheets) ≡ s ∷ ss
 
-pub fresh-sane : (a : Auction) (b : Bracket) (m : ℕ) → b .lo < b .hi → b .hi ≤ a .k + 1 → m ≤ limit (a .k) → (m ≡ limit (a .k) → b .hi ≤ b .lo + 1)
-    → Sane a (fresh-stage b m)
-fresh-sane a b m apart inside few ended =
-    record {
-      apart = apart;
-      inside = inside;
-      round-least = omega arith;
-      round-most = omega arith;
-      sum = omega arith;
-      carry = tt;
-      probes = few;
-      ended = ended;
-    }
+pub fresh-sane : (a : Auction) (here : Search) → searches.Sound (a .k) here → Sane a (fresh-stage here)
+fresh-sane a here sound =
+    record { search = sound; round-least = omega arith; round-most = omega arith; sum = omega arith; carry = tt }
 
 -- ---- soundness
 
@@ -98,14 +84,11 @@ module _ (a : Auction) (c : Coins) (A : IsAuction a) (σ : Stage) (N : Sane a σ
               prices-least = A .k-least;
               prices-most = A .k-most;
             };
-        apart = N .apart;
-        inside = N .inside;
+        search = N .search;
         round-least = N .round-least;
         round-most = N .round-most;
         sum = N .sum;
         carry = omega (arith, byte-below j (omega (arith, A .n-most)) (σ .carry) (N .carry));
-        probes = N .probes;
-        ended = N .ended;
         roll = entered-proper (bidders a) (A .bidders);
         bids = refl;
       }
@@ -128,7 +111,7 @@ module _ (a : Auction) (c : Coins) (A : IsAuction a) (C : InRange a c) where
   sheets-long : (j : ℕ) → Each (λ s. length (sheet-shares j (sheet-polynomials s)) ≡ sheet-size) (c .sheets)
   sheets-long j = each-imp (SheetInRange t) (λ s. length (sheet-shares j (sheet-polynomials s)) ≡ sheet-size) (c .sheets) (words-long t j) (C .sheets)
 
-  pub sheets-length : (j : ℕ) → length (sheets-at a c j) ≡ sheet-size * limit (a .k)
+  pub sheets-length : (j : ℕ) → length (sheets-at a c j) ≡ sheet-size * most-probes (a .k)
   unfolding sheets-at
   sheets-length j =
       flat-length (λ s. sheet-shares j (sheet-polynomials s)) sheet-size (c .sheets) (sheets-long j) ∙ ap (λ (m : ℕ). sheet-size * m) (C .sheets-many)
@@ -137,7 +120,7 @@ module _ (a : Auction) (c : Coins) (A : IsAuction a) (C : InRange a c) where
   totals-length j = length-map (polynomials a c) (λ f. value amounts f j) ∙ polynomials-length A C
 
   -- a sheet is left for each probe
-  pub sheet-left : (m : ℕ) (s : SheetCoins) (ss : List SheetCoins) → drop m (c .sheets) ≡ s ∷ ss → m < limit (a .k)
+  pub sheet-left : (m : ℕ) (s : SheetCoins) (ss : List SheetCoins) → drop m (c .sheets) ≡ s ∷ ss → m < most-probes (a .k)
   sheet-left m s ss e = omega (arith, C .sheets-many, length-drop m (c .sheets), ap length e)
 
   -- ---- at a stage
@@ -145,7 +128,7 @@ module _ (a : Auction) (c : Coins) (A : IsAuction a) (C : InRange a c) where
   module _ (σ : Stage) (s : SheetCoins) (ss : List SheetCoins) (P : Placed a c σ s ss) where
     pub coins-ranged : SheetInRange t s
     coins-ranged =
-        each-first (SheetInRange t) s ss (drop (σ .probes) (c .sheets)) (P .left) (each-drop (SheetInRange t) (σ .probes) (c .sheets) (C .sheets))
+        each-first (SheetInRange t) s ss (drop (σ .search .probes) (c .sheets)) (P .left) (each-drop (SheetInRange t) (σ .search .probes) (c .sheets) (C .sheets))
 
     sheet-shared : SheetShared t (sheet-polynomials s)
     sheet-shared = dealt-shared t s coins-ranged
@@ -153,26 +136,26 @@ module _ (a : Auction) (c : Coins) (A : IsAuction a) (C : InRange a c) where
     module _ (j : ℕ) (j1 : 1 ≤ j) (jn : j ≤ a .n) where
       pub current-at : current (record-at a c σ j) (sheets-at a c j) ≡ sheet-shares j (sheet-polynomials s)
       unfolding current record-at sheets-at
-      current-at = flat-at (λ s. sheet-shares j (sheet-polynomials s)) sheet-size (c .sheets) (σ .probes) s ss (sheets-long j) (P .left)
+      current-at = flat-at (λ s. sheet-shares j (sheet-polynomials s)) sheet-size (c .sheets) (σ .search .probes) s ss (sheets-long j) (P .left)
 
       abbrev totals : List ℕ
       totals = at-party j (polynomials a c)
 
       abbrev index : ℕ
-      index = middle (bracket-of σ)
+      index = middle (σ .search .bracket)
 
-      pub demand-word : demand-share (record-at a c σ j) totals ≡ value amounts (getD (polynomials a c) (index - 1) []) j
+      pub demand-word : demand-share (record-at a c σ j) totals ≡ value amounts (demand-at a (polynomials a c) index) j
       unfolding record-at
       demand-word = getD-amounts j (polynomials a c) (index - 1)
 
-      pub supply-word : supply-share (record-at a c σ j) totals ≡ value amounts (getD (polynomials a c) (a .k + index - 1) []) j
+      pub supply-word : supply-share (record-at a c σ j) totals ≡ value amounts (supply-at a (polynomials a c) index) j
       unfolding record-at
       supply-word = getD-amounts j (polynomials a c) (a .k + index - 1)
 
       pub on-list : (1 ≤ index) × (index ≤ a .k)
       on-list =
-          let N : Sane a σ = P .sane in
-          (index-least (a .k) (bracket-of σ) (N .apart) (N .inside) (P .going), index-most (a .k) (bracket-of σ) (N .apart) (N .inside) (P .going))
+          let F = searches.probing (a .k) (σ .search) (P .sane .search) (P .going) in
+          (F .index-least, F .index-most)
 
       in-field-facts : InField (record-at a c σ j) totals (sheet-shares j (sheet-polynomials s))
       in-field-facts =

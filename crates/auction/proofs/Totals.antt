@@ -18,6 +18,7 @@ use Rattle.sharing.specs.Scheme.{threshold}
 use Rattle.sharing.proofs.Laws.{sums-length, sums-lt}
 use Rattle.ranges.proofs.Loops.{and-left, and-right}
 use Rattle.search.specs.Clearing.{Monotone}
+use Rattle.search.proofs.Sides.{side-of}
 use Rattle.comparison.specs.Probe.{Each, Group, secret}
 use Rattle.comparison.proofs.Values.{Shared}
 use Rattle.comparison.proofs.Dealt.{each-at, shared-cons}
@@ -25,7 +26,7 @@ use Rattle.comparison.proofs.Plain.{each-replicate, zeros-group}
 use Rattle.ranges.specs.Steps.{steps}
 use Rattle.bid.specs.Table.{most, monotone}
 use Rattle.roll.proofs.Entry.{bidders-few}
-use Rattle.auction.specs.Auction.{Auction, Bid, bidders, GoodTable, IsAuction, sum, demand, supply}
+use Rattle.auction.specs.Auction.{Auction, Bid, bidders, GoodTable, IsAuction, sum, demand, supply, left-side, right-side}
 use Rattle.auction.specs.Coins.{Coins, DrawnBid, InRange}
 use Rattle.auction.proofs.Closed.{entries, added-polynomials, totals-after, no-totals, polynomials}
 
@@ -142,6 +143,13 @@ module _ {a : Auction} (A : IsAuction a) where
   pub supply-small : (i : ℕ) → supply a i < 2 ^ 32
   unfolding supply
   supply-small i = total-small _
+
+  -- and so does either side of a comparison
+  pub left-small : (which i : ℕ) → left-side a which i < 2 ^ 32
+  left-small which i = side-of (λ x. x < 2 ^ 32) which (demand a i) (supply a i) (demand-small i) (supply-small i)
+
+  pub right-small : (which i : ℕ) → right-side a which i < 2 ^ 32
+  right-small which i = side-of (λ x. x < 2 ^ 32) which (supply a i) (demand a i) (supply-small i) (demand-small i)
 
   pub totals-monotone : Monotone (demand a) (supply a) (a .k)
   unfolding demand supply

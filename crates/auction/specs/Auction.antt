@@ -1,4 +1,4 @@
--- What an auction is fixed by, but for its coins; its totals and its clearing answer. Assumes nothing.
+-- What an auction is fixed by, but for its coins; its totals and its answers. Assumes nothing.
 use mathlib.Core.Path.{_≡_}
 use mathlib.Core.Bool.{true}
 use mathlib.Core.List.{List, [], _∷_, map}
@@ -8,7 +8,8 @@ use lib.ListN.{length, getD}
 use Rattle.ranges.specs.Distinct.{Distinct}
 use Rattle.ranges.specs.Lists.{every}
 use Rattle.bid.specs.Table.{most, monotone}
-use Rattle.search.specs.Clearing.{clearing}
+use Rattle.search.specs.Clearing.{clearing, balancing, price-index}
+use Rattle.search.specs.Searches.{side}
 use Rattle.comparison.specs.Probe.{Each}
 
 -- "Each bid shall carry a bidder number"
@@ -55,3 +56,19 @@ supply a i = sum (map (λ b. getD (b .table) (a .k + i - 1) 0) (a .bids))
 -- "The clearing answer of a run is the highest index at which total demand, over its bids, is at least total supply, or 0."
 abbrev pub clearing-answer : Auction → ℕ
 clearing-answer a = clearing (demand a) (supply a) (a .k)
+
+-- "the lowest j from 1 to i with supply at least demand", 0 where there is none
+abbrev pub balanced-answer : Auction → ℕ
+balanced-answer a = balancing (demand a) (supply a) (a .k)
+
+-- "If there is such a j the price index is (i + j)/2 rounded down, else i."
+abbrev pub price-answer : Auction → ℕ
+price-answer a = price-index (clearing-answer a) (balanced-answer a)
+
+-- what is compared at an index: whether the left side is at least the right one. These are total demand and total supply, in the second
+-- search "with the sides exchanged".
+abbrev pub left-side : Auction → (which i : ℕ) → ℕ
+left-side a which i = side which (demand a i) (supply a i)
+
+abbrev pub right-side : Auction → (which i : ℕ) → ℕ
+right-side a which i = side which (supply a i) (demand a i)

@@ -6,15 +6,14 @@ use Prim.Native.Nat.{ℕ, zero, suc, _*_}
 use lib.ListN.{replicate}
 use Rattle.ranges.specs.Sizes.{sheet-size, probe-rounds}
 use Rattle.sharing.specs.Scheme.{threshold, points}
-use Rattle.search.specs.Bracket.{over}
-use Rattle.search.specs.Limit.{limit}
+use Rattle.search.specs.Limit.{most-probes}
+use Rattle.search.specs.Searches.{finished}
 use Rattle.comparison.specs.Probe.{SheetCoins}
 use Rattle.bid.specs.Split.{split-left}
 use Rattle.bid.specs.Entry.{split-entry-left, entry-coins, entries-left}
 use Rattle.dealer.specs.Deal.{deal-left}
 use Rattle.record.specs.declared.Party.{Party}
 use Rattle.saying.specs.declared.Said.{Said}
-use Rattle.record.specs.Record.{bracket}
 use Rattle.session.specs.Open.{open-reply, open-left}
 use Rattle.session.specs.Add.{add-reply, add-left}
 use Rattle.saying.specs.Say.{say-reply, said-word}
@@ -36,11 +35,11 @@ pub record Seat : Type 0 where
 
 unfoldable pub all-over : List Seat → Bool
 all-over [] = true
-all-over (s ∷ ss) = over (bracket (s .party)) && all-over ss
+all-over (s ∷ ss) = finished (s .party .search) && all-over ss
 
--- P probes of 33 rounds: by then every session is over
+-- 2P probes of 33 rounds: by then every session is over
 abbrev pub enough-rounds : Auction → ℕ
-enough-rounds a = probe-rounds * limit (a .k)
+enough-rounds a = probe-rounds * most-probes (a .k)
 
 module _ (a : Auction) where
   -- a slice of 2k words, to be written

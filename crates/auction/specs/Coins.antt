@@ -5,7 +5,7 @@ use Prim.Native.Nat.{ℕ, _*_}
 use lib.ListN.{length}
 use Rattle.fields.specs.Amount.{p}
 use Rattle.sharing.specs.Scheme.{threshold}
-use Rattle.search.specs.Limit.{limit}
+use Rattle.search.specs.Limit.{most-probes}
 use Rattle.comparison.specs.Probe.{SheetCoins, SheetInRange, Group, Each, TripleCoins}
 use Rattle.auction.specs.Auction.{Auction, Bid}
 
@@ -22,7 +22,7 @@ DrawnBid = Bid × List (List ℕ)
 pub record InRange (a : Auction) (c : Coins) : Type 0 where
   pub bids-many : length (c .bids) ≡ length (a .bids)
   pub bids : Each (λ groups. (length groups ≡ 2 * a .k) × Each (Group p (threshold (a .n))) groups) (c .bids)
-  pub sheets-many : length (c .sheets) ≡ limit (a .k)
+  pub sheets-many : length (c .sheets) ≡ most-probes (a .k)
   pub sheets : Each (SheetInRange (threshold (a .n))) (c .sheets)
 
 unfoldable pub flat : List (List ℕ) → List ℕ

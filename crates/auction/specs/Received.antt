@@ -4,12 +4,11 @@ use mathlib.Core.Option.{Option, none, some}
 use Prim.Native.Nat.{ℕ, _*_}
 use lib.ListN.{length, drop}
 use Rattle.ranges.specs.Sizes.{sheet-size}
-use Rattle.search.specs.Bracket.{middle}
+use Rattle.search.specs.Search.{Decision, decision-at}
 use Rattle.record.specs.declared.Party.{Party}
 use Rattle.round.specs.declared.Heard as heard-as
 use Rattle.round.specs.declared.Heard.{Heard}
 use Rattle.session.specs.declared.reply.Answer.{Answer}
-use Rattle.record.specs.Record.{bracket}
 use Rattle.round.specs.Round.{heard}
 use Rattle.session.specs.Answer.{answer-reply}
 use Rattle.auction.specs.Call.{Call, open-call, split-call, split-entry-call, deal-call, add-call, say-call, hear-call, answer-call}
@@ -86,20 +85,20 @@ verdict-in (heard-as.the-variants.Factors d e) = none
 verdict-in (heard-as.the-variants.Verdict v) = some v
 verdict-in heard-as.the-variants.Unopened = none
 
--- a verdict that was heard, with the index where
-unfoldable pub decision-in : Hearing → Option (ℕ × ℕ)
+-- a verdict that was heard, with the search and the index where
+unfoldable pub decision-in : Hearing → Option Decision
 decision-in h =
-    elim (verdict-in (heard (h .party .n) (h .party .round) (h .messages))) [ none ↦ none | some v ↦ some (middle (bracket (h .party)), v) ]
+    elim (verdict-in (heard (h .party .n) (h .party .round) (h .messages))) [
+      | none ↦ none
+      | some v ↦ some (decision-at (h .party .search) v)
+    ]
 
-abbrev pub decisions : ℕ → List Call → List (ℕ × ℕ)
+abbrev pub decisions : ℕ → List Call → List Decision
 decisions j l = collect decision-in (hearings j l)
 
 -- "Verdicts are compared in order, and the number of probes is the number of verdicts heard."
 abbrev pub verdicts : ℕ → List Call → List ℕ
-verdicts j l = map (λ d. d .1) (decisions j l)
-
-abbrev pub indices : ℕ → List Call → List ℕ
-indices j l = map (λ d. d .0) (decisions j l)
+verdicts j l = map (λ d. d .verdict) (decisions j l)
 
 -- "Unused sheets are the lent ones after those of the probes made"
 abbrev pub unused : ℕ → List Call → List (List ℕ)

@@ -4,7 +4,7 @@ ghost use mathlib.Core.List.{_∷_};
 ghost use Prim.Native.Nat.{_+_, _-_, _*_, _%_, _^_, _≤_};
 ghost use lib.ListN.{length};
 ghost use Rattle.sharing.specs.Scheme.{threshold};
-ghost use Rattle.search.specs.Limit.{limit};
+ghost use Rattle.search.specs.Limit.{most-probes};
 ghost use Rattle.draws.specs.Draws.{next, next-coin, later, drawn-coins, drawn-bytes, after-sheet, all-sheets};
 ghost use Rattle.panel.specs.Parties.{All, part};
 ghost use Rattle.drawn_sheets.specs.Dealt.{sheet-put, sheets-of};
@@ -12,7 +12,7 @@ use draws::draw_bytes;
 use draws::draw_coins;
 use draws::next;
 use panel::deal_each;
-use search::limit;
+use search::most_probes;
 use sharing::threshold;
 
 // The mask, its coefficients, then the bytes. The answer is the state after them.
@@ -58,10 +58,10 @@ fn deal_next(n: u64, state: u64, at: usize, width: usize, sheets: &mut [u64]) ->
 
 // Deals all parties all sheets, as many as a search may take probes.
 pub fn deal_all(n: u64, k: u64, state: u64, sheets: &mut [u64])
-    requires { ⌜ (3 ≤ n) × (n ≤ 9) × (k ≤ 256) × (length (now sheets) ≡ n * (127 * limit k)) ⌝ }
-    ensures { λ r. ⌜ All n (λ i. part (127 * limit k) i (now (sheets .exit)) ≡ sheets-of (i + 1) (all-sheets (threshold n) (limit k) state)) ⌝ }
+    requires { ⌜ (3 ≤ n) × (n ≤ 9) × (k ≤ 256) × (length (now sheets) ≡ n * (127 * most-probes k)) ⌝ }
+    ensures { λ r. ⌜ All n (λ i. part (127 * most-probes k) i (now (sheets .exit)) ≡ sheets-of (i + 1) (all-sheets (threshold n) (most-probes k) state)) ⌝ }
 {
-    let most = limit(k) as usize;
+    let most = most_probes(k) as usize;
     let width = 127 * most;
     let mut last = state;
     let mut at = 0;

@@ -16,7 +16,7 @@ use Rattle.fields.specs.Amount.{p}
 use Rattle.ranges.specs.Below.{AllBelow}
 use Rattle.fields.proofs.Test.{below, at}
 use Rattle.sharing.specs.Scheme.{threshold}
-use Rattle.search.specs.Limit.{limit}
+use Rattle.search.specs.Limit.{most-probes}
 use Rattle.comparison.specs.Probe.{SheetInRange, Group, Each, TripleInRange}
 use Rattle.auction.specs.Auction.{Auction}
 use Rattle.auction.specs.Coins.{InRange, flat, coin-words, triple-bytes, coin-bytes}
@@ -314,6 +314,6 @@ coins-in-range-of a seed h =
     record {
       bids-many = bid-coins-length t (a .k) (length (a .bids)) (first-state seed);
       bids = bid-coins-in-range t (a .k) (length (a .bids)) (first-state seed) (first-word seed h);
-      sheets-many = all-sheets-length t (limit (a .k)) _;
-      sheets = all-sheets-in-range t (limit (a .k)) _ (after-bids-word t (a .k) (length (a .bids)) (first-state seed) (first-word seed h));
+      sheets-many = all-sheets-length t (most-probes (a .k)) _;
+      sheets = all-sheets-in-range t (most-probes (a .k)) _ (after-bids-word t (a .k) (length (a .bids)) (first-state seed) (first-word seed h));
     }

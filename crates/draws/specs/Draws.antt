@@ -8,7 +8,7 @@ use lib.Bits.{bitXor}
 use lib.Dec.{eqb}
 use Rattle.fields.specs.Amount.{p}
 use Rattle.sharing.specs.Scheme.{threshold}
-use Rattle.search.specs.Limit.{limit}
+use Rattle.search.specs.Limit.{most-probes}
 use Rattle.comparison.specs.Probe.{SheetCoins, TripleCoins}
 use Rattle.auction.specs.Coins.{Coins}
 
@@ -103,4 +103,4 @@ all-sheets t (suc m) x = sheet-coins t x ∷ all-sheets t m (after-sheet t x)
 unfoldable pub auction-coins : (n k bids seed : ℕ) → Coins
 auction-coins n k bids seed =
     let t = threshold n in
-    record { bids = bid-coins t k bids (first-state seed); sheets = all-sheets t (limit k) (after-bids t k bids (first-state seed)) }
+    record { bids = bid-coins t k bids (first-state seed); sheets = all-sheets t (most-probes k) (after-bids t k bids (first-state seed)) }

@@ -1,5 +1,5 @@
 // The calls, exported for C. Each answers 0, or the refusal's number, and writes what it gives into
-// what it is lent; a refused call changes nothing that is lent. A record is lent as its 26 words.
+// what it is lent; a refused call changes nothing that is lent. A record is lent as its 29 words.
 ghost use mathlib.Core.Path.{_≡_};
 ghost use Rattle.bid.specs.Split.{split-left};
 ghost use Rattle.bid.specs.Entry.{split-entry-left};
@@ -149,7 +149,7 @@ pub extern "C" fn clockivy_hear(
     store(hear(read(&words[..]), totals, sheets, messages), words)
 }
 
-// The clearing index, 0 for no price, and how many probes were made.
+// The price index, 0 for no price, and how many probes both searches made.
 #[no_mangle]
 pub extern "C" fn clockivy_answer(words: &[u64], index: &mut u64, probes: &mut u64) -> u64
     ensures { λ r. ⌜ (r ≡ answer-code (now (words .entry)))

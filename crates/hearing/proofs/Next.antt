@@ -1,31 +1,27 @@
 -- The record after a heard round: by the kind of round, its count of probes, and that it is sound. Assumes nothing.
-use mathlib.Core.Path.{_≡_, refl, sym, _∙_}
-use mathlib.Core.Bool.{Bool, true, false, cond}
+use mathlib.Core.Path.{_≡_, refl, sym, ap, _∙_}
+use mathlib.Core.Bool.{false}
 use mathlib.Core.List.{List}
-use Prim.Native.Nat.{ℕ, _+_, _-_, _*_, _^_, _≤_, _<_}
-use native.Mathlib.Nat.{add-zero, pow-suc, mul-le-mul-right}
-use native.Mathlib.Numerals.{add-one}
+use Prim.Native.Nat.{ℕ, _+_, _-_, _*_, _≤_, _<_}
+use native.Mathlib.Nat.{add-zero}
 use native.Mathlib.Omega.{arith}
-use lib.Dec.{eqb}
 use lib.ListN.{length, getD}
 use Rattle.fields.specs.Byte.{bytes}
 use Rattle.fields.proofs.Fields.{byte-field}
 use Rattle.comparison.specs.Local.{on-shares}
 use Rattle.comparison.specs.Rounds.{differing, first-carry, next-carry}
 use Rattle.comparison.proofs.Values.{bit-byte}
-use Rattle.search.specs.declared.Bracket.{Bracket}
-use Rattle.search.specs.Bracket.{over, middle, raise, lower, step}
-use Rattle.search.proofs.Narrowing.{over-false, middle-above, middle-below}
+use Rattle.search.specs.Searches.{next, finished}
+use Rattle.search.proofs.Bounds.{probing, roomy-next, roomy-sound, next-probes}
 use Rattle.record.specs.declared.Party.{Party}
 use Rattle.round.specs.declared.Heard.{Heard}
 use Rattle.round.specs.declared.Heard.the-variants.{Sum, Factors, Verdict, Unopened}
-use Rattle.record.specs.Record.{bracket}
 use Rattle.saying.specs.Say.{current, bit-share, triple-share}
 use Rattle.round.specs.Round.{heard, Possible}
 use Rattle.hearing.specs.Hear.{after}
 use Rattle.record.specs.Updates.{in-round, decided}
-use Rattle.record.proofs.Soundness.{Sound, probing}
-use Rattle.record.proofs.Updates.{Same, in-round-same, in-round-roll, in-round-probes, in-round-sound, decided-same, decided-roll, decided-probes, decided-sound, Narrow, narrow-in-round, narrow-decided}
+use Rattle.record.proofs.Soundness.{Sound}
+use Rattle.record.proofs.Updates.{Same, in-round-same, in-round-roll, in-round-search, in-round-sound, decided-same, decided-roll, decided-search, decided-sound, Roomy, roomy-in-round, roomy-decided}
 use Rattle.ranges.proofs.Ranges.{is-below}
 use Rattle.saying.proofs.Sheets.{byte-at, current-long}
 use Rattle.round.proofs.Opened.{heard-possible}
@@ -44,7 +40,7 @@ module _ (q : Party) (sheet : List ℕ) where
   unfolding after
   after-factors d e = refl
 
-  pub after-verdict : (v : ℕ) → after q sheet (Verdict v) ≡ decided q (step (bracket q) v)
+  pub after-verdict : (v : ℕ) → after q sheet (Verdict v) ≡ decided q (next (q .search) v)
   unfolding after
   after-verdict v = refl
 
@@ -56,11 +52,11 @@ verdicts (Factors d e) = 0
 verdicts (Verdict v) = 1
 verdicts Unopened = 0
 
-pub probes-after : (q : Party) (sheet : List ℕ) (h : Heard) → after q sheet h .probes ≡ q .probes + verdicts h
+pub probes-after : (q : Party) (sheet : List ℕ) (h : Heard) → after q sheet h .search .probes ≡ q .search .probes + verdicts h
 unfolding after
-probes-after q sheet (Sum v) = in-round-probes q _ _ _ ∙ sym (add-zero _)
-probes-after q sheet (Factors d e) = in-round-probes q _ _ _ ∙ sym (add-zero _)
-probes-after q sheet (Verdict v) = decided-probes q (step (bracket q) v)
+probes-after q sheet (Sum v) = ap (λ s. s .probes) (in-round-search q _ _ _) ∙ sym (add-zero _)
+probes-after q sheet (Factors d e) = ap (λ s. s .probes) (in-round-search q _ _ _) ∙ sym (add-zero _)
+probes-after q sheet (Verdict v) = ap (λ s. s .probes) (decided-search q (next (q .search) v)) ∙ next-probes (q .search) v
 probes-after q sheet Unopened = sym (add-zero _)
 
 -- ---- n, own number and k stay
@@ -69,7 +65,7 @@ pub after-same : (q : Party) (sheet : List ℕ) (h : Heard) → Same q (after q 
 unfolding after
 after-same q sheet (Sum v) = in-round-same q _ _ _
 after-same q sheet (Factors d e) = in-round-same q _ _ _
-after-same q sheet (Verdict v) = decided-same q (step (bracket q) v)
+after-same q sheet (Verdict v) = decided-same q (next (q .search) v)
 after-same q sheet Unopened = record { n = refl; own = refl; k = refl }
 
 -- ---- and so does the roll
@@ -78,7 +74,7 @@ pub roll-after : (q : Party) (sheet : List ℕ) (h : Heard) → after q sheet h 
 unfolding after
 roll-after q sheet (Sum v) = in-round-roll q _ _ _
 roll-after q sheet (Factors d e) = in-round-roll q _ _ _
-roll-after q sheet (Verdict v) = decided-roll q (step (bracket q) v)
+roll-after q sheet (Verdict v) = decided-roll q (next (q .search) v)
 roll-after q sheet Unopened = refl
 
 -- ---- the carry's share is a byte
@@ -96,74 +92,40 @@ next-carry-lt T i d e alpha beta gamma hd he ha hb hg =
     let R = byte-field .ring in
     R .add-lt _ _ (bit-byte i T) (R .add-lt _ _ (R .mul-lt d e hd he) (R .add-lt _ _ (R .add-lt _ _ hg (R .mul-lt d beta hd hb)) (R .mul-lt e alpha he ha)))
 
--- ---- a verdict keeps the bracket inside the list, and halves it
-
-module _ (b : Bracket) (gap : b .lo + 1 < b .hi) (v : ℕ) where
-  step-apart : step b v .lo < step b v .hi
-  unfolding step raise lower
-  step-apart = split (eqb v 1)
-    where
-      split : (t : Bool) → cond t (raise b) (lower b) .lo < cond t (raise b) (lower b) .hi
-      split true = middle-below b gap
-      split false = middle-above b gap
-
-  step-inside : step b v .hi ≤ b .hi
-  unfolding step raise lower
-  step-inside = split (eqb v 1)
-    where
-      split : (t : Bool) → cond t (raise b) (lower b) .hi ≤ b .hi
-      split true = omega arith
-      split false = omega (arith, middle-below b gap)
-
-  step-half : (step b v .hi - step b v .lo - 1) * 2 ≤ b .hi - b .lo - 1
-  unfolding step raise lower middle
-  step-half = split (eqb v 1)
-    where
-      split : (t : Bool) → (cond t (raise b) (lower b) .hi - cond t (raise b) (lower b) .lo - 1) * 2 ≤ b .hi - b .lo - 1
-      split true = omega arith
-      split false = omega arith
-
 -- ---- the next record is sound
 
-module _ (q : Party) (sheet : List ℕ) (s : Sound q) (going : over (bracket q) ≡ false) where
-  gap : q .lo + 1 < q .hi
-  gap = over-false (bracket q) (s .apart) going
-
-  narrow-after : (h : Heard) → Narrow q → Narrow (after q sheet h)
+module _ (q : Party) (sheet : List ℕ) (s : Sound q) (going : finished (q .search) ≡ false) (room : Roomy q) where
+  roomy-after : (h : Heard) → Roomy (after q sheet h)
   unfolding after
-  narrow-after (Sum v) n = narrow-in-round q _ _ _ n
-  narrow-after (Factors d e) n = narrow-in-round q _ _ _ n
-  narrow-after (Verdict v) n =
-      narrow-decided q (step (bracket q) v)
-      (rw (add-one, pow-suc) (omega (arith, n, mul-le-mul-right (2 ^ q .probes) (step-half (bracket q) gap v))))
-  narrow-after Unopened n = n
+  roomy-after (Sum v) = roomy-in-round q _ _ _ room
+  roomy-after (Factors d e) = roomy-in-round q _ _ _ room
+  roomy-after (Verdict v) = roomy-decided q (next (q .search) v) (roomy-next (q .k) (q .search) v room going)
+  roomy-after Unopened = room
 
   module _ (bytes-at : (i : ℕ) → 1 ≤ i → i < 127 → getD sheet i 0 < 256) where
-    sound-after : (h : Heard) → Possible (q .round) h → Admitted h → Narrow (after q sheet h) → Sound (after q sheet h)
+    sound-after : (h : Heard) → Possible (q .round) h → Admitted h → Sound (after q sheet h)
     unfolding after
-    sound-after (Sum v) p a n =
+    sound-after (Sum v) p a =
         in-round-sound q 2 v _ s (omega arith) (omega arith) (omega (arith, a .1))
         (omega (arith, first-carry-lt v (bit-share sheet 1) (bytes-at 1 (omega arith) (omega arith))))
-    sound-after (Factors d e) p a n =
+    sound-after (Factors d e) p a =
         let triple : (which : ℕ) → which ≤ 2 → triple-share sheet (q .round) which < 256 =
         λ which h. bytes-at (34 + 3 * (q .round - 2) + which) (omega arith) (omega (arith, p .1)) in
         let carried = next-carry-lt (q .sum) (q .round) d e _ _ _ (p .2) (p .3) (triple 0 (omega arith)) (triple 1 (omega arith)) (triple 2 (omega arith)) in
         in-round-sound q (q .round + 1) (q .sum) _ s (omega arith) (omega (arith, p .1)) (s .sum) (omega (arith, carried))
-    sound-after (Verdict v) p a n =
-        decided-sound q (step (bracket q) v) s (step-apart (bracket q) gap v) (omega (arith, s .inside, step-inside (bracket q) gap v))
-        (probing q s going .sheet-left) n
-    sound-after Unopened p a n = absurd a
+    sound-after (Verdict v) p a =
+        decided-sound q (next (q .search) v) s (roomy-sound (q .k) (next (q .search) v) (roomy-next (q .k) (q .search) v room going))
+    sound-after Unopened p a = absurd a
 
 -- "The board steps a keeper's record by each heard round": it stays sound.
-pub hears-sound : (q : Party) (totals sheets messages : List ℕ) → Hears q totals sheets messages → Narrow q
-    → Sound (after q (current q sheets) (heard (q .n) (q .round) messages)) × Narrow (after q (current q sheets) (heard (q .n) (q .round) messages))
-hears-sound q totals sheets messages h n =
+pub hears-sound : (q : Party) (totals sheets messages : List ℕ) → Hears q totals sheets messages → Roomy q
+    → Sound (after q (current q sheets) (heard (q .n) (q .round) messages)) × Roomy (after q (current q sheets) (heard (q .n) (q .round) messages))
+hears-sound q totals sheets messages h room =
     let f = h .says in
     let sheet : List ℕ = current q sheets in
     let opening = heard (q .n) (q .round) messages in
-    let long : length sheet ≡ 127 = current-long q sheets (probing q (f .sound) (f .going)) (f .sheets-long) in
-    let next = narrow-after q sheet (f .sound) (f .going) opening n in (
-      sound-after q sheet (f .sound) (f .going) (λ i l m. byte-at sheet i (is-below 256 _ (f .in-field .bytes)) l (omega arith)) opening
-          (heard-possible (q .n) (q .round) messages (f .sound .round-least)) (h .opening) next,
-      next,
+    let long : length sheet ≡ 127 = current-long q sheets (probing (q .k) (q .search) (f .sound .search) (f .going)) (f .sheets-long) in (
+      sound-after q sheet (f .sound) (f .going) room (λ i l m. byte-at sheet i (is-below 256 _ (f .in-field .bytes)) l (omega arith)) opening
+          (heard-possible (q .n) (q .round) messages (f .sound .round-least)) (h .opening),
+      roomy-after q sheet (f .sound) (f .going) room opening,
     )

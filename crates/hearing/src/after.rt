@@ -1,7 +1,6 @@
 // What a heard round makes of the record.
 ghost use mathlib.Core.Path.{_≡_};
 ghost use mathlib.Core.Bool.{true};
-ghost use Prim.Native.Nat.{_+_, _^_, _<_};
 ghost use lib.Dec.{ltb};
 ghost use lib.ListN.{length, drop};
 ghost use Rattle.ranges.specs.Lists.{every};
@@ -13,12 +12,11 @@ use comparison::first_carry;
 use comparison::next_carry;
 use fields::BitShare;
 use record::Party;
-use record::bracket;
 use round::Heard;
 use saying::byte_share;
 use saying::triple_share;
-use search::Bracket;
-use search::step;
+use search::Search;
+use search::next;
 
 // Round 1 gives the first carry, rounds 2 to 32 the next one, round 33 the verdict.
 pub(crate) fn after(q: Party, sheet: &[u64], heard: Heard) -> Party
@@ -29,7 +27,7 @@ pub(crate) fn after(q: Party, sheet: &[u64], heard: Heard) -> Party
     match heard {
         Heard::Sum(sum) => in_round(q, 2, sum, first_carry(sum, byte_share(sheet, 1))),
         Heard::Factors(d, e) => multiplied(q, sheet, d, e),
-        Heard::Verdict(v) => decided(q, step(bracket(q), v)),
+        Heard::Verdict(v) => decided(q, next(q.search, v)),
         Heard::Unopened => q,
     }
 }
@@ -57,15 +55,12 @@ fn in_round(q: Party, round: u64, sum: u64, carry: BitShare) -> Party
     next
 }
 
-// The search has a new bracket, and the next probe starts with a round 1 of its own.
-fn decided(q: Party, b: Bracket) -> Party
-    requires { ⌜ q .probes + 1 < 2 ^ 64 ⌝ }
-    ensures { λ r. ⌜ r ≡ decided q b ⌝ }
+// The searches have moved, and the next probe starts with a round 1 of its own.
+fn decided(q: Party, s: Search) -> Party
+    ensures { λ r. ⌜ r ≡ decided q s ⌝ }
 {
     let mut next = q;
-    next.lo = b.lo;
-    next.hi = b.hi;
-    next.probes = q.probes + 1;
+    next.search = s;
     next.round = 1;
     next.sum = 0;
     next.carry = 0;

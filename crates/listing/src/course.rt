@@ -1,53 +1,60 @@
-// The listing: one line for a refusal, or a line for each probe, the answer and the rounds.
+// The listing: one line for a refusal, or a line for each probe of both searches, the index that
+// clears and the rounds.
 ghost use mathlib.Core.Path.{_≡_};
-ghost use Prim.Native.Nat.{_+_, _≤_, _<_};
+ghost use Prim.Native.Nat.{_+_, _*_, _≤_, _<_};
 ghost use lib.ListN.{length, drop};
 ghost use Rattle.listing.specs.Text.{Wrote};
-ghost use Rattle.listing.specs.Lines.{refused-line, probe-line, probe-lines, clears-line, rounds-line, course-trail, search-lines};
+ghost use Rattle.listing.specs.Lines.{most-listed, refused-line, probe-line, probe-lines, clears-line, rounds-line, course-trail, search-lines};
 ghost use Rattle.lines.specs.Lines.{price-of};
 use crate::text::append;
 use crate::text::append_field;
 use crate::text::append_last;
 use lines::price_at;
 
-// How the search went: so many probes, each with its index and its verdict, and the answer.
+// Two searches of at most nine probes each, since a rehearsal has at most 256 prices.
+pub const PROBES: usize = 18;
+
+// What is lent for a listing, which is at most 1,571 bytes long.
+pub const ROOM: usize = 2048;
+
+// How both searches went: so many probes, each with its index and its verdict, and the index that
+// clears.
 pub struct Course {
     pub probes: u64,
-    pub index: [u64; 9],
-    pub verdict: [u64; 9],
-    pub clearing: u64,
+    pub index: [u64; PROBES],
+    pub verdict: [u64; PROBES],
+    pub answer: u64,
 }
 
 // The one line of a refused input, which is at most 55 bytes long.
-pub fn write_refused(number: u64, line: u64, out: &mut [u8; 1024]) -> usize
+pub fn write_refused(number: u64, line: u64, out: &mut [u8; ROOM]) -> usize
     ensures { λ r. ⌜ Wrote (now (out .entry)) 0 (refused-line number line) (now (out .exit)) r ⌝ }
 {
     let given = append_field(out, 0, b"refused ", number);
     append_last(out, given, b" line ", line)
 }
 
-// The listing of an accepted input, which is at most 824 bytes long. Of more than nine probes nothing
-// is written.
-pub fn write_course(input: &[u8], prices: usize, course: Course, out: &mut [u8; 1024]) -> usize
-    ensures { λ r. ⌜ (course .probes ≤ 9 → Wrote (now (out .entry)) 0
-        (search-lines (course-trail (course .index) (course .verdict) (course .probes)) (course .clearing)
-        (price-of (course .clearing) (drop prices (now (input .entry)))))
+// The listing of an accepted input. Of more probes than a course holds nothing is written.
+pub fn write_course(input: &[u8], prices: usize, course: Course, out: &mut [u8; ROOM]) -> usize
+    ensures { λ r. ⌜ (course .probes ≤ most-listed → Wrote (now (out .entry)) 0
+        (search-lines (course-trail (course .index) (course .verdict) (course .probes)) (course .answer)
+        (price-of (course .answer) (drop prices (now (input .entry)))))
         (now (out .exit)) r)
-        × (9 < course .probes → (r ≡ 0) × (now (out .exit) ≡ now (out .entry))) ⌝ }
+        × (most-listed < course .probes → (r ≡ 0) × (now (out .exit) ≡ now (out .entry))) ⌝ }
 {
-    if 9 < course.probes {
+    if PROBES < course.probes as usize {
         return 0;
     }
     let probes = write_probes(course, out);
-    let clears = write_clears(input, prices, course.clearing, out, probes);
+    let clears = write_clears(input, prices, course.answer, out, probes);
     write_rounds(course.probes, out, clears)
 }
 
-// The lines of the probes.
+// The lines of the probes. Those of the second search have further numbers.
 fn write_probes(course: Course, out: &mut [u8]) -> usize
-    requires { ⌜ (course .probes ≤ 9) × (747 ≤ length (now out)) ⌝ }
+    requires { ⌜ (course .probes ≤ most-listed) × (83 * most-listed ≤ length (now out)) ⌝ }
     ensures { λ r. ⌜ Wrote (now (out .entry)) 0 (probe-lines 1 (course-trail (course .index) (course .verdict) (course .probes))) (now (out .exit)) r
-        × (r ≤ 747) ⌝ }
+        × (r ≤ 83 * most-listed) ⌝ }
 {
     let index = course.index;
     let verdict = course.verdict;
@@ -70,7 +77,7 @@ fn write_probe(probe: u64, index: u64, verdict: u64, out: &mut [u8], at: usize) 
     append_last(out, probed, b" verdict ", verdict)
 }
 
-// The answer and its price. The price of index 1 is the first.
+// The index that clears and its price. The price of index 1 is the first.
 fn write_clears(input: &[u8], prices: usize, answer: u64, out: &mut [u8], at: usize) -> usize
     requires { ⌜ at + 49 ≤ length (now out) ⌝ }
     ensures { λ r. ⌜ Wrote (now (out .entry)) at (clears-line answer (price-of answer (drop prices (now (input .entry))))) (now (out .exit)) r
@@ -86,7 +93,7 @@ fn write_clears(input: &[u8], prices: usize, answer: u64, out: &mut [u8], at: us
 
 // Each probe takes 33 rounds.
 fn write_rounds(probes: u64, out: &mut [u8], at: usize) -> usize
-    requires { ⌜ (probes ≤ 9) × (at + 28 ≤ length (now out)) ⌝ }
+    requires { ⌜ (probes ≤ most-listed) × (at + 28 ≤ length (now out)) ⌝ }
     ensures { λ r. ⌜ Wrote (now (out .entry)) at (rounds-line probes) (now (out .exit)) r ⌝ }
 {
     append_last(out, at, b"rounds ", 33 * probes)

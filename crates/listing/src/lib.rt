@@ -3,5 +3,7 @@ mod course;
 mod text;
 
 pub use course::Course;
+pub use course::PROBES;
+pub use course::ROOM;
 pub use course::write_course;
 pub use course::write_refused;

@@ -11,7 +11,7 @@ use lib.Seq.{length-take-le, take-append-le, drop-append-le, take-at, drop-at, d
 use borrow.Rule.Slice.PartMut.{putMid, same-len-mid, drop-put}
 use Rattle.ranges.specs.Lists.{from}
 use Rattle.ranges.proofs.Loops.{length-from, map-from}
-use Rattle.search.specs.Limit.{limit}
+use Rattle.search.specs.Limit.{most-probes}
 use Rattle.search.proofs.Logarithm.{limit-least}
 use Rattle.panel.specs.Parties.{part}
 
@@ -150,8 +150,9 @@ rowed-all n f old xs j R l h =
     ext-getD 0 xs (map f (from 0 n)) (long ∙ sym (length-map (from 0 n) f ∙ length-from 0 n))
     (λ i m. R .done i (omega arith) ∙ sym (map-from f 0 n i (omega arith) ∙ ap f (omega arith)))
 
-pub limit-nine : (k : ℕ) → k ≤ 256 → limit k ≤ 9
-limit-nine k h = limit-least k 9 (omega arith)
+pub sheets-eighteen : (k : ℕ) → k ≤ 256 → most-probes k ≤ 18
+unfolding most-probes
+sheets-eighteen k h = omega (arith, limit-least k 9 (omega arith))
 
 -- the front of an array is lent, written and lent again
 module _ (m : ℕ) (xs v : List ℕ) (h : m ≤ length xs) (l : length v ≡ length (take m xs)) where

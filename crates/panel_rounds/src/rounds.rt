@@ -2,7 +2,7 @@
 ghost use mathlib.Core.Path.{_≡_};
 ghost use Prim.Native.Nat.{_*_, _≤_};
 ghost use lib.ListN.{length, getD};
-ghost use Rattle.search.specs.Limit.{limit};
+ghost use Rattle.search.specs.Limit.{most-probes};
 ghost use Rattle.record.specs.Record.{blank};
 ghost use Rattle.panel.specs.Parties.{All};
 ghost use Rattle.panel_rounds.specs.Round.{all-said, heard-by};
@@ -18,7 +18,7 @@ pub fn say_all(
     sheets: &[u64],
     messages: &mut [u64],
 )
-    requires { ⌜ (n ≤ 9) × (k ≤ 256) × (length (now totals) ≡ n * (2 * k)) × (length (now sheets) ≡ n * (127 * limit k)) × (length (now messages) ≡ n) ⌝ }
+    requires { ⌜ (n ≤ 9) × (k ≤ 256) × (length (now totals) ≡ n * (2 * k)) × (length (now sheets) ≡ n * (127 * most-probes k)) × (length (now messages) ≡ n) ⌝ }
     ensures { λ r. ⌜ now (messages .exit) ≡ all-said n k parties (now (totals .entry)) (now (sheets .entry)) ⌝ }
 {
     let last = n as usize;
@@ -38,7 +38,7 @@ pub fn hear_all(
     sheets: &[u64],
     messages: &[u64],
 ) -> [Party; 9]
-    requires { ⌜ (n ≤ 9) × (k ≤ 256) × (length (now totals) ≡ n * (2 * k)) × (length (now sheets) ≡ n * (127 * limit k)) ⌝ }
+    requires { ⌜ (n ≤ 9) × (k ≤ 256) × (length (now totals) ≡ n * (2 * k)) × (length (now sheets) ≡ n * (127 * most-probes k)) ⌝ }
     ensures { λ r. ⌜ All n (λ i. getD r i blank ≡ heard-by k parties (now (totals .entry)) (now (sheets .entry)) (now (messages .entry)) i) ⌝ }
 {
     let last = n as usize;
@@ -53,7 +53,7 @@ pub fn hear_all(
 }
 
 pub fn round(n: u64, k: u64, parties: [Party; 9], totals: &[u64], sheets: &[u64]) -> [Party; 9]
-    requires { ⌜ (n ≤ 9) × (k ≤ 256) × (length (now totals) ≡ n * (2 * k)) × (length (now sheets) ≡ n * (127 * limit k)) ⌝ }
+    requires { ⌜ (n ≤ 9) × (k ≤ 256) × (length (now totals) ≡ n * (2 * k)) × (length (now sheets) ≡ n * (127 * most-probes k)) ⌝ }
     ensures { λ r. ⌜ All n (λ i. getD r i blank ≡ heard-by k parties (now (totals .entry)) (now (sheets .entry)) (all-said n k parties (now (totals .entry)) (now (sheets .entry))) i) ⌝ }
 {
     let last = n as usize;

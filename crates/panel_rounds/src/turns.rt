@@ -2,7 +2,7 @@
 ghost use mathlib.Core.Path.{_≡_};
 ghost use Prim.Native.Nat.{_+_, _*_, _≤_, _<_};
 ghost use lib.ListN.{length};
-ghost use Rattle.search.specs.Limit.{limit};
+ghost use Rattle.search.specs.Limit.{most-probes};
 ghost use Rattle.saying.specs.Say.{say-reply};
 ghost use Rattle.hearing.specs.Hear.{hear-reply};
 ghost use Rattle.auction.specs.Canonical.{word};
@@ -12,7 +12,7 @@ use panel::returned;
 use record::Party;
 use saying::Said;
 use saying::say;
-use search::limit;
+use search::most_probes;
 
 // A refused party would say 0. None is.
 pub(crate) fn word(said: Said) -> u64
@@ -26,11 +26,11 @@ pub(crate) fn word(said: Said) -> u64
 
 // What the party after `i` others says.
 pub(crate) fn say_one(q: Party, k: u64, i: usize, totals: &[u64], sheets: &[u64]) -> u64
-    requires { ⌜ (k ≤ 256) × (i < 9) × (i * (2 * k) + 2 * k ≤ length (now totals)) × (i * (127 * limit k) + 127 * limit k ≤ length (now sheets)) ⌝ }
-    ensures { λ r. ⌜ r ≡ word (say-reply q (part (2 * k) i (now (totals .entry))) (part (127 * limit k) i (now (sheets .entry)))) ⌝ }
+    requires { ⌜ (k ≤ 256) × (i < 9) × (i * (2 * k) + 2 * k ≤ length (now totals)) × (i * (127 * most-probes k) + 127 * most-probes k ≤ length (now sheets)) ⌝ }
+    ensures { λ r. ⌜ r ≡ word (say-reply q (part (2 * k) i (now (totals .entry))) (part (127 * most-probes k) i (now (sheets .entry)))) ⌝ }
 {
     let width = 2 * k as usize;
-    let lent = 127 * limit(k) as usize;
+    let lent = 127 * most_probes(k) as usize;
     let at = i * width;
     let from = i * lent;
     let next = at + width;
@@ -47,11 +47,11 @@ pub(crate) fn hear_one(
     sheets: &[u64],
     messages: &[u64],
 ) -> Party
-    requires { ⌜ (k ≤ 256) × (i < 9) × (i * (2 * k) + 2 * k ≤ length (now totals)) × (i * (127 * limit k) + 127 * limit k ≤ length (now sheets)) ⌝ }
-    ensures { λ r. ⌜ r ≡ hear-reply q (part (2 * k) i (now (totals .entry))) (part (127 * limit k) i (now (sheets .entry))) (now (messages .entry)) .party ⌝ }
+    requires { ⌜ (k ≤ 256) × (i < 9) × (i * (2 * k) + 2 * k ≤ length (now totals)) × (i * (127 * most-probes k) + 127 * most-probes k ≤ length (now sheets)) ⌝ }
+    ensures { λ r. ⌜ r ≡ hear-reply q (part (2 * k) i (now (totals .entry))) (part (127 * most-probes k) i (now (sheets .entry))) (now (messages .entry)) .party ⌝ }
 {
     let width = 2 * k as usize;
-    let lent = 127 * limit(k) as usize;
+    let lent = 127 * most_probes(k) as usize;
     let at = i * width;
     let from = i * lent;
     let next = at + width;

@@ -1,33 +1,34 @@
--- Probe after probe: the indices and verdicts that the program notes are those of the price search. Assumes nothing.
-use mathlib.Core.Path.{_≡_, refl, sym, ap, ap₂, _∙_}
-use mathlib.Core.Bool.{Bool, true, false, cond, true≢false}
-use mathlib.Core.List.{List, [], _∷_, _++_, append-assoc, append-nil}
+-- Probe after probe: the indices and verdicts that the program notes are those of the searches. Assumes nothing.
+use mathlib.Core.Path.{_≡_, refl, sym, ap, ap₂, subst, _∙_}
+use mathlib.Core.Bool.{Bool, true, false, cond, not}
+use mathlib.Core.List.{List, [], _∷_, _++_, map, append-assoc, append-nil}
 use Prim.Native.Nat.{ℕ, zero, suc, _+_, _-_, _≤_, _<_}
-use native.Mathlib.Nat.{sub-zero, eq-or-lt-of-le}
+use native.Mathlib.Nat.{sub-zero}
 use native.Mathlib.Numerals.{add-one}
 use native.Mathlib.Omega.{arith}
-use mathlib.Core.Logic.{⊎-elim}
 use lib.Dec.{eqb, leb}
 use lib.ListN.{length, drop, set, getD}
 use lib.Seq.{getD-set-same, getD-set-other, drop-cons}
 use borrow.Author.Tests.{eq-eqb, ne-eqb}
 use Rattle.verdict.specs.Verdict.{verdict}
-use Rattle.search.specs.declared.Bracket.{Bracket}
-use Rattle.search.specs.Bracket.{start, middle, over, raise, lower, step}
-use Rattle.search.specs.Limit.{limit}
-use Rattle.search.specs.Clearing.{covered}
-use Rattle.search.specs.Search.{promise, trail}
-use Rattle.search.proofs.Narrowing.{Encloses, encloses-start, encloses-step, enough, over-true, over-false, middle-above}
-use Rattle.search.proofs.Price.{promised, enclosed}
+use Rattle.search.specs.declared.bracket.Bracket.{Bracket}
+use Rattle.search.specs.declared.searches.Search.{Search}
+use Rattle.search.specs.Bracket.{middle, over, raise, lower, step}
+use Rattle.search.specs.Limit.{most-probes}
+use Rattle.search.specs.Searches.{side, first-search, second-search, moves-lo, moved, next, finished}
+use Rattle.search.specs.Search.{promise, Decision, trail}
+use Rattle.search.proofs.Narrowing.{middle-above, middle-below}
+use Rattle.search.proofs.Bounds.{Sound, in-first, in-second, probing, roomy-sound, probes-few, probes-enough, next-probes, next-second, next-goes-on, next-turns, moves-told}
+use Rattle.search.proofs.Promised.{Promised, promised-start, promised-next, enclosed}
 use Rattle.search.proofs.Trails.{trail-over, trail-going}
 use Rattle.comparison.specs.Probe.{SheetCoins}
 use Rattle.record.specs.declared.Party.{Party}
-use Rattle.record.specs.Record.{bracket, blank}
+use Rattle.record.specs.Record.{blank}
 use Rattle.session.specs.Answer.{answer-judgement, answered, answer-reply}
 use Rattle.refusal.specs.Judging.{judged}
 use Rattle.refusal.specs.declared.Judgement.{Judgement}
 use Rattle.refusal.specs.declared.Judgement.the-variants.{Accepted}
-use Rattle.auction.specs.Auction.{Auction, Bid, IsAuction, demand, supply, clearing-answer}
+use Rattle.auction.specs.Auction.{Auction, Bid, IsAuction, demand, supply, price-answer}
 use Rattle.auction.specs.Coins.{Coins, InRange}
 use Rattle.auction.specs.Canonical.{Seat}
 use Rattle.auction.proofs.Closed.{fresh-stage, record-at, seat}
@@ -35,9 +36,10 @@ use Rattle.auction.proofs.Totals.{totals-monotone}
 use Rattle.auction.proofs.Step.{Sane, fresh-sane, sound-at}
 use Rattle.auction.proofs.Round.{Ready, verdict-is}
 use Rattle.listing.specs.declared.course.Course.{Course}
-use Rattle.listing.specs.Lines.{course-trail}
-use Rattle.probing.specs.Follows.{priced, Follows, verdict-read}
-use Rattle.panel.proofs.Parts.{limit-nine}
+use Rattle.listing.specs.Lines.{most-listed, course-trail}
+use Rattle.auction.specs.Demands.{probed}
+use Rattle.probing.specs.Follows.{as-listed, priced, Follows, moved-end, verdict-read}
+use Rattle.panel.proofs.Parts.{sheets-eighteen}
 use Rattle.standing.proofs.Standing.{Stands, verdict-at, Probes}
 
 -- a later note leaves the earlier ones
@@ -49,7 +51,7 @@ earlier index verdicts done at v (suc m) h =
     ap₂ _++_ (earlier index verdicts done at v m (omega arith))
     (ap₂ (λ (x y : ℕ). (x, y) ∷ []) (getD-set-other index done m at 0 apart) (getD-set-other verdicts done m v 0 apart))
 
-noted-more : (index verdicts : List ℕ) (done at v : ℕ) → length index ≡ 9 → length verdicts ≡ 9 → done < 9
+noted-more : (index verdicts : List ℕ) (done at v : ℕ) → length index ≡ most-listed → length verdicts ≡ most-listed → done < most-listed
     → course-trail (set index done at) (set verdicts done v) (done + 1) ≡ course-trail index verdicts done ++ ((at, v) ∷ [])
 unfolding course-trail
 noted-more index verdicts done at v li lm h =
@@ -57,25 +59,76 @@ noted-more index verdicts done at v li lm h =
     ∙ ap₂ _++_ (earlier index verdicts done at v done (omega arith))
     (ap₂ (λ (x y : ℕ). (x, y) ∷ []) (getD-set-same index done at 0 (omega arith)) (getD-set-same verdicts done v 0 (omega arith)))
 
--- the verdict is read off the bracket
-verdict-read-of : (b : Bracket) (d s : ℕ) → b .lo < middle b → verdict-read (step b (verdict d s) .lo) (middle b) ≡ verdict d s
-unfolding verdict step raise lower
-verdict-read-of b d s h = split (leb s d)
-  where
-    split : (t : Bool) → verdict-read (step b (cond t 1 0) .lo) (middle b) ≡ cond t 1 0
-    split true = rw (eq-eqb (middle b) (middle b) refl)
-    split false = rw (ne-eqb (b .lo) (middle b) (λ e. omega arith))
+-- ---- the verdict is read off the searches
+
+-- the end that a step moved to the middle, or left where it was
+module _ (b : Bracket) (gap : b .lo + 1 < b .hi) where
+  raised : (t : Bool) → _≡_ {A = ℕ} (cond (eqb (step b t .lo) (middle b)) 1 0) (cond t 1 0)
+  unfolding step raise lower
+  raised true = rw (eq-eqb (middle b) (middle b) refl)
+  raised false = rw (ne-eqb (b .lo) (middle b) (λ e. omega (arith, middle-above b gap)))
+
+  lowered : (t : Bool) → _≡_ {A = ℕ} (cond (eqb (step b (not t) .hi) (middle b)) 1 0) (cond t 1 0)
+  unfolding step raise lower
+  lowered true = rw (eq-eqb (middle b) (middle b) refl)
+  lowered false = rw (ne-eqb (b .hi) (middle b) (λ e. omega (arith, middle-below b gap)))
+
+module _ (here : Search) where
+  -- in the first search it is lo, which is the answer once it has ended
+  turned-end : here .which ≡ 1 → (i m : ℕ) → moved-end here (second-search i m) ≡ i
+  unfolding second-search
+  turned-end e i m = rw (ne-eqb (here .which) 2 (λ f. omega arith))
+
+  going-end : here .which ≡ 1 → (v : ℕ) → moved-end here (moved here v) ≡ step (here .bracket) (moves-lo (here .which) v) .lo
+  unfolding moved
+  going-end e v = rw (ne-eqb (here .which) 2 (λ f. omega arith))
+
+  -- in the second it is hi
+  second-end : here .which ≡ 2 → (v : ℕ) → moved-end here (moved here v) ≡ step (here .bracket) (moves-lo (here .which) v) .hi
+  unfolding moved
+  second-end e v = rw (eq-eqb (here .which) 2 e)
+
+  first-end : here .which ≡ 1 → (v : ℕ) → moved-end here (next here v) ≡ step (here .bracket) (moves-lo (here .which) v) .lo
+  first-end e v = split (over (step (here .bracket) (moves-lo (here .which) v))) refl
+    where
+      split : (o : Bool) → over (step (here .bracket) (moves-lo (here .which) v)) ≡ o
+          → moved-end here (next here v) ≡ step (here .bracket) (moves-lo (here .which) v) .lo
+      split true o = rw (next-turns here v e o) (turned-end e _ _)
+      split false o = rw (next-goes-on here v o) (going-end e v)
+
+  -- a verdict of 1 moves lo in the first, and hi in the second
+  first-up : here .which ≡ 1 → (t : Bool) → moves-lo (here .which) (cond t 1 0) ≡ t
+  unfolding side
+  first-up e t = moves-told (here .which) t ∙ rw (ne-eqb (here .which) 2 (λ f. omega arith))
+
+  second-up : here .which ≡ 2 → (t : Bool) → moves-lo (here .which) (cond t 1 0) ≡ not t
+  unfolding side
+  second-up e t = moves-told (here .which) t ∙ rw (eq-eqb (here .which) 2 e)
+
+verdict-told : (k : ℕ) (here : Search) → Sound k here → finished here ≡ false → (t : Bool) → verdict-read here (next here (cond t 1 0)) ≡ cond t 1 0
+verdict-told k here (in-first h) going t =
+    ap (λ (x : ℕ). cond (eqb x (middle (here .bracket))) 1 0) (first-end here (h .on) (cond t 1 0) ∙ ap (λ (u : Bool). step (here .bracket) u .lo) (first-up here (h .on) t))
+    ∙ raised (here .bracket) (probing k here (in-first h) going .apart) t
+verdict-told k here (in-second h) going t =
+    rw (next-second here (cond t 1 0) (h .on))
+    (ap (λ (x : ℕ). cond (eqb x (middle (here .bracket))) 1 0)
+    (second-end here (h .on) (cond t 1 0) ∙ ap (λ (u : Bool). step (here .bracket) u .hi) (second-up here (h .on) t))
+    ∙ lowered (here .bracket) (probing k here (in-second h) going .apart) t)
+
+verdict-read-of : (k : ℕ) (here : Search) → Sound k here → finished here ≡ false → (d s : ℕ) → verdict-read here (next here (verdict d s)) ≡ verdict d s
+unfolding verdict
+verdict-read-of k here S going d s = verdict-told k here S going (leb s d)
 
 no-coins : SheetCoins
 no-coins = record { mask = 0; of-mask = []; of-bits = []; triples = [] }
 
--- where the search stands after some probes, and what is noted of them
+-- where the searches stand after some probes, and what is noted of them
 pub record Led (a : Auction) (c : Coins) (now : List Party) (totals sheets index verdicts : List ℕ) (done : ℕ) : Type 0 where
-  pub at : Bracket
-  pub stands : Stands a c (fresh-stage at done) now totals sheets
-  pub encloses : Encloses (covered (demand a) (supply a)) (a .k) done at
-  pub noted : course-trail index verdicts done ++ trail (promise (demand a) (supply a)) (limit (a .k) - done) at
-      ≡ trail (promise (demand a) (supply a)) (limit (a .k)) (start (a .k))
+  pub here : Search
+  pub counted : here .probes ≡ done
+  pub stands : Stands a c (fresh-stage here) now totals sheets
+  pub promised : Promised (demand a) (supply a) (a .k) here
+  pub noted : course-trail index verdicts done ++ as-listed (trail (promise (demand a) (supply a)) (most-probes (a .k) - done) here) ≡ as-listed (probed a)
 
 module _ (n k : ℕ) (bids : List Bid) (c : Coins) where
   abbrev a : Auction
@@ -83,144 +136,134 @@ module _ (n k : ℕ) (bids : List Bid) (c : Coins) where
 
   module _ (A : IsAuction a) (C : InRange a c) (totals sheets : List ℕ) where
     -- party 1's record
-    first-record : (b : Bracket) (m : ℕ) (now : List Party) → Stands a c (fresh-stage b m) now totals sheets
-        → getD now 0 blank ≡ record-at a c (fresh-stage b m) 1
+    first-record : (here : Search) (now : List Party) → Stands a c (fresh-stage here) now totals sheets
+        → getD now 0 blank ≡ record-at a c (fresh-stage here) 1
     unfolding seat
-    first-record b m now H = ap (λ (s : Seat). s .party) (H 0 (omega (arith, A .n-least)))
+    first-record here now H = ap (λ (s : Seat). s .party) (H 0 (omega (arith, A .n-least)))
 
-    first-bracket : (b : Bracket) (m : ℕ) (now : List Party) → Stands a c (fresh-stage b m) now totals sheets → bracket (getD now 0 blank) ≡ b
+    first-search-is : (here : Search) (now : List Party) → Stands a c (fresh-stage here) now totals sheets → getD now 0 blank .search ≡ here
     unfolding record-at
-    first-bracket b m now H = ap bracket (first-record b m now H)
+    first-search-is here now H = ap (λ (q : Party). q .search) (first-record here now H)
 
     module _ (now after : List Party) (index verdicts : List ℕ) (done : ℕ) (L : Led a c now totals sheets index verdicts done)
-        (going : over (bracket (getD now 0 blank)) ≡ false) (P : Probes n k now totals sheets after) where
-      abbrev b : Bracket
-      b = L .at
+        (going : finished (getD now 0 blank .search) ≡ false) (P : Probes n k now totals sheets after) where
+      abbrev at-first : Search
+      at-first = L .here
 
-      open-here : over b ≡ false
-      open-here = ap over (sym (first-bracket b done now (L .stands))) ∙ going
+      sound : Sound k at-first
+      sound = roomy-sound k at-first (L .promised .roomy)
 
-      few : done < limit k
-      few =
-          ⊎-elim (λ e. absurd (true≢false (sym (enough (covered (demand a) (supply a)) k (L .encloses) e) ∙ open-here))) (λ l. l) (eq-or-lt-of-le (L .encloses .few))
+      open-here : finished at-first ≡ false
+      open-here = ap finished (sym (first-search-is at-first now (L .stands))) ∙ going
+
+      few : done < most-probes k
+      few = subst (λ (x : ℕ). x < most-probes k) (L .counted) (probing k at-first sound open-here .sheet-left)
 
       abbrev s : SheetCoins
       s = getD (c .sheets) done no-coins
 
-      ready : Ready a c b done s (drop (suc done) (c .sheets))
+      ready : Ready a c at-first s (drop (suc done) (c .sheets))
       ready =
           record {
-            apart = L .encloses .apart;
-            inside = L .encloses .inside;
+            sound = sound;
             going = open-here;
-            left = drop-cons (c .sheets) done no-coins (omega (arith, few, C .sheets-many));
+            left = rw (L .counted) (drop-cons (c .sheets) done no-coins (omega (arith, few, C .sheets-many)));
           }
 
       abbrev v : ℕ
-      v = verdict-at a c b s
+      v = verdict-at a c at-first s
 
-      v-is : v ≡ promise (demand a) (supply a) (middle b)
-      v-is = verdict-is a c A C b done s (drop (suc done) (c .sheets)) ready
+      v-is : v ≡ promise (demand a) (supply a) (at-first .which) (middle (at-first .bracket))
+      v-is = verdict-is a c A C at-first s (drop (suc done) (c .sheets)) ready
 
-      later : Stands a c (fresh-stage (step b v) (suc done)) after totals sheets
-      later = P bids c A C b done s (drop (suc done) (c .sheets)) ready (L .stands)
+      later : Stands a c (fresh-stage (next at-first v)) after totals sheets
+      later = P bids c A C at-first s (drop (suc done) (c .sheets)) ready (L .stands)
 
-      lo-after : getD after 0 blank .lo ≡ step b v .lo
-      unfolding record-at
-      lo-after = ap (λ (q : Party). q .lo) (first-record (step b v) (suc done) after later)
-
-      verdict-read-is : verdict-read (step b v .lo) (middle b) ≡ v
-      verdict-read-is =
-          ap (λ (x : ℕ). verdict-read (step b x .lo) (middle b)) v-is
-          ∙ verdict-read-of b (demand a (middle b)) (supply a (middle b)) (middle-above b (over-false b (L .encloses .apart) open-here))
-          ∙ sym v-is
+      verdict-read-is : verdict-read at-first (next at-first v) ≡ v
+      verdict-read-is = ap (λ (x : ℕ). verdict-read at-first (next at-first x)) v-is ∙ verdict-read-of k at-first sound open-here _ _ ∙ sym v-is
 
       -- one probe more
-      pub led-more : (i mv : ℕ) → i ≡ middle (bracket (getD now 0 blank)) → mv ≡ verdict-read (getD after 0 blank .lo) i → length index ≡ 9 → length verdicts ≡ 9 → done < 9
+      pub led-more : (i mv : ℕ) → i ≡ middle (getD now 0 blank .search .bracket) → mv ≡ verdict-read (getD now 0 blank .search) (getD after 0 blank .search)
+          → length index ≡ most-listed → length verdicts ≡ most-listed → done < most-listed
           → Led a c after totals sheets (set index done i) (set verdicts done mv) (done + 1)
       led-more i mv ei em li lm h =
           let g = promise (demand a) (supply a) in
-          let ib : i ≡ middle b = ei ∙ ap middle (first-bracket b done now (L .stands)) in
-          let vb : mv ≡ v = em ∙ ap₂ verdict-read lo-after ib ∙ verdict-read-is in
-          let q : limit k - done ≡ suc (limit k - (done + 1)) = omega (arith, few) in
+          let ib : i ≡ middle (at-first .bracket) = ei ∙ ap (λ (x : Search). middle (x .bracket)) (first-search-is at-first now (L .stands)) in
+          let vb : mv ≡ v =
+          em ∙ ap₂ verdict-read (first-search-is at-first now (L .stands)) (first-search-is (next at-first v) after later) ∙ verdict-read-is in
+          let q : most-probes k - done ≡ suc (most-probes k - (done + 1)) = omega (arith, few) in
           let r : List (ℕ × ℕ) = course-trail index verdicts done in
+          let rest : Search → List (ℕ × ℕ) = λ z. as-listed (trail g (most-probes k - (done + 1)) z) in
           record {
-            at = step b v;
-            stands = rw (add-one done) later;
-            encloses =
-                rw (add-one done)
-                (encloses-step (covered (demand a) (supply a)) k (L .encloses) open-here v
-                (ap (λ (x : ℕ). eqb x 1) v-is ∙ promised (demand a) (supply a) (middle b)));
+            here = next at-first v;
+            counted = next-probes at-first v ∙ ap (λ (x : ℕ). x + 1) (L .counted);
+            stands = later;
+            promised = promised-next (demand a) (supply a) k (totals-monotone A) at-first (L .promised) open-here v v-is;
             noted =
-                ap (λ (z : List (ℕ × ℕ)). z ++ trail g (limit k - (done + 1)) (step b v)) (noted-more index verdicts done i mv li lm h)
-                ∙ append-assoc r ((i, mv) ∷ []) (trail g (limit k - (done + 1)) (step b v))
-                ∙ ap₂ (λ (x y : ℕ). r ++ ((x, y) ∷ trail g (limit k - (done + 1)) (step b v))) ib vb
-                ∙ ap (λ (x : ℕ). r ++ ((middle b, x) ∷ trail g (limit k - (done + 1)) (step b x))) v-is
-                ∙ ap (λ (z : List (ℕ × ℕ)). r ++ z) (sym (trail-going g (limit k - (done + 1)) b open-here))
-                ∙ ap (λ (z : ℕ). r ++ trail g z b) (sym q)
+                ap (λ (z : List (ℕ × ℕ)). z ++ rest (next at-first v)) (noted-more index verdicts done i mv li lm h)
+                ∙ append-assoc r ((i, mv) ∷ []) (rest (next at-first v))
+                ∙ ap₂ (λ (x y : ℕ). r ++ ((x, y) ∷ rest (next at-first v))) ib vb
+                ∙ ap (λ (x : ℕ). r ++ ((middle (at-first .bracket), x) ∷ rest (next at-first x))) v-is
+                ∙ ap (λ (z : List Decision). r ++ as-listed z) (sym (trail-going g (most-probes k - (done + 1)) at-first open-here))
+                ∙ ap (λ (z : ℕ). r ++ as-listed (trail g z at-first)) (sym q)
                 ∙ L .noted;
           }
 
     -- at the end
-    module _ (now : List Party) (index verdicts : List ℕ) (done : ℕ) (L : Led a c now totals sheets index verdicts done) (ended : over (L .at) ≡ true) where
-      pub noted-all : course-trail index verdicts done ≡ trail (promise (demand a) (supply a)) (limit k) (start k)
+    module _ (now : List Party) (index verdicts : List ℕ) (done : ℕ) (L : Led a c now totals sheets index verdicts done) (ended : finished (L .here) ≡ true) where
+      pub noted-all : course-trail index verdicts done ≡ as-listed (probed a)
       noted-all =
           sym (append-nil _)
-          ∙ ap (λ (z : List (ℕ × ℕ)). course-trail index verdicts done ++ z)
-          (sym (trail-over (promise (demand a) (supply a)) (limit k - done) (L .at) ended))
+          ∙ ap (λ (z : List Decision). course-trail index verdicts done ++ as-listed z)
+          (sym (trail-over (promise (demand a) (supply a)) (most-probes k - done) (L .here) ended))
           ∙ L .noted
 
-      pub lo-clears : getD now 0 blank .lo ≡ clearing-answer a
-      unfolding record-at
-      lo-clears =
-          ap (λ (q : Party). q .lo) (first-record (L .at) done now (L .stands)) ∙ enclosed (totals-monotone A) (L .encloses) .answer ended
-
       -- its record is sound, so that it answers
-      sane : Sane a (fresh-stage (L .at) done)
-      sane =
-          fresh-sane a (L .at) done (L .encloses .apart) (L .encloses .inside) (L .encloses .few) (λ e. omega (arith, over-true (L .at) ended))
+      sane : Sane a (fresh-stage (L .here))
+      sane = fresh-sane a (L .here) (roomy-sound k (L .here) (L .promised .roomy))
 
-      over-at : over (bracket (record-at a c (fresh-stage (L .at) done) 1)) ≡ true
+      finished-at : finished (record-at a c (fresh-stage (L .here)) 1 .search) ≡ true
       unfolding record-at
-      over-at = ended
+      finished-at = ended
 
-      answers : answer-judgement (record-at a c (fresh-stage (L .at) done) 1) ≡ Accepted
+      answers : answer-judgement (record-at a c (fresh-stage (L .here)) 1) ≡ Accepted
       unfolding answer-judgement judged
-      answers = rw (sound-at a c A (fresh-stage (L .at) done) sane 1 (omega arith) (omega (arith, A .n-least)), over-at)
+      answers = rw (sound-at a c A (fresh-stage (L .here)) sane 1 (omega arith) (omega (arith, A .n-least)), finished-at)
 
-      pub price-clears : priced (answer-reply (getD now 0 blank)) ≡ clearing-answer a
-      unfolding answered
+      pub price-clears : priced (answer-reply (getD now 0 blank)) ≡ price-answer a
+      unfolding answered record-at
       price-clears =
-          ap (λ (q : Party). priced (answer-reply q)) (first-record (L .at) done now (L .stands))
-          ∙ ap (λ (j : Judgement). priced (answered j (record-at a c (fresh-stage (L .at) done) 1))) answers
-          ∙ ap (λ (q : Party). q .lo) (sym (first-record (L .at) done now (L .stands)))
-          ∙ lo-clears
+          ap (λ (q : Party). priced (answer-reply q)) (first-record (L .here) now (L .stands))
+          ∙ ap (λ (j : Judgement). priced (answered j (record-at a c (fresh-stage (L .here)) 1))) answers
+          ∙ enclosed (totals-monotone A) (L .here) (L .promised) .answer ended
 
-      pub follows : (r : Course) → r .probes ≡ done → r .index ≡ index → r .verdict ≡ verdicts → r .clearing ≡ priced (answer-reply (getD now 0 blank))
+      pub follows : (r : Course) → r .probes ≡ done → r .index ≡ index → r .verdict ≡ verdicts → r .answer ≡ priced (answer-reply (getD now 0 blank))
           → Follows a r
       follows r ep ei em ec =
           let e : course-trail (r .index) (r .verdict) (r .probes) ≡ course-trail index verdicts done = cc in
           record { noted = e ∙ noted-all; clears = ec ∙ price-clears }
 
     -- before the first probe
-    pub led-start : (parties : List Party) (index verdicts : List ℕ) → Stands a c (fresh-stage (start k) 0) parties totals sheets
+    pub led-start : (parties : List Party) (index verdicts : List ℕ) → Stands a c (fresh-stage (first-search k)) parties totals sheets
         → Led a c parties totals sheets index verdicts 0
-    unfolding course-trail
+    unfolding course-trail first-search
     led-start parties index verdicts H =
         record {
-          at = start k;
+          here = first-search k;
+          counted = refl;
           stands = H;
-          encloses = encloses-start (covered (demand a) (supply a)) k;
-          noted = ap (λ (z : ℕ). trail (promise (demand a) (supply a)) z (start k)) (sub-zero (limit k));
+          promised = promised-start (demand a) (supply a) k (A .k-least);
+          noted = ap (λ (z : ℕ). as-listed (trail (promise (demand a) (supply a)) z (first-search k))) (sub-zero (most-probes k));
         }
 
-    -- the search is over when the loop ends: it says so, or nine probes are made
+    -- the searches are over when the loop ends: it says so, or all the probes are made
     pub led-over : (now : List Party) (index verdicts : List ℕ) (done : ℕ) (L : Led a c now totals sheets index verdicts done) → k ≤ 256
-        → (over (bracket (getD now 0 blank)) ≡ false → 9 ≤ done) → over (L .at) ≡ true
-    led-over now index verdicts done L small h = split (over (L .at)) refl
+        → (finished (getD now 0 blank .search) ≡ false → most-listed ≤ done) → finished (L .here) ≡ true
+    led-over now index verdicts done L small h = split (finished (L .here)) refl
       where
-        split : (t : Bool) → over (L .at) ≡ t → over (L .at) ≡ true
+        split : (t : Bool) → finished (L .here) ≡ t → finished (L .here) ≡ true
         split true e = e
         split false e =
-            let nine : 9 ≤ done = h (ap over (first-bracket (L .at) done now (L .stands)) ∙ e) in
-            enough (covered (demand a) (supply a)) k (L .encloses) (omega (arith, L .encloses .few, limit-nine k small))
+            let all : most-listed ≤ done = h (ap finished (first-search-is (L .here) now (L .stands)) ∙ e) in
+            let S : Sound k (L .here) = roomy-sound k (L .here) (L .promised .roomy) in
+            probes-enough k (L .here) S (omega (arith, probes-few k (L .here) S, sheets-eighteen k small, L .counted))

@@ -1,26 +1,36 @@
--- What is noted of a search, and what it has to be. Assumes nothing.
+-- What is noted of the searches, and what it has to be. Assumes nothing.
 use mathlib.Core.Path.{_≡_}
 use mathlib.Core.Bool.{cond}
+use mathlib.Core.List.{List, map}
 use Prim.Native.Nat.{ℕ}
 use lib.Dec.{eqb}
-use Rattle.search.specs.Bracket.{start}
-use Rattle.search.specs.Limit.{limit}
-use Rattle.search.specs.Search.{promise, trail}
+use Rattle.search.specs.declared.searches.Search.{Search}
+use Rattle.search.specs.Bracket.{middle}
+use Rattle.search.specs.Search.{Decision}
 use Rattle.session.specs.declared.reply.Answer.{Answer}
 use Rattle.session.specs.declared.reply.Answer.the-variants.{Cleared, Refused}
-use Rattle.auction.specs.Auction.{Auction, demand, supply, clearing-answer}
+use Rattle.auction.specs.Auction.{Auction, price-answer}
+use Rattle.auction.specs.Demands.{probed}
 use Rattle.listing.specs.declared.course.Course.{Course}
 use Rattle.listing.specs.Lines.{course-trail}
 
--- the verdict, read off party 1's record after the probe at an index: "On 1, lo becomes the index"
-abbrev pub verdict-read : (lo index : ℕ) → ℕ
-verdict-read lo index = cond (eqb lo index) 1 0
+-- The end that a 1 would have moved to the index, read off party 1's searches before and after a probe: "On 1, lo becomes the index", and
+-- lo is i where that ended the first; in the second search "a verdict of 1 moves hi".
+abbrev pub moved-end : (before after : Search) → ℕ
+moved-end before after = cond (eqb (before .which) 2) (after .bracket .hi) (cond (eqb (after .which) 2) (after .first) (after .bracket .lo))
+
+abbrev pub verdict-read : (before after : Search) → ℕ
+verdict-read before after = cond (eqb (moved-end before after) (middle (before .bracket))) 1 0
 
 abbrev pub priced : Answer → ℕ
 priced (Cleared index probes) = index
 priced (Refused why) = 0
 
--- the probes of the price search, and its answer
+-- the probes as they are listed: each index with its verdict, the second search's after the first's
+abbrev pub as-listed : List Decision → List (ℕ × ℕ)
+as-listed ds = map (λ d. (d .index, d .verdict)) ds
+
+-- the probes of both searches, and the price index
 pub record Follows (a : Auction) (r : Course) : Type 0 where
-  pub noted : course-trail (r .index) (r .verdict) (r .probes) ≡ trail (promise (demand a) (supply a)) (limit (a .k)) (start (a .k))
-  pub clears : r .clearing ≡ clearing-answer a
+  pub noted : course-trail (r .index) (r .verdict) (r .probes) ≡ as-listed (probed a)
+  pub clears : r .answer ≡ price-answer a

@@ -1,4 +1,4 @@
-// Probe after probe of all parties, until the search is over.
+// Probe after probe of all parties, until both searches are over.
 mod probes;
 mod searching;
 

@@ -2,7 +2,7 @@
 ghost use mathlib.Core.Path.{_≡_};
 ghost use Prim.Native.Nat.{_*_, _≤_};
 ghost use lib.ListN.{length};
-ghost use Rattle.search.specs.Limit.{limit};
+ghost use Rattle.search.specs.Limit.{most-probes};
 ghost use Rattle.standing.proofs.Standing.{Probes};
 use panel_rounds::round;
 use record::Party;
@@ -15,7 +15,7 @@ pub(crate) fn probe(
     totals: &[u64],
     sheets: &[u64],
 ) -> [Party; 9]
-    requires { ⌜ (n ≤ 9) × (k ≤ 256) × (length (now totals) ≡ n * (2 * k)) × (length (now sheets) ≡ n * (127 * limit k)) ⌝ }
+    requires { ⌜ (n ≤ 9) × (k ≤ 256) × (length (now totals) ≡ n * (2 * k)) × (length (now sheets) ≡ n * (127 * most-probes k)) ⌝ }
     ensures { λ r. ⌜ Probes n k parties (now (totals .entry)) (now (sheets .entry)) r ⌝ }
 {
     let mut after = parties;

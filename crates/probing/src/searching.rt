@@ -1,42 +1,58 @@
-// Probe after probe until the search is over, and what is noted of it.
+// Probe after probe until both searches are over, and what is noted of them.
 ghost use mathlib.Core.Path.{_≡_};
 ghost use mathlib.Core.Bool.{not};
 ghost use Prim.Native.Nat.{_*_, _≤_};
 ghost use lib.ListN.{length};
-ghost use Rattle.search.specs.Bracket.{middle, over};
-ghost use Rattle.search.specs.Limit.{limit};
-ghost use Rattle.record.specs.Record.{bracket};
+ghost use Rattle.search.specs.Bracket.{middle};
+ghost use Rattle.search.specs.Limit.{most-probes};
+ghost use Rattle.search.specs.Searches.{finished};
 ghost use Rattle.session.specs.Answer.{answer-reply};
 ghost use Rattle.standing.proofs.Standing.{FromStart};
-ghost use Rattle.probing.specs.Follows.{verdict-read, priced, Follows};
+ghost use Rattle.listing.specs.Lines.{most-listed};
+ghost use Rattle.probing.specs.Follows.{moved-end, verdict-read, priced, Follows};
 use crate::probes::probe;
 use listing::Course;
+use listing::PROBES;
 use record::Party;
-use search::Bracket;
+use search::Search;
+use search::finished;
 use search::middle;
-use search::over;
 use session::Answer;
 use session::answer;
 
-// Whether the search goes on.
+// Whether the searches go on.
 fn going(q: Party) -> bool
-    ensures { λ r. ⌜ r ≡ not (over (bracket q)) ⌝ }
+    ensures { λ r. ⌜ r ≡ not (finished (q .search)) ⌝ }
 {
-    !over(Bracket { lo: q.lo, hi: q.hi })
+    !finished(q.search)
 }
 
 // The index that is probed next.
 fn probed(q: Party) -> u64
-    ensures { λ r. ⌜ r ≡ middle (bracket q) ⌝ }
+    ensures { λ r. ⌜ r ≡ middle (q .search .bracket) ⌝ }
 {
-    middle(Bracket { lo: q.lo, hi: q.hi })
+    middle(q.search.bracket)
 }
 
-// The verdict that was heard of the probe at an index.
-fn decided(q: Party, index: u64) -> u64
-    ensures { λ r. ⌜ r ≡ verdict-read (q .lo) index ⌝ }
+// The end that the verdict 1 would have moved. Where the first search has ended, its lo is its answer.
+fn moved_end(before: Search, after: Search) -> u64
+    ensures { λ r. ⌜ r ≡ moved-end before after ⌝ }
 {
-    if q.lo == index {
+    let b = after.bracket;
+    if before.which == 2 {
+        return b.hi;
+    }
+    if after.which == 2 {
+        return after.first;
+    }
+    b.lo
+}
+
+// The verdict that was heard of a probe.
+fn decided(before: Search, after: Search) -> u64
+    ensures { λ r. ⌜ r ≡ verdict-read before after ⌝ }
+{
+    if moved_end(before, after) == middle(before.bracket) {
         return 1;
     }
     0
@@ -53,23 +69,23 @@ fn price(q: Party) -> u64
     }
 }
 
-// No search takes more than nine probes, so the second test alone ends the loop.
+// The searches take no more than nine probes each, so the second test alone ends the loop.
 pub fn search(n: u64, k: u64, parties: [Party; 9], totals: &[u64], sheets: &[u64]) -> Course
-    requires { ⌜ (n ≤ 9) × (k ≤ 256) × (length (now totals) ≡ n * (2 * k)) × (length (now sheets) ≡ n * (127 * limit k)) ⌝ }
-    ensures { λ r. ⌜ (r .probes ≤ 9) × FromStart n k parties (now (totals .entry)) (now (sheets .entry)) (λ a. Follows a r) ⌝ }
+    requires { ⌜ (n ≤ 9) × (k ≤ 256) × (length (now totals) ≡ n * (2 * k)) × (length (now sheets) ≡ n * (127 * most-probes k)) ⌝ }
+    ensures { λ r. ⌜ (r .probes ≤ most-listed) × FromStart n k parties (now (totals .entry)) (now (sheets .entry)) (λ a. Follows a r) ⌝ }
 {
-    let mut index = [0u64; 9];
-    let mut verdict = [0u64; 9];
+    let mut index = [0u64; PROBES];
+    let mut verdict = [0u64; PROBES];
     let mut here = parties;
     let first = here[0];
     let mut more = going(first);
     let mut done: usize = 0;
-    while (done < 9) & more {
+    while (done < PROBES) & more {
         let q = here[0];
         let after = probe(n, k, here, totals, sheets);
         let r = after[0];
         let at = probed(q);
-        let heard = decided(r, at);
+        let heard = decided(q.search, r.search);
         index[done] = at;
         verdict[done] = heard;
         more = going(r);
@@ -77,11 +93,11 @@ pub fn search(n: u64, k: u64, parties: [Party; 9], totals: &[u64], sheets: &[u64
         done += 1;
     }
     let last = here[0];
-    let clearing = price(last);
+    let answer = price(last);
     Course {
         probes: done as u64,
         index,
         verdict,
-        clearing,
+        answer,
     }
 }

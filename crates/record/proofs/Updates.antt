@@ -1,14 +1,12 @@
 -- What each update leaves of a record, and when the record stays sound. What is above goes by these laws. Assumes nothing.
 use mathlib.Core.Path.{_≡_, refl, sym}
 use mathlib.Core.Bool.{true, false}
-use Prim.Native.Nat.{ℕ, _+_, _-_, _*_, _^_, _≤_, _<_}
-use native.Mathlib.Nat.{mul-le-mul-right}
-use native.Mathlib.Decide.{decLe}
+use Prim.Native.Nat.{ℕ, _+_, _^_, _≤_, _<_}
 use native.Mathlib.Omega.{arith}
 use Rattle.ranges.specs.Sizes.{party}
-use Rattle.search.specs.declared.Bracket.{Bracket}
-use Rattle.search.specs.Limit.{limit}
-use Rattle.search.proofs.Logarithm.{limit-law}
+use Rattle.search.specs.declared.searches.Search.{Search}
+use Rattle.search.specs.Searches.{first-search}
+use Rattle.search.proofs.Bounds as searches
 use Rattle.record.specs.declared.Party.{Party}
 use Rattle.record.specs.Record.{sound, blank}
 use Rattle.record.specs.Updates.{fresh, entered, in-round, decided}
@@ -23,19 +21,9 @@ pub record Same (q next : Party) : Type 0 where
   pub own : next .own ≡ q .own
   pub k : next .k ≡ q .k
 
--- The distance of lo and hi is at most (k + 1) / 2^probes, rounded up. Every run keeps this; an arbitrary sound record need not.
-abbrev pub Narrow : Party → Type 0
-Narrow q = (q .hi - q .lo - 1) * 2 ^ q .probes ≤ q .k
-
--- so it is over after as many probes as the limit
-narrow-ended : (m d k : ℕ) → d * 2 ^ m ≤ k → m ≡ limit k → d ≡ 0
-narrow-ended m d k h e =
-    elim (decLe 1 d) [
-      | yes le ↦
-          let g : d * 2 ^ limit k ≤ k = rw e at h in
-          absurd (omega (arith, mul-le-mul-right (2 ^ limit k) le, limit-law k))
-      | no gt ↦ omega arith
-    ]
+-- the searches have the room that they need. Every run keeps this; an arbitrary sound record need not
+abbrev pub Roomy : Party → Type 0
+Roomy q = searches.Roomy (q .k) (q .search)
 
 -- ---- the record that a session starts with
 
@@ -45,21 +33,18 @@ module _ (n own k : ℕ) where
   fresh-sound h =
       record {
         listed = h;
-        apart = omega arith;
-        inside = omega arith;
+        search = searches.roomy-sound k (first-search k) (searches.roomy-start k (h .prices-least));
         round-least = omega arith;
         round-most = omega arith;
         sum = omega arith;
         carry = omega arith;
-        probes = omega arith;
-        ended = λ e. rw (sym e) at (limit-law k);
         roll = proper-empty;
         bids = sym marks-empty;
       }
 
--- before the first verdict the search has the room that it needs
-pub narrow-first : (q : Party) → Sound q → q .probes ≡ 0 → Narrow q
-narrow-first q s none = rw none (omega (arith, s .inside))
+-- before the first verdict the searches have the room that they need
+pub roomy-first : (q : Party) → Sound q → q .search .probes ≡ 0 → Roomy q
+roomy-first q s none = searches.sound-roomy (q .k) (q .search) none (s .search)
 
 -- and where no session is opened
 pub blank-unsound : sound blank ≡ false
@@ -77,17 +62,17 @@ module _ (q : Party) (bidder : ℕ) where
   unfolding entered
   entered-bids = refl
 
-  pub entered-probes : entered q bidder .probes ≡ q .probes
+  pub entered-search : entered q bidder .search ≡ q .search
   unfolding entered
-  entered-probes = refl
+  entered-search = refl
 
   pub entered-round : entered q bidder .round ≡ q .round
   unfolding entered
   entered-round = refl
 
-  pub narrow-entered : Narrow q → Narrow (entered q bidder)
+  pub roomy-entered : Roomy q → Roomy (entered q bidder)
   unfolding entered
-  narrow-entered h = h
+  roomy-entered h = h
 
   module _ (s : Sound q) (free : Free (q .roll) bidder) where
     pub bidder-marked : marked (entered q bidder .roll) bidder ≡ true
@@ -104,14 +89,11 @@ module _ (q : Party) (bidder : ℕ) where
     entered-sound =
         record {
           listed = s .listed;
-          apart = s .apart;
-          inside = s .inside;
+          search = s .search;
           round-least = s .round-least;
           round-most = s .round-most;
           sum = s .sum;
           carry = s .carry;
-          probes = s .probes;
-          ended = s .ended;
           roll = proper-mark (q .roll) (s .roll) bidder free;
           bids = omega (arith, s .bids, marks-mark (q .roll) (s .roll) bidder free);
         }
@@ -132,63 +114,57 @@ module _ (q : Party) (round sum carry : ℕ) where
   unfolding in-round
   in-round-roll = refl
 
-  pub in-round-probes : in-round q round sum carry .probes ≡ q .probes
+  pub in-round-search : in-round q round sum carry .search ≡ q .search
   unfolding in-round
-  in-round-probes = refl
+  in-round-search = refl
 
   pub in-round-sound : Sound q → 1 ≤ round → round ≤ 33 → sum < 2 ^ 59 + 2 ^ 33 → carry ≤ 255 → Sound (in-round q round sum carry)
   unfolding in-round
   in-round-sound s least most summed carried =
       record {
         listed = s .listed;
-        apart = s .apart;
-        inside = s .inside;
+        search = s .search;
         round-least = least;
         round-most = most;
         sum = summed;
         carry = carried;
-        probes = s .probes;
-        ended = s .ended;
         roll = s .roll;
         bids = s .bids;
       }
 
-  pub narrow-in-round : Narrow q → Narrow (in-round q round sum carry)
+  pub roomy-in-round : Roomy q → Roomy (in-round q round sum carry)
   unfolding in-round
-  narrow-in-round h = h
+  roomy-in-round h = h
 
--- ---- a verdict: the search has another bracket, and one probe more is done
+-- ---- a verdict: the searches stand elsewhere
 
-module _ (q : Party) (b : Bracket) where
-  pub decided-same : Same q (decided q b)
+module _ (q : Party) (t : Search) where
+  pub decided-same : Same q (decided q t)
   unfolding decided
   decided-same = record { n = refl; own = refl; k = refl }
 
-  pub decided-roll : decided q b .roll ≡ q .roll
+  pub decided-roll : decided q t .roll ≡ q .roll
   unfolding decided
   decided-roll = refl
 
-  pub decided-probes : decided q b .probes ≡ q .probes + 1
+  pub decided-search : decided q t .search ≡ t
   unfolding decided
-  decided-probes = refl
+  decided-search = refl
 
-  pub decided-sound : Sound q → b .lo < b .hi → b .hi ≤ q .k + 1 → q .probes < limit (q .k) → Narrow (decided q b) → Sound (decided q b)
+  pub decided-sound : Sound q → searches.Sound (q .k) t → Sound (decided q t)
   unfolding decided
-  decided-sound s apart inside left narrow =
+  decided-sound s searched =
       record {
         listed = s .listed;
-        apart = apart;
-        inside = inside;
+        search = searched;
         round-least = omega arith;
         round-most = omega arith;
         sum = omega arith;
         carry = omega arith;
-        probes = omega (arith, left);
-        ended = λ e. omega (arith, narrow-ended (q .probes + 1) _ (q .k) narrow e);
         roll = s .roll;
         bids = s .bids;
       }
 
-  pub narrow-decided : (b .hi - b .lo - 1) * 2 ^ (q .probes + 1) ≤ q .k → Narrow (decided q b)
+  pub roomy-decided : searches.Roomy (q .k) t → Roomy (decided q t)
   unfolding decided
-  narrow-decided h = h
+  roomy-decided h = h

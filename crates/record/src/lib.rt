@@ -1,12 +1,12 @@
 // A party's record: all that a session is, but for the words it is lent.
 ghost use mathlib.Core.Path.{_≡_};
-ghost use Rattle.record.specs.Record.{bracket, sound, blank};
+ghost use Rattle.record.specs.Record.{sound, blank};
 use ranges::on_list;
 use refusal::Judgement;
 use refusal::Refusal;
 use roll::Roll;
 use search::Bracket;
-use search::limit;
+use search::Search;
 
 // T is below it.
 const SUMS: u64 = (1 << 59) + (1 << 33);
@@ -18,10 +18,8 @@ pub struct Party {
     pub own: u64,
     pub k: u64,
     pub bids: u64,
-    pub lo: u64,
-    pub hi: u64,
-    // verdicts heard
-    pub probes: u64,
+    // where the searches stand
+    pub search: Search,
     pub round: u64,
     // T, once round 1 is heard
     pub sum: u64,
@@ -37,30 +35,18 @@ pub struct Reply {
     pub party: Party,
 }
 
-// Where the search stands.
-pub fn bracket(q: Party) -> Bracket
-    ensures { λ r. ⌜ r ≡ bracket q ⌝ }
-{
-    Bracket { lo: q.lo, hi: q.hi }
-}
-
-// Every field is in its range, nobody but bidders is on the roll, and as many bids are held as it has
-// marks. k + 1 and hi - lo are computed only of a k and an order that allow it.
+// Every field is in its range, the searches are searches of k indices, nobody but bidders is on the
+// roll, and as many bids are held as it has marks.
 pub fn sound(q: Party) -> bool
     ensures { λ r. ⌜ r ≡ sound q ⌝ }
 {
-    if !(on_list(q.n, q.own, q.k) & (q.lo < q.hi)) {
-        return false;
-    }
-    let most = limit(q.k);
     let roll = q.roll;
-    (q.hi <= q.k + 1)
+    on_list(q.n, q.own, q.k)
+        & search::sound(q.k, q.search)
         & (1 <= q.round)
         & (q.round <= 33)
         & (q.sum < SUMS)
         & (q.carry <= 255)
-        & (q.probes <= most)
-        & !((q.probes == most) & (1 < q.hi - q.lo))
         & roll.proper()
         & (q.bids == roll.marks())
 }
@@ -74,9 +60,13 @@ pub fn blank() -> Party
         own: 0,
         k: 0,
         bids: 0,
-        lo: 0,
-        hi: 0,
-        probes: 0,
+        search: Search {
+            which: 0,
+            bracket: Bracket { lo: 0, hi: 0 },
+            probes: 0,
+            first: 0,
+            spent: 0,
+        },
         round: 0,
         sum: 0,
         carry: 0,

@@ -7,7 +7,13 @@ use lib.ListN.{length, getD, take, drop, replicate, length-map, length-drop, tak
 use lib.Seq.{ext-getD, getD-drop}
 use Rattle.ranges.specs.Lists.{from}
 use Rattle.ranges.proofs.Loops.{length-from, map-from}
-use Rattle.record_words.specs.Words.{party-of}
+use Rattle.record.specs.declared.Party.{Party}
+use Rattle.record_words.specs.Words.{words-of, party-of}
+
+-- the numbers and the roll are 26 words, and the search's stand after them
+pub roll-end : (q : Party) → length (q .roll .words) ≡ 16 → length (take 10 (words-of q) ++ q .roll .words) ≡ 26
+unfolding words-of
+roll-end q long = omega arith
 
 module _ (words : List ℕ) where
   pub roll-long : length (party-of words .roll .words) ≡ 16

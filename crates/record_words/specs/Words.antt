@@ -1,7 +1,7 @@
--- A record in a lent slice: "n, own number, k, bids, lo, hi, probes done, round, T, carry share", a word each, and then "a roll of who is
--- in", 16 words. Assumes nothing.
+-- A record in a lent slice: "n, own number, k, bids, lo, hi, probes done, round, T, carry share", a word each, then "a roll of who is in",
+-- 16 words, and then what "The record gains": "which search is on and, 0 until the first ends, i and its probes". Assumes nothing.
 use mathlib.Core.Bool.{not}
-use mathlib.Core.List.{List, [], _∷_, map}
+use mathlib.Core.List.{List, [], _∷_, _++_, map}
 use Prim.Native.Nat.{ℕ}
 use lib.ListN.{getD}
 use Rattle.refusal.specs.Refusal.{numberOf}
@@ -10,14 +10,30 @@ use Rattle.refusal.specs.declared.Judgement.{Judgement}
 use Rattle.refusal.specs.declared.Refusal.the-variants.{WrongLength}
 use Rattle.ranges.specs.Lists.{from}
 use Rattle.ranges.specs.Sizes.{long}
+use Rattle.search.specs.declared.searches.Search.{Search}
 use Rattle.record.specs.declared.Party.{Party}
 use Rattle.record.specs.declared.Reply.{Reply}
 
 abbrev pub record-size : ℕ
-record-size = 26
+record-size = 29
+
+-- which search is on, and what the first gave with its probes
+abbrev pub search-words : Search → List ℕ
+search-words s = s .which ∷ s .first ∷ s .spent ∷ []
 
 unfoldable pub words-of : Party → List ℕ
-words-of q = q .n ∷ q .own ∷ q .k ∷ q .bids ∷ q .lo ∷ q .hi ∷ q .probes ∷ q .round ∷ q .sum ∷ q .carry ∷ q .roll .words
+words-of q =
+    q .n
+    ∷ q .own
+    ∷ q .k
+    ∷ q .bids
+    ∷ q .search .bracket .lo
+    ∷ q .search .bracket .hi
+    ∷ q .search .probes
+    ∷ q .round
+    ∷ q .sum
+    ∷ q .carry
+    ∷ (q .roll .words ++ search-words (q .search))
 
 -- any words are read, and what is not there is 0
 unfoldable pub party-of : List ℕ → Party
@@ -27,9 +43,13 @@ party-of words =
       own = getD words 1 0;
       k = getD words 2 0;
       bids = getD words 3 0;
-      lo = getD words 4 0;
-      hi = getD words 5 0;
-      probes = getD words 6 0;
+      search = record {
+        which = getD words 26 0;
+        bracket = record { lo = getD words 4 0; hi = getD words 5 0 };
+        probes = getD words 6 0;
+        first = getD words 27 0;
+        spent = getD words 28 0;
+      };
       round = getD words 7 0;
       sum = getD words 8 0;
       carry = getD words 9 0;

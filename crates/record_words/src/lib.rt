@@ -1,19 +1,21 @@
-// A party's record as the host holds it: 26 words, ten numbers in the order of the fields, then the
-// roll's 16.
+// A party's record as the host holds it: 29 words. Ten numbers, then the roll's 16, then which search
+// is on, what the first gave and its probes: these come last, so that the others stay in their places.
 ghost use mathlib.Core.Path.{_≡_};
 ghost use mathlib.Core.List.{_++_};
 ghost use lib.ListN.{length, take, drop, getD};
 ghost use Rattle.refusal.specs.Refusal.{codeOf};
 ghost use Rattle.ranges.specs.Sizes.{long};
-ghost use Rattle.record_words.specs.Words.{record-size, words-of, party-of, number-on, on-record, stored};
+ghost use Rattle.record_words.specs.Words.{record-size, search-words, words-of, party-of, number-on, on-record, stored};
 use record::Party;
 use record::Reply;
 use refusal::Judgement;
 use refusal::Refusal;
 use refusal::number;
 use roll::Roll;
+use search::Bracket;
+use search::Search;
 
-const WORDS: usize = 26;
+const WORDS: usize = 29;
 
 pub fn is_record(words: &[u64]) -> bool
     ensures { λ r. ⌜ r ≡ long record-size (now (words .entry)) ⌝ }
@@ -30,9 +32,7 @@ pub fn read(words: &[u64]) -> Party
         own: word(words, 1),
         k: word(words, 2),
         bids: word(words, 3),
-        lo: word(words, 4),
-        hi: word(words, 5),
-        probes: word(words, 6),
+        search: read_search(words),
         round: word(words, 7),
         sum: word(words, 8),
         carry: word(words, 9),
@@ -44,6 +44,21 @@ fn word(words: &[u64], at: usize) -> u64
     ensures { λ r. ⌜ r ≡ getD (now (words .entry)) at 0 ⌝ }
 {
     if at < words.len() { words[at] } else { 0 }
+}
+
+fn read_search(words: &[u64]) -> Search
+    ensures { λ r. ⌜ r ≡ party-of (now (words .entry)) .search ⌝ }
+{
+    Search {
+        which: word(words, 26),
+        bracket: Bracket {
+            lo: word(words, 4),
+            hi: word(words, 5),
+        },
+        probes: word(words, 6),
+        first: word(words, 27),
+        spent: word(words, 28),
+    }
 }
 
 // A word of the roll that the slice does not reach is 0. The loop asks for the slice's end, where
@@ -86,6 +101,7 @@ fn write(q: Party, words: &mut [u64])
 {
     write_numbers(q, words);
     write_roll(q.roll, words);
+    write_search(q.search, words);
 }
 
 fn write_numbers(q: Party, words: &mut [u64])
@@ -96,9 +112,9 @@ fn write_numbers(q: Party, words: &mut [u64])
     words[1] = q.own;
     words[2] = q.k;
     words[3] = q.bids;
-    words[4] = q.lo;
-    words[5] = q.hi;
-    words[6] = q.probes;
+    words[4] = q.search.bracket.lo;
+    words[5] = q.search.bracket.hi;
+    words[6] = q.search.probes;
     words[7] = q.round;
     words[8] = q.sum;
     words[9] = q.carry;
@@ -106,7 +122,7 @@ fn write_numbers(q: Party, words: &mut [u64])
 
 fn write_roll(roll: Roll, words: &mut [u64])
     requires { ⌜ length (now words) ≡ record-size ⌝ }
-    ensures { λ _. ⌜ now (words .exit) ≡ take 10 (now (words .entry)) ++ roll .words ⌝ }
+    ensures { λ _. ⌜ now (words .exit) ≡ take 10 (now (words .entry)) ++ roll .words ++ drop 26 (now (words .entry)) ⌝ }
 {
     let roll_words = roll.words;
     let mut i = 0;
@@ -114,4 +130,14 @@ fn write_roll(roll: Roll, words: &mut [u64])
         words[10 + i] = roll_words[i];
         i += 1;
     }
+}
+
+// Of the search, what the ten numbers leave out.
+fn write_search(s: Search, words: &mut [u64])
+    requires { ⌜ length (now words) ≡ record-size ⌝ }
+    ensures { λ _. ⌜ now (words .exit) ≡ take 26 (now (words .entry)) ++ search-words s ⌝ }
+{
+    words[26] = s.which;
+    words[27] = s.first;
+    words[28] = s.spent;
 }

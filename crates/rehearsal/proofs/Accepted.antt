@@ -10,9 +10,10 @@ use lib.Dec.{leb, eqb}
 use lib.ListN.{length, drop, getD}
 use borrow.Author.Tests.{leb-true, leb-false, eqb-true, eqb-false}
 use Rattle.ranges.proofs.Loops.{and-left, and-right}
-use Rattle.search.specs.Limit.{limit}
+use Rattle.search.specs.Limit.{most-probes}
 use Rattle.search.proofs.Clearing.{clearing-within}
-use Rattle.auction.specs.Auction.{Auction, bidders, GoodTable, IsAuction, demand, supply, clearing-answer}
+use Rattle.search.proofs.Balance.{price-within}
+use Rattle.auction.specs.Auction.{Auction, bidders, GoodTable, IsAuction, demand, supply, price-answer}
 use Rattle.auction.proofs.Totals.{few-bids}
 use Rattle.comparison.specs.Probe.{Each}
 use Rattle.ranges.specs.Lists.{from}
@@ -28,12 +29,12 @@ use Rattle.plan.specs.Plan.{Plan, Reading, faulty, accepted, read, read-prices,
 use Rattle.plan.specs.Judged.{shape-of, as-judged, judged-as, seeds-of, prices-of}
 use Rattle.sections.specs.Sections.{good-prices, tables, bid-fault, bids-fault, or-else}
 use Rattle.rehearsal.specs.Listing.{auction, plan-trail, printed, listing}
-use Rattle.listing.specs.Lines.{refused-line, probe-lines, clears-line, rounds-line, search-lines, course-trail}
+use Rattle.listing.specs.Lines.{most-listed, refused-line, probe-lines, clears-line, rounds-line, search-lines, course-trail}
 use Rattle.standing.proofs.Standing.{auction-of}
 use Rattle.rehearsal.specs.Right.{Right}
 use Rattle.probing.specs.Follows.{Follows}
 use Rattle.listing.specs.declared.course.Course.{Course}
-use Rattle.panel.proofs.Parts.{limit-nine}
+use Rattle.panel.proofs.Parts.{sheets-eighteen}
 use Rattle.lines.proofs.Again.{past-one, after-add, formed-most, length-numbers, number-at}
 use Rattle.plan.proofs.Sections.{line-of}
 use Rattle.sections.proofs.Counts.{good-most}
@@ -225,8 +226,8 @@ pub record Runs (bytes : List ℕ) (shape : Shape) : Type 0 where
   pub few-bids : shape .bids ≤ 1000
   pub an-auction : IsAuction (auction-of (shape .n) (shape .k) (shape .bids) (drop (shape .«bids_at») bytes))
   pub held : shape .n * (2 * shape .k) ≤ 4608
-  pub lent : shape .n * (127 * limit (shape .k)) ≤ 10287
-  pub right : (r : Course) → r .probes ≤ 9 → Follows (auction-of (shape .n) (shape .k) (shape .bids) (drop (shape .«bids_at») bytes)) r → Right bytes r
+  pub lent : shape .n * (127 * most-probes (shape .k)) ≤ 20574
+  pub right : (r : Course) → r .probes ≤ most-listed → Follows (auction-of (shape .n) (shape .k) (shape .bids) (drop (shape .«bids_at») bytes)) r → Right bytes r
 
 pub good-runs : (bytes : List ℕ) (shape : Shape) → judged-as bytes ≡ Good shape → Runs bytes shape
 good-runs bytes shape e =
@@ -236,14 +237,14 @@ good-runs bytes shape e =
     let same : auction p ≡ auction-of (p .n) (p .k) (length (p .bids)) (past (p .n + p .k + 3) bytes) =
     ap (λ (ts : List (List ℕ)). record { n = p .n; k = p .k; bids = numbered 1 ts }) (A .bids) in
     let h : p .n * (2 * p .k) ≤ 9 * (2 * p .k) = mul-le-mul-right (2 * p .k) (A .an-auction .n-most) in
-    let l : p .n * (127 * limit (p .k)) ≤ 9 * (127 * limit (p .k)) = mul-le-mul-right (127 * limit (p .k)) (A .an-auction .n-most) in
+    let l : p .n * (127 * most-probes (p .k)) ≤ 9 * (127 * most-probes (p .k)) = mul-le-mul-right (127 * most-probes (p .k)) (A .an-auction .n-most) in
     subst (Runs bytes) (sym (j .2))
     (record {
       few-prices = A .few-prices;
       few-bids = omega (arith, few-bids (A .an-auction), length-numbered 1 (p .bids));
       an-auction = subst IsAuction same (A .an-auction);
       held = omega (arith, h, A .few-prices);
-      lent = omega (arith, l, limit-nine (p .k) (A .few-prices));
+      lent = omega (arith, l, sheets-eighteen (p .k) (A .few-prices));
       right = λ r few F. record { few = few; follows = λ q f. subst (λ (x : Plan). Follows (auction x) r) (same-plan (sym f ∙ j .1)) (subst (λ (x : Auction). Follows x r) (sym same) F) };
     })
 
@@ -267,25 +268,26 @@ same-clears zero a b h = refl
 same-clears (suc i) a b h = ap (clears-line (suc i)) (h (omega arith))
 
 search-listing : (bytes : List ℕ) (p : Plan) → read (lines bytes) ≡ accepted p
-    → (probes : List (ℕ × ℕ)) (answer : ℕ) → probes ≡ plan-trail p → answer ≡ clearing-answer (auction p)
+    → (probes : List (ℕ × ℕ)) (answer : ℕ) → probes ≡ plan-trail p → answer ≡ price-answer (auction p)
     → search-lines probes answer (price-of answer (drop (shape-of bytes p .«prices_at») bytes)) ≡ listing bytes
 unfolding printed
 search-listing bytes p e probes answer f g =
-    let i = clearing-answer (auction p) in
+    let i = price-answer (auction p) in
     let bs = past (p .n + 2) bytes in
-    let w = clearing-within (demand (auction p)) (supply (auction p)) (p .k) in
+    let w = price-within (demand (auction p)) (supply (auction p)) (p .k) in
+    let c = clearing-within (demand (auction p)) (supply (auction p)) (p .k) in
     let price : 0 < i → price-of i bs ≡ getD (p .prices) (i - 1) 0 =
-    λ h. sym (ap (λ (v : List ℕ). getD v (i - 1) 0) (accepted-plan bytes p e .prices) ∙ number-at (p .k) (i - 1) bs (omega (arith, w))) in
+    λ h. sym (ap (λ (v : List ℕ). getD v (i - 1) 0) (accepted-plan bytes p e .prices) ∙ number-at (p .k) (i - 1) bs (omega (arith, w, c))) in
     ap₂ (λ (t : List (ℕ × ℕ)) (j : ℕ). search-lines t j (price-of j bs)) f g
     ∙ ap (λ (l : List ℕ). probe-lines 1 (plan-trail p) ++ (l ++ rounds-line (length (plan-trail p)))) (same-clears i (price-of i bs) (getD (p .prices) (i - 1) 0) price)
     ∙ sym (ap printed e)
 
 pub right-listing : (bytes : List ℕ) (shape : Shape) (c : Course) → judged-as bytes ≡ Good shape → Right bytes c
-    → search-lines (course-trail (c .index) (c .verdict) (c .probes)) (c .clearing) (price-of (c .clearing) (drop (shape .«prices_at») bytes)) ≡ listing bytes
+    → search-lines (course-trail (c .index) (c .verdict) (c .probes)) (c .answer) (price-of (c .answer) (drop (shape .«prices_at») bytes)) ≡ listing bytes
 right-listing bytes shape c e r =
     let j = judged-good bytes (read (lines bytes)) shape e in
     let p = j .0 in
     let F = r .follows p (j .1) in
     let probes = course-trail (c .index) (c .verdict) (c .probes) in
-    ap (λ (s : Shape). search-lines probes (c .clearing) (price-of (c .clearing) (drop (s .«prices_at») bytes))) (j .2)
-    ∙ search-listing bytes p (j .1) probes (c .clearing) (F .noted) (F .clears)
+    ap (λ (s : Shape). search-lines probes (c .answer) (price-of (c .answer) (drop (s .«prices_at») bytes))) (j .2)
+    ∙ search-listing bytes p (j .1) probes (c .answer) (F .noted) (F .clears)

@@ -5,8 +5,8 @@ use Prim.Native.Nat.{ℕ, _+_, _*_}
 use lib.ListN.{length}
 use Rattle.sharing.specs.Polynomial.{value}
 use Rattle.sharing.specs.Scheme.{threshold}
-use Rattle.search.specs.Bracket.{start}
-use Rattle.search.specs.Limit.{limit}
+use Rattle.search.specs.Searches.{first-search}
+use Rattle.search.specs.Limit.{most-probes}
 use Rattle.record.specs.declared.Party.{Party}
 use Rattle.auction.specs.Auction.{Auction, IsAuction}
 use Rattle.auction.specs.Coins.{Coins, InRange}
@@ -24,13 +24,13 @@ use Rattle.probing.specs.Follows.{Follows}
 use Rattle.sections.proofs.Bids.{length-tables}
 use Rattle.draws.proofs.Drawn.{Word, coins-in-range-of}
 
--- all bids are held and all sheets dealt: the search can start
+-- all bids are held and all sheets dealt: the searches can start
 pub start-stands : (a : Auction) (c : Coins) (parties : List Party) (totals sheets : List ℕ) → Holds a (full-roll a) (polynomials a c) parties totals
-    → All (a .n) (λ i. part (127 * limit (a .k)) i sheets ≡ sheets-of (i + 1) (c .sheets))
-    → Stands a c (fresh-stage (start (a .k)) 0) parties totals sheets
-unfolding seat record-at sheets-at sheets-of holding start value
+    → All (a .n) (λ i. part (127 * most-probes (a .k)) i sheets ≡ sheets-of (i + 1) (c .sheets))
+    → Stands a c (fresh-stage (first-search (a .k))) parties totals sheets
+unfolding seat record-at sheets-at sheets-of holding value
 start-stands a c parties totals sheets H D i h =
-    ap₂ (λ (q : Party) (x : List ℕ). record { party = q; totals = x; sheets = part (127 * limit (a .k)) i sheets }) (H i h .0) (H i h .1)
+    ap₂ (λ (q : Party) (x : List ℕ). record { party = q; totals = x; sheets = part (127 * most-probes (a .k)) i sheets }) (H i h .0) (H i h .1)
     ∙ ap (λ (x : List ℕ). record { party = holding (a .n) (a .k) (full-roll a) (i + 1); totals = at-party (i + 1) (polynomials a c); sheets = x }) (D i h)
 
 module _ (n k bids seed : ℕ) (bytes : List ℕ) where
@@ -43,11 +43,11 @@ module _ (n k bids seed : ℕ) (bytes : List ℕ) where
   -- what `hold` notes
   pub held-follows : Word seed → (parties : List Party) (totals sheets : List ℕ) (state : ℕ) (r : Course) → IsAuction a
       → Holds a (full-roll a) (polynomials a coins) parties totals → state ≡ after-bids (threshold n) k bids (first-state seed)
-      → All n (λ i. part (127 * limit k) i sheets ≡ sheets-of (i + 1) (all-sheets (threshold n) (limit k) state))
+      → All n (λ i. part (127 * most-probes k) i sheets ≡ sheets-of (i + 1) (all-sheets (threshold n) (most-probes k) state))
       → FromStart n k parties totals sheets (λ a. Follows a r) → Follows a r
   unfolding auction-coins
   held-follows w parties totals sheets state r A H e D S =
       let l : length (a .bids) ≡ bids = length-numbered 1 (tables k bids bytes) ∙ length-tables k bids bytes in
       S (numbered 1 (tables k bids bytes)) coins A (subst (λ (m : ℕ). InRange a (auction-coins n k m seed)) l (coins-in-range-of a seed w))
       (start-stands a coins parties totals sheets H
-      (λ i h. D i h ∙ ap (λ (x : ℕ). sheets-of (i + 1) (all-sheets (threshold n) (limit k) x)) e))
+      (λ i h. D i h ∙ ap (λ (x : ℕ). sheets-of (i + 1) (all-sheets (threshold n) (most-probes k) x)) e))

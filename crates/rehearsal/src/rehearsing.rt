@@ -2,14 +2,15 @@
 ghost use Rattle.listing.specs.Text.{Wrote};
 ghost use Rattle.rehearsal.specs.Listing.{listing};
 use crate::running::run;
+use listing::ROOM;
 use listing::write_course;
 use listing::write_refused;
 use plan::Judged;
 use plan::judge;
 
 // Judges the input, runs its auction, and writes the listing at the start of a buffer that is lent
-// for it. No listing is longer than 824 bytes. The answer is how long it is.
-pub fn rehearse(input: &[u8], out: &mut [u8; 1024]) -> usize
+// for it. No listing is longer than 1,571 bytes. The answer is how long it is.
+pub fn rehearse(input: &[u8], out: &mut [u8; ROOM]) -> usize
     ensures { λ r. ⌜ Wrote (now (out .entry)) 0 (listing (now (input .entry))) (now (out .exit)) r ⌝ }
 {
     let judged = judge(input);

@@ -2,11 +2,12 @@
 ghost use mathlib.Core.Path.{_≡_};
 ghost use Prim.Native.Nat.{_*_, _≤_};
 ghost use lib.ListN.{length, drop};
-ghost use Rattle.search.specs.Limit.{limit};
+ghost use Rattle.search.specs.Limit.{most-probes};
 ghost use Rattle.auction.specs.Auction.{IsAuction};
 ghost use Rattle.plan.specs.declared.judging.Judged.the-variants.{Good};
 ghost use Rattle.plan.specs.Judged.{judged-as};
 ghost use Rattle.standing.proofs.Standing.{auction-of};
+ghost use Rattle.listing.specs.Lines.{most-listed};
 ghost use Rattle.probing.specs.Follows.{Follows};
 ghost use Rattle.rehearsal.specs.Right.{Right};
 use collecting::collect;
@@ -14,7 +15,7 @@ use drawn_sheets::deal_all;
 use listing::Course;
 use plan::Shape;
 use probing::search;
-use search::limit;
+use search::most_probes;
 
 // The auction, in slices lent for the parties' totals and sheets.
 fn hold(
@@ -28,8 +29,8 @@ fn hold(
     sheets: &mut [u64],
 ) -> Course
     requires { ⌜ (k ≤ 256) × (bids ≤ 1000) × IsAuction (auction-of n k bids (drop at (now input)))
-        × (length (now totals) ≡ n * (2 * k)) × (length (now sheets) ≡ n * (127 * limit k)) ⌝ }
-    ensures { λ r. ⌜ (r .probes ≤ 9) × Follows (auction-of n k bids (drop at (now (input .entry)))) r ⌝ }
+        × (length (now totals) ≡ n * (2 * k)) × (length (now sheets) ≡ n * (127 * most-probes k)) ⌝ }
+    ensures { λ r. ⌜ (r .probes ≤ most-listed) × Follows (auction-of n k bids (drop at (now (input .entry)))) r ⌝ }
 {
     let added = collect(n, seed, k, bids, input, at, totals);
     let parties = added.parties;
@@ -42,9 +43,9 @@ fn no_totals() -> [u64; 4608] {
     [0u64; 4608]
 }
 
-// Room for nine sheets of each of nine parties.
-fn no_sheets() -> [u64; 10287] {
-    [0u64; 10287]
+// Room for eighteen sheets of each of nine parties.
+fn no_sheets() -> [u64; 20574] {
+    [0u64; 20574]
 }
 
 // The auction of an input that `judge` found good.
@@ -55,7 +56,7 @@ pub(crate) fn run(input: &[u8], shape: Shape) -> Course
     let n = shape.n;
     let k = shape.k;
     let held = n as usize * (2 * k as usize);
-    let lent = n as usize * (127 * limit(k) as usize);
+    let lent = n as usize * (127 * most_probes(k) as usize);
     let mut totals = no_totals();
     let mut sheets = no_sheets();
     hold(

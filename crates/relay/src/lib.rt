@@ -1,4 +1,5 @@
 // The rehearsal of what one descriptor gives, written to another.
+use listing::ROOM;
 
 // Every input that is accepted fits. A longer one is refused for what does (`Cut.cut-listing` of
 // crate `rehearsal`).
@@ -6,8 +7,8 @@ fn input_room() -> [u8; 4194304] {
     [0u8; 4194304]
 }
 
-fn listing_room() -> [u8; 1024] {
-    [0u8; 1024]
+fn listing_room() -> [u8; ROOM] {
+    [0u8; ROOM]
 }
 
 pub fn rehearse_between(from: i32, to: i32) {

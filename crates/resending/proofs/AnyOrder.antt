@@ -15,7 +15,7 @@ use Rattle.sharing.proofs.Laws.{sums-lt, sums-length, sums-swap}
 use Rattle.record.specs.declared.Party.{Party}
 use Rattle.record.specs.Updates.{entered}
 use Rattle.record.proofs.Replies.{next-party}
-use Rattle.record.proofs.Updates.{entered-same, entered-probes, entered-round, bidder-marked, others-kept, entered-sound, entered-swap}
+use Rattle.record.proofs.Updates.{entered-same, entered-search, entered-round, bidder-marked, others-kept, entered-sound, entered-swap}
 use Rattle.session.specs.Add.{add-judgement}
 use Rattle.session.proofs.Laws.{Adds, adds, add-accepted}
 use Rattle.resending.specs.AnyOrder.{BidFor, Account, with-bid, with-bids, AllAccepted, AnyOrder}
@@ -71,7 +71,7 @@ module _ (q : Party) (totals : List ℕ) (b c : BidFor)
             };
         totals-long = sums-length amount-field totals (c .1) (as-long (c .1) (sooner .shares-long)) ∙ B .totals-long ∙ prices;
         shares-long = B .shares-long ∙ prices;
-        no-probes = entered-probes q (c .0) ∙ B .no-probes;
+        no-probes = ap (λ s. s .probes) (entered-search q (c .0)) ∙ B .no-probes;
         first-round = entered-round q (c .0) ∙ B .first-round;
         totals-below = sums-lt amount-field totals (c .1) (B .totals-below) (C .shares-below);
         shares-below = B .shares-below;

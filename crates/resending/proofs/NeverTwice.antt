@@ -21,7 +21,7 @@ use Rattle.record.specs.Record.{sound, replied}
 use Rattle.record.specs.Updates.{entered}
 use Rattle.record.proofs.Replies.{next-party, reply-party}
 use Rattle.record.proofs.Soundness.{Sound, sound-facts, sound-of, house-full}
-use Rattle.record.proofs.Updates.{Narrow, narrow-first, narrow-entered, entered-same, entered-bids, bidder-marked, others-kept, entered-sound}
+use Rattle.record.proofs.Updates.{Roomy, roomy-first, roomy-entered, entered-same, entered-bids, bidder-marked, others-kept, entered-sound}
 use Rattle.session.specs.Add.{begun, add-judgement, add-reply}
 use Rattle.session.proofs.Laws.{adds}
 use Rattle.round.specs.Round.{heard}
@@ -48,7 +48,7 @@ once q totals bidder shares e =
 record StaysIn (k b : ℕ) (q : Party) : Type 0 where
   is-in : marked (q .roll) b ≡ true
   whole : Sound q
-  narrow : Narrow q
+  roomy : Roomy q
   prices : q .k ≡ k
 
 -- what holds of the next record of an accepted call, and of the old one, holds of the reply's
@@ -66,7 +66,7 @@ module _ (k b : ℕ) where
       record {
         is-in = others-kept q bidder (A .sound) (A .free) b other ∙ i .is-in;
         whole = entered-sound q bidder (A .sound) (A .free);
-        narrow = narrow-entered q bidder (i .narrow);
+        roomy = roomy-entered q bidder (i .roomy);
         prices = entered-same q bidder .k ∙ i .prices;
       })
       i
@@ -77,11 +77,11 @@ module _ (k b : ℕ) where
       let opening = heard (q .n) (q .round) messages in
       either (StaysIn k b) (hear-judgement q totals sheets messages) (after q sheet opening) q
       (λ e.
-      let next = hears-sound q totals sheets messages (hears q totals sheets messages e) (i .narrow) in
+      let next = hears-sound q totals sheets messages (hears q totals sheets messages e) (i .roomy) in
       record {
         is-in = rw (roll-after q sheet opening) (i .is-in);
         whole = next .0;
-        narrow = next .1;
+        roomy = next .1;
         prices = after-same q sheet opening .k ∙ i .prices;
       })
       i
@@ -128,7 +128,7 @@ never-twice q totals bidder shares e between =
     record {
       is-in = bidder-marked q bidder (A .sound) (A .free);
       whole = entered-sound q bidder (A .sound) (A .free);
-      narrow = narrow-entered q bidder (narrow-first q (A .sound) (A .no-probes));
+      roomy = roomy-entered q bidder (roomy-first q (A .sound) (A .no-probes));
       prices = entered-same q bidder .k;
     } in
     let next = add-reply q totals bidder shares .party in

@@ -13,9 +13,19 @@ fn main() {
     show(b"no_price.txt");
     show(b"clears_at_k.txt");
     show(b"no_bids.txt");
+    balanced();
     show(b"largest.txt");
     show(b"refused.txt");
     edges();
+}
+
+// Demand equals supply at several neighbouring prices: an odd and an even number of them, and at either
+// end of the list.
+fn balanced() {
+    show(b"balanced_odd.txt");
+    show(b"balanced_even.txt");
+    show(b"balanced_from_first.txt");
+    show(b"balanced_to_last.txt");
 }
 
 // One fault or one limit each.

@@ -10,9 +10,8 @@ use Rattle.refusal.specs.Judging.{judged}
 use Rattle.refusal.specs.declared.Refusal.{Refusal}
 use Rattle.refusal.specs.declared.Judgement.{Judgement}
 use Rattle.refusal.specs.declared.Judgement.the-variants.{Accepted, Refused}
-use Rattle.search.specs.Bracket.{over}
+use Rattle.search.specs.Searches.{finished}
 use Rattle.record.specs.declared.Party.{Party}
-use Rattle.record.specs.Record.{bracket}
 use Rattle.ranges.proofs.Loops.{and-true}
 use Rattle.refusal.proofs.Judging.{passed}
 use Rattle.record.proofs.Soundness.{Sound, sound-facts, sound-of}
@@ -55,7 +54,7 @@ pub record Says (q : Party) (totals sheets : List ℕ) : Type 0 where
   pub sound : Sound q
   pub totals-long : length totals ≡ 2 * q .k
   pub sheets-long : length sheets ≡ sheets-long (q .k)
-  pub going : over (bracket q) ≡ false
+  pub going : finished (q .search) ≡ false
   pub in-field : InField q totals (current q sheets)
 
 module _ (q : Party) (totals sheets : List ℕ) (else-long : Bool) where

@@ -8,12 +8,14 @@ use Rattle.fields.specs.Amount.{amounts}
 use Rattle.fields.specs.Byte.{bytes}
 use Rattle.comparison.specs.Local.{on-shares}
 use Rattle.comparison.specs.Rounds.{masked, left, right, both, last}
+use Rattle.search.specs.Searches.{side}
 use Rattle.record.specs.declared.Party.{Party}
 use Rattle.saying.specs.Say.{demand-share, supply-share, mask-share, bit-share, triple-share, message}
 
 module _ (q : Party) (totals sheet : List ℕ) where
   pub first-message : q .round ≡ 1
-      → message q totals sheet ≡ masked (on-shares amounts) (mask-share sheet) (demand-share q totals) (supply-share q totals)
+      → message q totals sheet ≡ masked (on-shares amounts) (mask-share sheet) (side (q .search .which) (demand-share q totals) (supply-share q totals))
+      (side (q .search .which) (supply-share q totals) (demand-share q totals))
   unfolding message
   first-message e = rw (eq-eqb (q .round) 1 e)
 

@@ -15,17 +15,17 @@ use Rattle.ranges.proofs.Loops.{every-at, and-true}
 use Rattle.ranges.proofs.Ranges.{all-below, is-below}
 use Rattle.record.specs.declared.Party.{Party}
 use Rattle.saying.specs.Say.{sheets-long, demand-share, supply-share, current, mask-share, in-field}
-use Rattle.record.proofs.Soundness.{Probing}
+use Rattle.search.proofs.Bounds.{Probing}
 
 -- the current sheet is there, and it is whole
-module _ (q : Party) (sheets : List ℕ) (h : Probing q) (long : length sheets ≡ sheets-long (q .k)) where
-  pub current-there : 127 * q .probes + 127 ≤ length sheets
-  current-there = omega arith
+module _ (q : Party) (sheets : List ℕ) (h : Probing (q .k) (q .search)) (long : length sheets ≡ sheets-long (q .k)) where
+  pub current-there : 127 * q .search .probes + 127 ≤ length sheets
+  current-there = omega (arith, h .sheet-left)
 
   pub current-long : length (current q sheets) ≡ 127
   unfolding current
   current-long =
-      length-take-le 127 (drop (127 * q .probes) sheets) (omega (arith, current-there, length-drop (127 * q .probes) sheets))
+      length-take-le 127 (drop (127 * q .search .probes) sheets) (omega (arith, current-there, length-drop (127 * q .search .probes) sheets))
 
 -- every word of a sheet but the first is a byte
 pub byte-at : (sheet : List ℕ) (i : ℕ) → every (λ w. ltb w 256) (drop 1 sheet) ≡ true → 1 ≤ i → i < length sheet

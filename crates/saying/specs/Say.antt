@@ -15,27 +15,28 @@ use Rattle.ranges.specs.Lists.{every}
 use Rattle.ranges.specs.Sizes.{long, sheet-size}
 use Rattle.comparison.specs.Local.{on-shares}
 use Rattle.comparison.specs.Rounds.{masked, left, right, both, last}
-use Rattle.search.specs.Bracket.{middle, over}
-use Rattle.search.specs.Limit.{limit}
+use Rattle.search.specs.Bracket.{middle}
+use Rattle.search.specs.Limit.{most-probes}
+use Rattle.search.specs.Searches.{side, finished}
 use Rattle.record.specs.declared.Party.{Party}
 use Rattle.saying.specs.declared.Said.{Said}
 use Rattle.saying.specs.declared.Said.the-variants.{Message, Refused}
-use Rattle.record.specs.Record.{bracket, sound}
+use Rattle.record.specs.Record.{sound}
 
 -- total demand and total supply at the probed index: indices count from 1, demand first
 abbrev pub demand-share : Party → List ℕ → ℕ
-demand-share q totals = getD totals (middle (bracket q) - 1) 0
+demand-share q totals = getD totals (middle (q .search .bracket) - 1) 0
 
 abbrev pub supply-share : Party → List ℕ → ℕ
-supply-share q totals = getD totals (q .k + middle (bracket q) - 1) 0
+supply-share q totals = getD totals (q .k + middle (q .search .bracket) - 1) 0
 
--- "Every probe's sheets are lent in order, 127 times P words"
+-- "Every probe's sheets are lent in order", for both searches: "127 times 2P words are lent"
 abbrev pub sheets-long : (k : ℕ) → ℕ
-sheets-long k = sheet-size * limit k
+sheets-long k = sheet-size * most-probes k
 
--- "With q probes done, sheet q + 1 is the current one."
+-- "With q probes done, sheet q + 1 is the current one", and "probes done counts both": the second search goes on with "further sheets"
 unfoldable pub current : Party → List ℕ → List ℕ
-current q sheets = take sheet-size (drop (sheet-size * q .probes) sheets)
+current q sheets = take sheet-size (drop (sheet-size * q .search .probes) sheets)
 
 -- the words of a sheet: the mask's share, the share of its bit i, and alpha, beta, gamma of round i (0, 1, 2)
 abbrev pub mask-share : List ℕ → ℕ
@@ -45,7 +46,7 @@ abbrev pub bit-share : List ℕ → ℕ → ℕ
 bit-share sheet i = getD sheet i 0
 
 abbrev pub triple-share : List ℕ → ℕ → ℕ → ℕ
-triple-share sheet i which = getD sheet (34 + 3 * (i - 2) + which) 0
+triple-share sheet i part = getD sheet (34 + 3 * (i - 2) + part) 0
 
 -- Free of refusal 8: "a bundle or book word used at or above p; in the current sheet, mask share at or above p or another word above
 -- 255". Round 1 uses two words of the book, later rounds none.
@@ -62,7 +63,7 @@ turn-judgement q totals sheets else-long =
     judged
     ((not (sound q) ⇒ OutOfRange)
     ∷ (not (long (2 * q .k) totals && long (sheets-long (q .k)) sheets && else-long) ⇒ WrongLength)
-    ∷ (over (bracket q) ⇒ OutOfTurn)
+    ∷ (finished (q .search) ⇒ OutOfTurn)
     ∷ (not (in-field q totals (current q sheets)) ⇒ ShareOutOfRange)
     ∷ [])
 
@@ -70,10 +71,12 @@ turn-judgement q totals sheets else-long =
 abbrev pub say-judgement : (q : Party) (totals sheets : List ℕ) → Judgement
 say-judgement q totals sheets = turn-judgement q totals sheets true
 
--- "Words by round": round 1, rounds 2 to 32, round 33
+-- "Words by round": round 1, in the second search "the same comparison with the sides exchanged"; rounds 2 to 32; round 33
 unfoldable pub message : (q : Party) (totals sheet : List ℕ) → ℕ
 message q totals sheet =
-    cond (eqb (q .round) 1) (masked (on-shares amounts) (mask-share sheet) (demand-share q totals) (supply-share q totals))
+    cond (eqb (q .round) 1)
+    (masked (on-shares amounts) (mask-share sheet) (side (q .search .which) (demand-share q totals) (supply-share q totals))
+    (side (q .search .which) (supply-share q totals) (demand-share q totals)))
     (cond (leb (q .round) 32)
     (both (left (on-shares bytes) (q .sum) (q .round) (bit-share sheet (q .round)) (triple-share sheet (q .round) 0))
     (right (on-shares bytes) (q .sum) (q .round) (q .carry) (triple-share sheet (q .round) 1)))

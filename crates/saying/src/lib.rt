@@ -8,11 +8,10 @@ mod sheet;
 use message::in_field;
 use message::message;
 use record::Party;
-use record::bracket;
 use record::sound;
 use refusal::Refusal;
-use search::limit;
-use search::over;
+use search::finished;
+use search::most_probes;
 pub use sheet::byte_share;
 pub use sheet::current;
 pub use sheet::triple_share;
@@ -38,11 +37,11 @@ pub fn turn(q: Party, totals: &[u64], sheets: &[u64], else_long: bool) -> Said
         return Said::Refused(Refusal::OutOfRange);
     }
     let prices = q.k as usize;
-    let most = limit(q.k) as usize;
+    let most = most_probes(q.k) as usize;
     if !((totals.len() == 2 * prices) & (sheets.len() == 127 * most) & else_long) {
         return Said::Refused(Refusal::WrongLength);
     }
-    if over(bracket(q)) {
+    if finished(q.search) {
         return Said::Refused(Refusal::OutOfTurn);
     }
     let sheet = current(q, sheets);

@@ -10,10 +10,10 @@ use fields::BitShare;
 use record::Party;
 
 pub fn current(q: Party, sheets: &[u64]) -> &[u64]
-    requires { ⌜ 127 * q .probes + 127 ≤ length (now sheets) ⌝ }
+    requires { ⌜ 127 * q .search .probes + 127 ≤ length (now sheets) ⌝ }
     ensures { λ r. ⌜ now r ≡ current q (now (sheets .entry)) ⌝ }
 {
-    let from = 127 * q.probes as usize;
+    let from = 127 * q.search.probes as usize;
     let to = from + 127;
     &sheets[from..to]
 }
@@ -29,10 +29,10 @@ pub fn byte_share(sheet: &[u64], at: u64) -> BitShare
 }
 
 // Alpha, beta and gamma of round i are 0, 1 and 2.
-pub fn triple_share(sheet: &[u64], i: u64, which: u64) -> BitShare
+pub fn triple_share(sheet: &[u64], i: u64, part: u64) -> BitShare
     requires { ⌜ (length (now sheet) ≡ 127) × (every (λ w. ltb w 256) (drop 1 (now sheet)) ≡ true)
-        × (2 ≤ i) × (i ≤ 32) × (which ≤ 2) ⌝ }
-    ensures { λ r. ⌜ r .0 ≡ triple-share (now (sheet .entry)) i which ⌝ }
+        × (2 ≤ i) × (i ≤ 32) × (part ≤ 2) ⌝ }
+    ensures { λ r. ⌜ r .0 ≡ triple-share (now (sheet .entry)) i part ⌝ }
 {
-    byte_share(sheet, 34 + 3 * (i - 2) + which)
+    byte_share(sheet, 34 + 3 * (i - 2) + part)
 }

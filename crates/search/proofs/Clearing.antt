@@ -1,24 +1,22 @@
--- The clearing answer: it is the report's price, and it alone tells every verdict. Assumes nothing.
+-- The clearing answer is the report's price. Assumes nothing.
 use mathlib.Core.Path.{_≡_}
-use mathlib.Core.Bool.{true, false, cond}
+use mathlib.Core.Bool.{true, false}
 use Prim.Native.Nat.{ℕ, _+_, _≤_, _<_}
 use native.Mathlib.Nat.{le-antisymm}
 use native.Mathlib.Decide.{decLe}
 use native.Mathlib.Omega.{arith}
 use borrow.Author.Tests.{leb-true, leb-false, le-leb}
-use lib.Dec.{leb}
-use Rattle.verdict.specs.Verdict.{verdict}
 use Rattle.search.specs.Clearing.{covered, clearing, Monotone}
-use Rattle.search.proofs.Highest.{highest-law, Ending, passes-by-highest}
+use Rattle.search.proofs.Highest.{highest-law, Ending}
 
 -- ---- at the answer demand is at least supply, and at no later index
 
 module _ (demand supply : ℕ → ℕ) (i : ℕ) where
-  covered-false : covered demand supply i ≡ false → demand i < supply i
+  pub covered-false : covered demand supply i ≡ false → demand i < supply i
   unfolding covered
   covered-false e = leb-false (supply i) (demand i) e
 
-  covered-true : covered demand supply i ≡ true → supply i ≤ demand i
+  pub covered-true : covered demand supply i ≡ true → supply i ≤ demand i
   unfolding covered
   covered-true e = leb-true (supply i) (demand i) e
 
@@ -38,6 +36,7 @@ module _ (demand supply : ℕ → ℕ) (k : ℕ) where
 -- ---- where demand never rises and supply never falls
 
 module _ {demand supply : ℕ → ℕ} {k : ℕ} (M : Monotone demand supply k) where
+  -- demand is at least supply up to an index
   pub covered-ends : Ending (covered demand supply) k
   unfolding covered
   covered-ends i j lo le hi e =
@@ -68,8 +67,3 @@ module _ {demand supply : ℕ → ℕ} {k : ℕ} (M : Monotone demand supply k) 
                   M .supply-rises (i + 1) (clearing demand supply k) (omega arith) (omega arith) (clearing-within demand supply k),
                 ))
           ]
-
-  -- a verdict is 1 exactly up to the answer
-  pub verdict-by-clearing : (i : ℕ) → 1 ≤ i → i ≤ k → verdict (demand i) (supply i) ≡ cond (leb i (clearing demand supply k)) 1 0
-  unfolding verdict covered clearing
-  verdict-by-clearing i lo hi = rw (passes-by-highest (covered demand supply) k i covered-ends lo hi)

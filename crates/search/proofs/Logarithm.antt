@@ -1,9 +1,11 @@
 -- The limit of a search is the base-2 logarithm of k + 1, rounded up. Assumes nothing.
-use mathlib.Core.Path.{_≡_, refl}
+use mathlib.Core.Path.{_≡_}
 use Prim.Native.Nat.{ℕ, zero, suc, _+_, _*_, _/_, _^_, _≤_, _<_}
-use native.Mathlib.Nat.{pow-suc, le-refl}
+use native.Mathlib.Nat.{pow-suc, pow-le-pow-right, le-refl}
+use native.Mathlib.Decide.{decLe}
 use native.Mathlib.Omega.{arith}
 use lib.Arith.{half-le}
+use lib.Count.{leadingZeros, leading-length}
 use Rattle.search.specs.Limit.{digits, limit}
 
 enough : (h n : ℕ) → n ≤ h → n < 2 ^ digits h n
@@ -33,17 +35,14 @@ pub limit-least : (k m : ℕ) → k + 1 ≤ 2 ^ m → limit k ≤ m
 unfolding limit
 limit-least k m le = fewest k k m (omega arith)
 
--- each halving takes one off
-pub limit-zero : limit 0 ≡ 0
-unfolding limit digits
-limit-zero = refl
-
-pub limit-half : (k : ℕ) → 0 < k → limit k ≡ limit (k / 2) + 1
-unfolding limit digits
-limit-half zero lt = omega arith
-limit-half (suc n) lt =
-    omega (
-      arith,
-      fewest n (suc n / 2) (digits (suc n / 2) (suc n / 2)) (enough (suc n / 2) (suc n / 2) (le-refl (suc n / 2))),
-      fewest (suc n / 2) (suc n / 2) (digits n (suc n / 2)) (enough n (suc n / 2) (half-le (le-refl (suc n)))),
-    )
+-- it is the number of binary digits of k, which with the zeros before them make 64
+pub limit-and-zeros : (k : ℕ) → k < 2 ^ 64 → leadingZeros 64 k + limit k ≡ 64
+limit-and-zeros k h =
+    let s = leading-length 64 k h in
+    elim (decLe (s .0) (limit k)) [
+      | yes le ↦ omega (arith, s .1, limit-least k (s .0) (omega (arith, s .2)))
+      | no gt ↦
+          let more : 2 ^ suc (limit k) ≤ 2 ^ s .0 = pow-le-pow-right {n = 2} (omega arith) (omega arith) in
+          let twice : 2 ^ limit k * 2 ≤ 2 ^ s .0 = rw pow-suc at more in
+          absurd (omega (arith, s .3, limit-law k))
+    ]

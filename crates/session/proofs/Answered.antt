@@ -4,12 +4,13 @@ use Rattle.refusal.specs.Refusal.{codeOf}
 use Rattle.refusal.specs.declared.Refusal.{Refusal}
 use Rattle.refusal.specs.declared.Judgement.{Judgement}
 use Rattle.refusal.specs.declared.Judgement.the-variants.{Accepted, Refused}
+use Rattle.search.specs.Searches.{price}
 use Rattle.record.specs.declared.Party.{Party}
 use Rattle.session.specs.declared.reply.Answer as answer-as
 use Rattle.session.specs.Answer.{answered, answer-number}
 
 module _ (judgement : Judgement) (q : Party) where
-  pub answered-accepted : judgement ≡ Accepted → answered judgement q ≡ answer-as.the-variants.Cleared (q .lo) (q .probes)
+  pub answered-accepted : judgement ≡ Accepted → answered judgement q ≡ answer-as.the-variants.Cleared (price (q .search)) (q .search .probes)
   unfolding answered
   answered-accepted e = rw e
 

@@ -46,7 +46,7 @@ pub record Adds (q : Party) (totals : List ℕ) (bidder : ℕ) (shares : List �
   pub totals-long : length totals ≡ 2 * q .k
   pub shares-long : length shares ≡ 2 * q .k
   -- before the first heard round
-  pub no-probes : q .probes ≡ 0
+  pub no-probes : q .search .probes ≡ 0
   pub first-round : q .round ≡ 1
   pub totals-below : AllBelow p totals
   pub shares-below : AllBelow p shares
@@ -75,7 +75,7 @@ module _ (q : Party) (totals : List ℕ) (bidder : ℕ) (shares : List ℕ) wher
         free = record { least = leb-true _ _ (b .0); most = leb-true _ _ (b .1); new = entry .0 };
         totals-long = eqb-true _ _ (l .0);
         shares-long = eqb-true _ _ (l .1);
-        no-probes = omega (arith, ltb-false 0 (q .probes) (t .0));
+        no-probes = omega (arith, ltb-false 0 (q .search .probes) (t .0));
         first-round = omega (arith, ltb-false 1 (q .round) (t .1), s .round-least);
         totals-below = all-below p totals (f .0);
         shares-below = all-below p shares (f .1);
@@ -90,7 +90,7 @@ module _ (q : Party) (totals : List ℕ) (bidder : ℕ) (shares : List ℕ) wher
         le-leb bidder 1000 (h .free .most),
         eq-eqb (length totals) (2 * q .k) (h .totals-long),
         eq-eqb (length shares) (2 * q .k) (h .shares-long),
-        le-ltb 0 (q .probes) (omega (arith, h .no-probes)),
+        le-ltb 0 (q .search .probes) (omega (arith, h .no-probes)),
         le-ltb 1 (q .round) (omega (arith, h .first-round)),
         h .free .new,
         is-below p totals (h .totals-below),

@@ -18,7 +18,7 @@ use Rattle.record.specs.Updates.{entered}
 
 -- "after the first heard round (probes done above 0 or round above 1)"
 abbrev pub begun : Party → Bool
-begun q = ltb 0 (q .probes) || ltb 1 (q .round)
+begun q = ltb 0 (q .search .probes) || ltb 1 (q .round)
 
 abbrev pub amounts-below : List ℕ → Bool
 amounts-below words = every (λ w. ltb w p) words

@@ -1,4 +1,4 @@
--- Asking for the answer: "Its answer is lo, 0 meaning no price, with the number of probes made". Assumes nothing.
+-- Asking for the answer: the price index, "0 meaning no price, with the number of probes made". Assumes nothing.
 use mathlib.Core.Bool.{not}
 use mathlib.Core.List.{[], _∷_}
 use Prim.Native.Nat.{ℕ}
@@ -7,17 +7,17 @@ use Rattle.refusal.specs.Judging.{_⇒_, judged}
 use Rattle.refusal.specs.declared.Judgement.{Judgement}
 use Rattle.refusal.specs.declared.Judgement.the-variants as judgement
 use Rattle.refusal.specs.declared.Refusal.the-variants.{OutOfRange, OutOfTurn}
-use Rattle.search.specs.Bracket.{over}
+use Rattle.search.specs.Searches.{finished, price}
 use Rattle.record.specs.declared.Party.{Party}
 use Rattle.session.specs.declared.reply.Answer.{Answer}
 use Rattle.session.specs.declared.reply.Answer.the-variants.{Cleared, Refused}
-use Rattle.record.specs.Record.{bracket, sound}
+use Rattle.record.specs.Record.{sound}
 
 unfoldable pub answer-judgement : Party → Judgement
-answer-judgement q = judged ((not (sound q) ⇒ OutOfRange) ∷ (not (over (bracket q)) ⇒ OutOfTurn) ∷ [])
+answer-judgement q = judged ((not (sound q) ⇒ OutOfRange) ∷ (not (finished (q .search)) ⇒ OutOfTurn) ∷ [])
 
 unfoldable pub answered : Judgement → Party → Answer
-answered judgement.Accepted q = Cleared (q .lo) (q .probes)
+answered judgement.Accepted q = Cleared (price (q .search)) (q .search .probes)
 answered (judgement.Refused why) q = Refused why
 
 abbrev pub answer-reply : Party → Answer

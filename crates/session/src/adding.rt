@@ -43,7 +43,7 @@ fn judge(q: Party, totals: &[u64], bidder: u64, shares: &[u64]) -> Judgement
     if !((totals.len() == words) & (shares.len() == words)) {
         return Judgement::Refused(Refusal::WrongLength);
     }
-    if (0 < q.probes) | (1 < q.round) {
+    if (0 < q.search.probes) | (1 < q.round) {
         return Judgement::Refused(Refusal::OutOfTurn);
     }
     let roll = q.roll;

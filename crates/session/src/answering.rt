@@ -3,10 +3,10 @@ ghost use mathlib.Core.Path.{_≡_};
 ghost use Rattle.session.specs.Answer.{answer-reply};
 use crate::reply::Answer;
 use record::Party;
-use record::bracket;
 use record::sound;
 use refusal::Refusal;
-use search::over;
+use search::finished;
+use search::price;
 
 pub fn answer(q: Party) -> Answer
     ensures { λ r. ⌜ r ≡ answer-reply q ⌝ }
@@ -14,8 +14,9 @@ pub fn answer(q: Party) -> Answer
     if !sound(q) {
         return Answer::Refused(Refusal::OutOfRange);
     }
-    if !over(bracket(q)) {
+    let s = q.search;
+    if !finished(s) {
         return Answer::Refused(Refusal::OutOfTurn);
     }
-    Answer::Cleared(q.lo, q.probes)
+    Answer::Cleared(price(s), s.probes)
 }

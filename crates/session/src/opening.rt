@@ -10,6 +10,8 @@ use record::blank;
 use record::refused;
 use refusal::Refusal;
 use roll::Roll;
+use search::Bracket;
+use search::Search;
 
 // Zeroes the totals and gives the record that the session starts with.
 pub fn open(n: u64, own: u64, k: u64, totals: &mut [u64]) -> Reply
@@ -29,9 +31,13 @@ pub fn open(n: u64, own: u64, k: u64, totals: &mut [u64]) -> Reply
         own,
         k,
         bids: 0,
-        lo: 0,
-        hi,
-        probes: 0,
+        search: Search {
+            which: 1,
+            bracket: Bracket { lo: 0, hi },
+            probes: 0,
+            first: 0,
+            spent: 0,
+        },
         round: 1,
         sum: 0,
         carry: 0,

@@ -1,7 +1,7 @@
 // What asking replies.
 use refusal::Refusal;
 
-// The clearing index, 0 for no price, and how many probes were made.
+// The price index, 0 for no price, and how many probes were made.
 pub enum Answer {
     Cleared(u64, u64),
     Refused(Refusal),

@@ -7,15 +7,15 @@ use native.Mathlib.Omega.{arith}
 use lib.ListN.{getD}
 use Rattle.ranges.specs.Lists.{from}
 use Rattle.sharing.specs.Scheme.{points}
-use Rattle.search.specs.Limit.{limit}
-use Rattle.search.specs.declared.Bracket.{Bracket}
-use Rattle.search.specs.Bracket.{middle, step}
+use Rattle.search.specs.Limit.{most-probes}
+use Rattle.search.specs.declared.searches.Search.{Search}
+use Rattle.search.specs.Searches.{next}
 use Rattle.comparison.specs.Probe.{SheetCoins, Probe}
 use Rattle.record.specs.declared.Party.{Party}
 use Rattle.auction.specs.Auction.{Auction, IsAuction}
 use Rattle.auction.specs.Coins.{Coins, InRange}
 use Rattle.auction.specs.Canonical.{word-by, after-hearing}
-use Rattle.auction.proofs.Closed.{polynomials, probe-at, Stage, fresh-stage}
+use Rattle.auction.proofs.Closed.{polynomials, probe-of, Stage, fresh-stage}
 use Rattle.auction.proofs.Step.{Step}
 use Rattle.auction.proofs.Round.{Ready, stage-of, words-at, first-step, product-step, last-step}
 use Rattle.record.specs.Record.{blank}
@@ -47,23 +47,23 @@ module _ (a : Auction) (c : Coins) (σ τ : Stage) (w : ℕ → ℕ) (S : Step a
       → Stands a c τ after totals sheets
   unfolding heard-by after-hearing
   round-stands after e i h =
-      ap (λ (q : Party). record { party = q; totals = part (2 * a .k) i totals; sheets = part (127 * limit (a .k)) i sheets })
+      ap (λ (q : Party). record { party = q; totals = part (2 * a .k) i totals; sheets = part (127 * most-probes (a .k)) i sheets })
       (e i h ∙ ap (λ (x : List ℕ). heard-by (a .k) parties totals sheets x i) words-said)
       ∙ ap (after-hearing a c (map w (points (a .n)))) (H i h)
       ∙ S .next (i + 1) (omega arith) (omega arith)
 
 -- ---- the rounds of a probe
 
-module _ (a : Auction) (c : Coins) (A : IsAuction a) (C : InRange a c) (b : Bracket) (m : ℕ) (s : SheetCoins)
-    (ss : List SheetCoins) (R : Ready a c b m s ss) where
+module _ (a : Auction) (c : Coins) (A : IsAuction a) (C : InRange a c) (here : Search) (s : SheetCoins)
+    (ss : List SheetCoins) (R : Ready a c here s ss) where
   abbrev q : Probe
-  q = probe-at a (polynomials a c) (middle b) s
+  q = probe-of a (polynomials a c) here s
 
   -- rounds 1 to 32
-  pub step-at : (i : ℕ) → i < 32 → Step a c (stage-of b m q i) (stage-of b m q (i + 1)) (words-at q i)
-  step-at zero h = first-step a c A C b m s ss R
-  step-at (suc i) h = rw (add-one (suc i)) (product-step a c A C b m s ss R i (omega arith))
+  pub step-at : (i : ℕ) → i < 32 → Step a c (stage-of here q i) (stage-of here q (i + 1)) (words-at q i)
+  step-at zero h = first-step a c A C here s ss R
+  step-at (suc i) h = rw (add-one (suc i)) (product-step a c A C here s ss R i (omega arith))
 
   -- round 33
-  pub step-last : Step a c (stage-of b m q 32) (fresh-stage (step b (verdict-at a c b s)) (suc m)) (words-at q 32)
-  step-last = last-step a c A C b m s ss R
+  pub step-last : Step a c (stage-of here q 32) (fresh-stage (next here (verdict-at a c here s))) (words-at q 32)
+  step-last = last-step a c A C here s ss R

@@ -1,12 +1,12 @@
 -- Where the parties stand in an auction: their records and flat slices against the closed forms of its run. Assumes nothing.
 use mathlib.Core.Path.{_≡_}
 use mathlib.Core.List.{List, zip}
-use Prim.Native.Nat.{ℕ, suc, _+_, _*_}
+use Prim.Native.Nat.{ℕ, _+_, _*_}
 use lib.ListN.{getD}
 use Rattle.sharing.specs.Scheme.{threshold}
-use Rattle.search.specs.Limit.{limit}
-use Rattle.search.specs.declared.Bracket.{Bracket}
-use Rattle.search.specs.Bracket.{start, middle, step}
+use Rattle.search.specs.Limit.{most-probes}
+use Rattle.search.specs.declared.searches.Search.{Search}
+use Rattle.search.specs.Searches.{first-search, next}
 use Rattle.comparison.specs.Probe.{SheetCoins, secret, last-polynomial}
 use Rattle.record.specs.declared.Party.{Party}
 use Rattle.roll.specs.declared.Roll.{Roll}
@@ -14,7 +14,7 @@ use Rattle.roll.specs.Marks.{empty}
 use Rattle.auction.specs.Auction.{Auction, Bid, IsAuction}
 use Rattle.auction.specs.Coins.{Coins, InRange}
 use Rattle.auction.specs.Canonical.{Seat}
-use Rattle.auction.proofs.Closed.{totals-after, at-party, no-totals, polynomials, full-roll, probe-at, Stage, fresh-stage, seat}
+use Rattle.auction.proofs.Closed.{totals-after, at-party, no-totals, polynomials, full-roll, probe-of, Stage, fresh-stage, seat}
 use Rattle.auction.proofs.Bidding.{holding}
 use Rattle.auction.proofs.Round.{Ready}
 use Rattle.draws.specs.Draws.{bid-coins}
@@ -26,30 +26,30 @@ use Rattle.standing.specs.Numbered.{numbered}
 -- what the party after i others has
 abbrev pub seat-of : (k : ℕ) → List Party → (totals sheets : List ℕ) → ℕ → Seat
 seat-of k parties totals sheets i =
-    record { party = getD parties i blank; totals = part (2 * k) i totals; sheets = part (127 * limit k) i sheets }
+    record { party = getD parties i blank; totals = part (2 * k) i totals; sheets = part (127 * most-probes k) i sheets }
 
 -- all parties stand at a stage
 abbrev pub Stands : (a : Auction) → Coins → Stage → List Party → (totals sheets : List ℕ) → Type 0
 Stands a c σ parties totals sheets = All (a .n) (λ i. seat-of (a .k) parties totals sheets i ≡ seat a c σ (i + 1))
 
 -- the verdict of a probe
-abbrev pub verdict-at : (a : Auction) → Coins → Bracket → SheetCoins → ℕ
-verdict-at a c b s = secret (last-polynomial (probe-at a (polynomials a c) (middle b) s))
+abbrev pub verdict-at : (a : Auction) → Coins → Search → SheetCoins → ℕ
+verdict-at a c here s = secret (last-polynomial (probe-of a (polynomials a c) here s))
 
 -- 33 rounds are a probe of every auction in which the parties may stand
 abbrev pub Probes : (n k : ℕ) → List Party → (totals sheets : List ℕ) → List Party → Type 0
 Probes n k parties totals sheets after =
     (bids : List Bid) (c : Coins) → IsAuction (record { n = n; k = k; bids = bids }) → InRange (record { n = n; k = k; bids = bids }) c
-    → (b : Bracket) (m : ℕ) (s : SheetCoins) (ss : List SheetCoins) → Ready (record { n = n; k = k; bids = bids }) c b m s ss
-    → Stands (record { n = n; k = k; bids = bids }) c (fresh-stage b m) parties totals sheets
+    → (here : Search) (s : SheetCoins) (ss : List SheetCoins) → Ready (record { n = n; k = k; bids = bids }) c here s ss
+    → Stands (record { n = n; k = k; bids = bids }) c (fresh-stage here) parties totals sheets
     → Stands (record { n = n; k = k; bids = bids }) c
-    (fresh-stage (step b (verdict-at (record { n = n; k = k; bids = bids }) c b s)) (suc m)) after totals sheets
+    (fresh-stage (next here (verdict-at (record { n = n; k = k; bids = bids }) c here s))) after totals sheets
 
 -- what holds of every auction in which the parties may stand at the start
 abbrev pub FromStart : (n k : ℕ) → List Party → (totals sheets : List ℕ) → (Auction → Type 0) → Type 0
 FromStart n k parties totals sheets P =
     (bids : List Bid) (c : Coins) → IsAuction (record { n = n; k = k; bids = bids }) → InRange (record { n = n; k = k; bids = bids }) c
-    → Stands (record { n = n; k = k; bids = bids }) c (fresh-stage (start k) 0) parties totals sheets → P (record { n = n; k = k; bids = bids })
+    → Stands (record { n = n; k = k; bids = bids }) c (fresh-stage (first-search k)) parties totals sheets → P (record { n = n; k = k; bids = bids })
 
 -- ---- the bids
 

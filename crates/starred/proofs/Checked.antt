@@ -17,8 +17,9 @@ use Rattle.weights.specs.Rows.{amount-scheme}
 use Rattle.weights.specs.Products.{products}
 use Rattle.openings.specs.Opening.{total, moments, readable, settled, opened}
 use Rattle.openings.specs.declared.opening.Opening.the-variants.{Inconsistent}
-use Rattle.search.specs.Bracket.{middle, over}
-use Rattle.search.specs.Limit.{digits, limit}
+use Rattle.search.specs.Bracket.{start, middle, over}
+use Rattle.search.specs.Limit.{digits, limit, most-probes}
+use Rattle.search.specs.Searches.{side, first-search, finished}
 use Rattle.verdict.specs.Verdict.{verdict}
 use Rattle.comparison.specs.Rounds.{offset, masked}
 use Rattle.comparison.specs.Probe.{Probe}
@@ -62,8 +63,8 @@ listed-one : party 5 1 && listed 1 ≡ true
 unfolding party listed
 listed-one = refl
 
-said : say-reply (fresh 5 1 1) (0 ∷ 0 ∷ []) ((offset - 12) ∷ replicate 126 0) ≡ Message 12
-unfolding turn-judgement judged saying.said fresh limit digits over middle current in-field every message masked
+said : say-reply (fresh 5 1 1) (0 ∷ 0 ∷ []) ((offset - 12) ∷ replicate 253 0) ≡ Message 12
+unfolding turn-judgement judged saying.said fresh first-search start most-probes limit digits finished over middle current in-field every message side masked
 said = rw (sound-of (fresh 5 1 1) (fresh-sound 5 1 1 (on-list 5 1 1 listed-one)))
 
 -- ---- comparisons

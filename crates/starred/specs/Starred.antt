@@ -46,7 +46,7 @@ pub record Starred : Type 0 where
   pub five-refused : (q : Party) (totals sheets : List ℕ) → q .n ≡ 5 → q .round ≡ 1
       → say-reply q totals sheets ≡ Message (getD with-73 (q .own - 1) 0) → codeOf (hear-judgement q totals sheets with-73) ≡ 10
   -- as the first does where the mask's share is 2^59 + 2^32 - 12 and nothing is bid
-  pub five-said : say-reply (fresh 5 1 1) (0 ∷ 0 ∷ []) ((offset - 12) ∷ replicate 126 0) ≡ Message 12
+  pub five-said : say-reply (fresh 5 1 1) (0 ∷ 0 ∷ []) ((offset - 12) ∷ replicate 253 0) ≡ Message 12
   -- "n = 3, secret 0, coefficient p - 1: p - 1, p - 2, p - 3."
   pub three-shares : shares amounts (0 ∷ (p - 1) ∷ []) (points 3) ≡ (p - 1) ∷ (p - 2) ∷ (p - 3) ∷ []
   -- "byte secret 01h, coefficient 80h, n = 3: 81h, 1Ah, 9Ah."

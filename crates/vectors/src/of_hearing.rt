@@ -1,13 +1,17 @@
 // Hearing: the second of three parties in a session of one bid, bidder 1,000's, with demand 5 and
-// supply 3, and one price, with a mask of 7. Three calls are accepted, those of rounds 1, 2 and 33,
-// and every other one changes one of them. A call prints its refusal's number, or 0.
-ghost use Prim.Native.Nat.{_<_};
+// supply 3, and one price, with masks of 7 and 9. Of the first search three calls are accepted, those
+// of rounds 1, 2 and 33, and of the second those of rounds 1 and 33; every other call changes one of
+// them. A call prints its refusal's number, or 0.
+ghost use mathlib.Core.Path.{_≡_};
+ghost use Prim.Native.Nat.{_≤_, _<_};
+ghost use lib.ListN.{length};
 use crate::line;
 use fields::P;
 use record::Party;
 use roll::Roll;
 use worked_party::code;
 use worked_party::record;
+use worked_party::searches;
 use worked_shares::fill;
 
 // 2^59 + 2^32 - 7 + 5 - 3.
@@ -20,8 +24,17 @@ const WORDS_2: [u64; 3] = [49658, 40324, 43438];
 
 const WORDS_33: [u64; 3] = [17, 33, 49];
 
+// Those of the second search, whose sum is 2^59 + 2^32 - 9 + 3 - 5.
+const EXCHANGED_SUM: u64 = (1 << 59) + (1 << 32) - 11;
+
+const EXCHANGED_1: [u64; 3] = [576460756598391760, 576460756598392747, 576460756598393734];
+
+const EXCHANGED_33: [u64; 3] = [34, 68, 102];
+
 pub(crate) fn print() {
     accepted();
+    seconds();
+    sides();
     records();
     rolls();
     lengths();
@@ -50,9 +63,7 @@ fn at_round(round: u64, sum: u64, carry: u64) -> Party {
         own: 2,
         k: 1,
         bids: 1,
-        lo: 0,
-        hi: 2,
-        probes: 0,
+        search: searches(1, 0, 2, 0, 0, 0),
         round,
         sum,
         carry,
@@ -60,6 +71,15 @@ fn at_round(round: u64, sum: u64, carry: u64) -> Party {
     }
 }
 
+// The first search gave 1 in one probe, and the second probes the same index.
+fn exchanged(q: Party) -> Party {
+    let mut next = q;
+    next.search = searches(2, 0, 2, 1, 1, 1);
+    next
+}
+
+// The verdict 1 ends the first search with 1, and the second begins. The verdict 0 ends it with 0, and
+// with it the session.
 fn accepted() {
     line::title(b"heard, round 1:");
     heard(first(), &WORDS_1);
@@ -72,18 +92,55 @@ fn accepted() {
     line::title(b"heard, round 33:");
     heard(last(), &WORDS_33);
     line::end();
+
+    line::title(b"heard, verdict 0:");
+    heard(last(), &[157, 33, 188]);
+    line::end();
 }
 
-// A party's number out of its range, with a message missing; and a session that is over.
+// Of the second search the verdict is 0, which moves lo; a 1 moves hi.
+fn seconds() {
+    line::title(b"heard, second search, round 1:");
+    heard(exchanged(first()), &EXCHANGED_1);
+    line::end();
+
+    line::title(b"heard, second search, round 33:");
+    let q = exchanged(at_round(33, EXCHANGED_SUM, 14));
+    heard(q, &EXCHANGED_33);
+    line::end();
+
+    line::title(b"heard, second search, verdict 1:");
+    heard(q, &[174, 68, 235]);
+    line::end();
+}
+
+// In the first search the words of exchanged sides; in the second the same, which are of the first
+// sheet, and the words of sides that are not exchanged.
+fn sides() {
+    line::title(b"hear sides:");
+    let words = [576460756598391764, 576460756598392753, 576460756598393742];
+    hears(first(), &words);
+    hears(exchanged(first()), &words);
+    hears(
+        exchanged(first()),
+        &[576460756598389764, 576460756598388751, 576460756598387738],
+    );
+    line::end();
+}
+
+// A party's number out of its range, with a message missing; a first search that has ended; and a
+// session that is over.
 fn records() {
     line::title(b"hear records:");
     let mut q = first();
     q.own = 4;
     hears(q, &[576460756598389768, 576460756598388757]);
     q = first();
-    q.lo = 1;
-    q.probes = 1;
+    q.search.bracket.lo = 1;
     hears(q, &WORDS_1);
+    q = exchanged(first());
+    q.search.bracket.lo = 1;
+    hears(q, &EXCHANGED_1);
     line::end();
 }
 
@@ -108,6 +165,7 @@ fn enrolled(roll: Roll) {
     hears(q, &WORDS_1);
 }
 
+// Messages, totals and sheets, each one short and one long; and the sheets of one search.
 fn lengths() {
     line::title(b"hear lengths:");
     hears(first(), &[576460756598389768, 576460756598388757]);
@@ -122,14 +180,17 @@ fn lengths() {
     );
     of_totals(first(), &[2005], &WORDS_1);
     of_totals(first(), &[2005, 4003, 0], &WORDS_1);
-    let short = [0u64; 126];
+    let short = [0u64; 253];
     call(first(), &[2005, 4003], &short, &WORDS_1);
-    let long = [0u64; 128];
+    let long = [0u64; 255];
     call(first(), &[2005, 4003], &long, &WORDS_1);
+    let one = [0u64; 127];
+    call(first(), &[2005, 4003], &one, &WORDS_1);
     line::end();
 }
 
-// A share of p in the totals or for the mask, or a byte's of 256. Round 2 uses no total.
+// A share of p in the totals or for the mask, or a byte's of 256. Round 2 uses no total. The last two
+// have it for the second sheet's mask: that sheet is current in the second search.
 fn shares() {
     line::title(b"hear shares:");
     of_totals(first(), &[P, 4003], &WORDS_1);
@@ -139,6 +200,8 @@ fn shares() {
     of_sheet(first(), 1, 256, &WORDS_1);
     of_sheet(first(), 126, 256, &WORDS_1);
     of_sheet(second(), 0, P, &WORDS_2);
+    of_sheet(first(), 127, P, &WORDS_1);
+    of_sheet(exchanged(first()), 127, P, &EXCHANGED_1);
     line::end();
 }
 
@@ -213,8 +276,8 @@ fn verdicts() {
 }
 
 fn heard(q: Party, messages: &[u64]) {
-    let sheet = dealt();
-    record(hearing::hear(q, &[2005, 4003], &sheet, messages));
+    let sheets = dealt();
+    record(hearing::hear(q, &[2005, 4003], &sheets, messages));
 }
 
 fn hears(q: Party, messages: &[u64]) {
@@ -222,28 +285,36 @@ fn hears(q: Party, messages: &[u64]) {
 }
 
 fn of_totals(q: Party, totals: &[u64], messages: &[u64]) {
-    let sheet = dealt();
-    call(q, totals, &sheet, messages);
+    let sheets = dealt();
+    call(q, totals, &sheets, messages);
 }
 
-// One word of the sheet is another one.
+// One word of the sheets is another one.
 fn of_sheet(q: Party, at: usize, word: u64, messages: &[u64])
-    requires { ⌜ at < 127 ⌝ }
+    requires { ⌜ at < 254 ⌝ }
 {
-    let mut sheet = dealt();
-    sheet[at] = word;
-    call(q, &[2005, 4003], &sheet, messages);
+    let mut sheets = dealt();
+    sheets[at] = word;
+    call(q, &[2005, 4003], &sheets, messages);
 }
 
 fn call(q: Party, totals: &[u64], sheets: &[u64], messages: &[u64]) {
     line::number(code(hearing::hear(q, totals, sheets, messages)));
 }
 
-// Party 2's sheet. It was dealt with bytes that follow a rule.
-fn dealt() -> [u64; 127] {
+// Party 2's sheets, each dealt with bytes that follow a rule.
+fn dealt() -> [u64; 254] {
+    let mut sheets = [0u64; 254];
+    deal(&[7, 11], 37, 11, &mut sheets, 0);
+    deal(&[9, 13], 41, 5, &mut sheets, 127);
+    sheets
+}
+
+fn deal(words: &[u64], step: u8, start: u8, sheets: &mut [u64], at: usize)
+    requires { ⌜ (at ≤ 127) × (length (now sheets) ≡ 254) ⌝ }
+{
     let mut bytes = [0u8; 188];
-    fill(&mut bytes, 37, 11);
-    let mut sheet = [0u64; 127];
-    let _ = dealer::deal(3, 2, &[7, 11], &bytes, &mut sheet);
-    sheet
+    fill(&mut bytes, step, start);
+    let to = at + 127;
+    let _ = dealer::deal(3, 2, words, &bytes, &mut sheets[at..to]);
 }

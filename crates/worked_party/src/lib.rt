@@ -3,8 +3,10 @@ mod line;
 mod of_adding;
 mod of_bidders;
 mod of_party;
+mod of_searches;
 mod records;
 
 pub use of_party::print;
 pub use records::code;
 pub use records::record;
+pub use records::searches;

@@ -6,6 +6,8 @@ use crate::records::code;
 use crate::records::fresh;
 use crate::records::holding;
 use crate::records::party;
+use crate::records::searches;
+use crate::records::second;
 use crate::records::two;
 use fields::P;
 use record::Party;
@@ -27,8 +29,8 @@ pub(crate) fn print() {
     order();
 }
 
-// A record with one field out of its range. The first has none, and the last two hold the greatest
-// sum and the greatest carry.
+// A record with one field out of its range, or a first search that has ended. The first has none of
+// this, and the last two hold the greatest sum and the greatest carry.
 fn records() {
     line::title(b"add records:");
     let good = fresh();
@@ -46,10 +48,13 @@ fn records() {
     q.bids = 1;
     adds(q, 7);
     q = good;
-    q.lo = 2;
+    q.search.bracket.lo = 2;
     adds(q, 7);
     q = good;
-    q.hi = 3;
+    q.search.bracket.lo = 1;
+    adds(q, 7);
+    q = good;
+    q.search.bracket.hi = 3;
     adds(q, 7);
     q = good;
     q.round = 0;
@@ -64,10 +69,10 @@ fn records() {
     q.carry = 256;
     adds(q, 7);
     q = good;
-    q.probes = 2;
+    q.search.probes = 2;
     adds(q, 7);
     q = good;
-    q.probes = 1;
+    q.search.probes = 1;
     adds(q, 7);
     q = good;
     q.sum = SUMS - 1;
@@ -88,16 +93,18 @@ fn lengths() {
     line::end();
 }
 
-// A bid comes before the first heard round, be it heard in this probe or in an earlier one.
+// A bid comes before the first heard round, be it heard in this probe or in an earlier one. Where no
+// round was heard it is taken in the second search too, and even when that is over.
 fn turns() {
     line::title(b"add turns:");
     let mut q = fresh();
     q.round = 2;
     adds(q, 7);
-    q = fresh();
-    q.lo = 1;
+    q = second(0, 2, 1);
     adds(q, 7);
-    q.probes = 1;
+    q.search = searches(2, 0, 2, 0, 1, 0);
+    adds(q, 7);
+    q.search = searches(2, 0, 1, 0, 1, 0);
     adds(q, 7);
     line::end();
 }

@@ -4,16 +4,19 @@ ghost use Prim.Native.Nat.{_≤_, _<_};
 use crate::line;
 use crate::of_adding;
 use crate::of_bidders;
+use crate::of_searches;
+use crate::records::answer;
 use crate::records::code;
 use crate::records::fresh;
 use crate::records::holding;
 use crate::records::record;
+use crate::records::searches;
+use crate::records::second;
 use crate::records::two;
 use fields::P;
 use record::Party;
 use roll::Roll;
 use saying::Said;
-use session::Answer;
 
 pub fn print() {
     open_accepted();
@@ -22,10 +25,12 @@ pub fn print() {
     of_adding::print();
     of_bidders::print();
     say_words();
+    say_seconds();
     say_refusals();
     say_sheets();
     say_totals();
     answers();
+    of_searches::print();
 }
 
 fn open_accepted() {
@@ -71,11 +76,11 @@ fn opens(n: u64, own: u64, k: u64, count: usize)
 // The words of rounds 1, 2 and 33, then of a second probe's round 1, which takes the second sheet.
 fn say_words() {
     line::title(b"said:");
-    let mut sheet = [0u64; 127];
-    sheet[0] = 7;
-    said(fresh(), &[5, 3], &sheet);
+    let mut sheets = [0u64; 254];
+    sheets[0] = 7;
+    said(fresh(), &[5, 3], &sheets);
 
-    let mut worked = [0u64; 127];
+    let mut worked = [0u64; 254];
     worked[2] = 4;
     worked[33] = 4;
     worked[34] = 8;
@@ -90,34 +95,56 @@ fn say_words() {
     q.carry = 8;
     said(q, &[5, 3], &worked);
 
-    let mut two = [0u64; 254];
-    two[0] = 100;
-    two[127] = 7;
+    let mut four = [0u64; 508];
+    four[0] = 100;
+    four[127] = 7;
     let mut later = fresh();
     later.k = 2;
-    later.lo = 1;
-    later.hi = 3;
-    later.probes = 1;
-    said(later, &[5, 5, 3, 3], &two);
+    later.search = searches(1, 1, 3, 1, 0, 0);
+    said(later, &[5, 5, 3, 3], &four);
     line::end();
 }
 
-// A record out of its range, a bid more than there are marks, a bid fewer, lengths, and a session
-// that is over.
+// Round 1 of the second search has the sides exchanged: supply 3 against demand 5 with a mask of 7,
+// and the paper's 0 against 2^32 - 1 with a mask of 2^58 - 1. Its sheets follow those of the first:
+// of two prices the last probe takes the fourth, here at index 2.
+fn say_seconds() {
+    line::title(b"said in the second search:");
+    let mut sheets = [0u64; 254];
+    sheets[0] = 100;
+    sheets[127] = 7;
+    said(second(0, 2, 1), &[5, 3], &sheets);
+    sheets[127] = (1 << 58) - 1;
+    said(second(0, 2, 1), &[(1 << 32) - 1, 0], &sheets);
+
+    let mut four = [0u64; 508];
+    four[254] = 100;
+    four[381] = 7;
+    let mut last = fresh();
+    last.k = 2;
+    last.search = searches(2, 1, 3, 3, 2, 2);
+    said(last, &[9, 5, 1, 3], &four);
+    line::end();
+}
+
+// A record out of its range, a first search that has ended, a bid more than there are marks, a bid
+// fewer, lengths, the last being one search's sheets, and a session that is over.
 fn say_refusals() {
     line::title(b"say refusals:");
     let mut q = fresh();
     q.round = 34;
-    says(q, 2, 127);
-    says(holding(1, Roll::empty()), 2, 127);
-    says(holding(1, two()), 2, 127);
-    says(fresh(), 1, 127);
-    says(fresh(), 3, 127);
-    says(fresh(), 2, 126);
-    says(fresh(), 2, 128);
+    says(q, 2, 254);
     q = fresh();
-    q.lo = 1;
-    says(q, 2, 127);
+    q.search.bracket.lo = 1;
+    says(q, 2, 254);
+    says(holding(1, Roll::empty()), 2, 254);
+    says(holding(1, two()), 2, 254);
+    says(fresh(), 1, 254);
+    says(fresh(), 3, 254);
+    says(fresh(), 2, 253);
+    says(fresh(), 2, 255);
+    says(fresh(), 2, 127);
+    says(second(0, 1, 2), 2, 254);
     line::end();
 }
 
@@ -145,27 +172,27 @@ fn say_totals() {
     line::end();
 }
 
-// Totals with a sheet of 0.
+// Totals with sheets of 0.
 fn says_totals(q: Party, demand: u64, supply: u64) {
-    let sheet = [0u64; 127];
-    said_code(q, &[demand, supply], &sheet);
+    let sheets = [0u64; 254];
+    said_code(q, &[demand, supply], &sheets);
 }
 
-// A sheet that is 0 but for one word.
+// Sheets that are 0 but for one word of the first.
 fn says_with(at: usize, word: u64)
     requires { ⌜ at < 127 ⌝ }
 {
-    let mut sheet = [0u64; 127];
-    sheet[at] = word;
-    said_code(fresh(), &[5, 3], &sheet);
+    let mut sheets = [0u64; 254];
+    sheets[at] = word;
+    said_code(fresh(), &[5, 3], &sheets);
 }
 
 // So many words of totals, and so many words of 0 as sheets.
 fn says(q: Party, held: usize, lent: usize)
-    requires { ⌜ (held ≤ 3) × (lent ≤ 128) ⌝ }
+    requires { ⌜ (held ≤ 3) × (lent ≤ 255) ⌝ }
 {
     let totals = [5, 3, 0];
-    let sheets = [0u64; 128];
+    let sheets = [0u64; 255];
     said_code(q, &totals[..held], &sheets[..lent]);
 }
 
@@ -188,33 +215,17 @@ fn said(q: Party, totals: &[u64], sheets: &[u64]) {
 fn answers() {
     line::title(b"answers:");
     let mut q = fresh();
-    q.hi = 3;
+    q.search.bracket.hi = 3;
     answer(q);
     answer(fresh());
-    q = fresh();
-    q.hi = 1;
-    q.probes = 1;
+    q.search = searches(2, 0, 1, 1, 0, 1);
     answer(q);
     q = holding(2, two());
-    q.lo = 1;
-    q.probes = 1;
+    q.search = searches(2, 0, 1, 2, 1, 1);
     answer(q);
     q.bids = 3;
     answer(q);
     q.bids = 1;
     answer(q);
     line::end();
-}
-
-fn answer(q: Party) {
-    match session::answer(q) {
-        Answer::Cleared(index, probes) => {
-            line::number(index);
-            line::number(probes);
-        }
-        Answer::Refused(why) => {
-            line::word(b"refused");
-            line::number(refusal::number(why));
-        }
-    }
 }

@@ -4,6 +4,9 @@ use record::Party;
 use record::Reply;
 use refusal::Judgement;
 use roll::Roll;
+use search::Bracket;
+use search::Search;
+use session::Answer;
 
 // Nothing is heard, and nobody is in.
 pub(crate) fn fresh() -> Party {
@@ -17,13 +20,29 @@ pub(crate) fn holding(bids: u64, roll: Roll) -> Party {
         own: 1,
         k: 1,
         bids,
-        lo: 0,
-        hi: 2,
-        probes: 0,
+        search: searches(1, 0, 2, 0, 0, 0),
         round: 1,
         sum: 0,
         carry: 0,
         roll,
+    }
+}
+
+// Nobody is in, and the second search is on after a first that gave 1 in one probe.
+pub(crate) fn second(lo: u64, hi: u64, probes: u64) -> Party {
+    let mut q = fresh();
+    q.search = searches(2, lo, hi, probes, 1, 1);
+    q
+}
+
+// Which one is on, its ends, the probes done, what the first gave and its probes.
+pub fn searches(which: u64, lo: u64, hi: u64, probes: u64, first: u64, spent: u64) -> Search {
+    Search {
+        which,
+        bracket: Bracket { lo, hi },
+        probes,
+        first,
+        spent,
     }
 }
 
@@ -47,19 +66,37 @@ pub fn record(reply: Reply) {
     }
 }
 
-// Its ten numbers and the 16 words of its roll.
+// The index and the probes.
+pub(crate) fn answer(q: Party) {
+    match session::answer(q) {
+        Answer::Cleared(index, probes) => {
+            line::number(index);
+            line::number(probes);
+        }
+        Answer::Refused(why) => {
+            line::word(b"refused");
+            line::number(refusal::number(why));
+        }
+    }
+}
+
+// Ten numbers, the 16 words of its roll, and what the ten leave out of its searches.
 pub(crate) fn party(q: Party) {
+    let s = q.search;
     line::number(q.n);
     line::number(q.own);
     line::number(q.k);
     line::number(q.bids);
-    line::number(q.lo);
-    line::number(q.hi);
-    line::number(q.probes);
+    line::number(s.bracket.lo);
+    line::number(s.bracket.hi);
+    line::number(s.probes);
     line::number(q.round);
     line::number(q.sum);
     line::number(q.carry);
     let roll = q.roll;
     let words = roll.words;
     line::numbers(&words);
+    line::number(s.which);
+    line::number(s.first);
+    line::number(s.spent);
 }

@@ -1,8 +1,8 @@
 // Whole sessions over four prices, through every call and every round. A line has the number that a
-// first bidder gets who comes again, the index and the verdict of each probe, the answer with its
-// probes, the bidders on the roll, and a digest of all that was said: the words depend on the draws,
-// and the verdicts do not. `differ` stands where the parties do not agree, and `refused` where the
-// first gives no answer.
+// first bidder gets who comes again, the index and the verdict of each probe, the highest price once
+// the first search has ended, the answer with its probes, the bidders on the roll, and a digest of all
+// that was said: the words depend on the draws, and the verdicts do not. `differ` stands where the
+// parties do not agree, and `refused` where the first gives no answer.
 //
 // An array that a call gives is bound before it is stored: the checker has no rule for both at once.
 ghost use mathlib.Core.Path.{_≡_};
@@ -17,8 +17,8 @@ use panel::open_all;
 use panel_rounds::hear_all;
 use panel_rounds::say_all;
 use record::Party;
-use record::bracket;
 use roll::Roll;
+use search::Search;
 use session::Answer;
 use sharing::threshold;
 
@@ -27,8 +27,8 @@ struct Bid {
     table: [u64; 8],
 }
 
-// A table has 8 amounts, and so has a party's book of totals. Four prices take at most 3 probes, so a
-// party has 3 sheets of 127 words, 381 in all. There is room for nine parties.
+// A table has 8 amounts, and so has a party's book of totals. A search of four prices takes at most 3
+// probes, so a party has 6 sheets of 127 words, 762 in all. There is room for nine parties.
 pub fn print() {
     report::title(b"session of 3:");
     session(3, sample(7, 1000, 64), 2);
@@ -42,6 +42,39 @@ pub fn print() {
     session(4, sample(7, 1000, 64), 0);
     report::title(b"session with no price:");
     session(3, unsold(), 2);
+    balanced();
+}
+
+// Demand equals supply at neighbouring prices: at two of them and at three, inside the list and at
+// either end; at one alone, where all six sheets are used; and at all.
+fn balanced() {
+    report::title(b"session balanced at 2 and 3:");
+    trade([9, 5, 5, 1, 0, 0, 0, 0], [0, 0, 0, 0, 1, 5, 5, 9]);
+    report::title(b"session balanced at 1 and 2:");
+    trade([5, 5, 1, 1, 0, 0, 0, 0], [0, 0, 0, 0, 5, 5, 9, 9]);
+    report::title(b"session balanced at 3 and 4:");
+    trade([9, 9, 5, 5, 0, 0, 0, 0], [0, 0, 0, 0, 1, 1, 5, 5]);
+    report::title(b"session balanced at 1 to 3:");
+    trade([5, 5, 5, 1, 0, 0, 0, 0], [0, 0, 0, 0, 5, 5, 5, 9]);
+    report::title(b"session balanced at 2 to 4:");
+    trade([9, 5, 5, 5, 0, 0, 0, 0], [0, 0, 0, 0, 1, 5, 5, 5]);
+    report::title(b"session balanced at 4:");
+    trade([9, 9, 9, 5, 0, 0, 0, 0], [0, 0, 0, 0, 1, 1, 1, 5]);
+    report::title(b"session balanced at every price:");
+    trade([5, 5, 5, 5, 0, 0, 0, 0], [0, 0, 0, 0, 5, 5, 5, 5]);
+}
+
+// One bidder buys and another sells.
+fn trade(demand: [u64; 8], supply: [u64; 8]) {
+    let buys = Bid {
+        bidder: 7,
+        table: demand,
+    };
+    let sells = Bid {
+        bidder: 1000,
+        table: supply,
+    };
+    session(3, [buys, sells, sells], 2);
 }
 
 // With the first of these bids counted twice, a session of two or three would clear at 3.
@@ -78,9 +111,9 @@ fn old_totals() -> [u64; 72] {
     [7u64; 72]
 }
 
-// Room for three sheets of each of nine parties.
-fn no_sheets() -> [u64; 3429] {
-    [0u64; 3429]
+// Room for six sheets of each of nine parties.
+fn no_sheets() -> [u64; 6858] {
+    [0u64; 6858]
 }
 
 // The first `count` of the bids.
@@ -90,12 +123,12 @@ fn session(n: u64, bids: [Bid; 3], count: usize)
     let mut totals = old_totals();
     let mut sheets = no_sheets();
     let held = n as usize * 8;
-    let lent = n as usize * 381;
+    let lent = n as usize * 762;
     hold(n, bids, count, &mut totals[..held], &mut sheets[..lent]);
 }
 
 fn hold(n: u64, bids: [Bid; 3], count: usize, totals: &mut [u64], sheets: &mut [u64])
-    requires { ⌜ (3 ≤ n) × (n ≤ 9) × (count ≤ 3) × (length (now totals) ≡ n * 8) × (length (now sheets) ≡ n * 381) ⌝ }
+    requires { ⌜ (3 ≤ n) × (n ≤ 9) × (count ≤ 3) × (length (now totals) ≡ n * 8) × (length (now sheets) ≡ n * 762) ⌝ }
 {
     let opened = open_all(n, 4, totals);
     let ready = add_bids(n, opened, totals, bids, count);
@@ -153,15 +186,18 @@ fn again(q: Party, bidder: u64) {
 
 // Every probe has a sheet from draws of its own.
 fn deal_all(n: u64, sheets: &mut [u64])
-    requires { ⌜ (3 ≤ n) × (n ≤ 9) × (length (now sheets) ≡ n * 381) ⌝ }
+    requires { ⌜ (3 ≤ n) × (n ≤ 9) × (length (now sheets) ≡ n * 762) ⌝ }
 {
     deal_probe(n, 0, sheets);
     deal_probe(n, 1, sheets);
     deal_probe(n, 2, sheets);
+    deal_probe(n, 3, sheets);
+    deal_probe(n, 4, sheets);
+    deal_probe(n, 5, sheets);
 }
 
 fn deal_probe(n: u64, probe: usize, sheets: &mut [u64])
-    requires { ⌜ (3 ≤ n) × (n ≤ 9) × (probe < 3) × (length (now sheets) ≡ n * 381) ⌝ }
+    requires { ⌜ (3 ≤ n) × (n ≤ 9) × (probe < 6) × (length (now sheets) ≡ n * 762) ⌝ }
 {
     let t = threshold(n) as usize;
     let mut words = [0u64; 5];
@@ -177,7 +213,7 @@ fn deal_probe(n: u64, probe: usize, sheets: &mut [u64])
         &words[..word_count],
         &bytes[..byte_count],
         at,
-        381,
+        762,
         sheets,
     );
 }
@@ -190,37 +226,57 @@ fn probe_all(
     sheets: &[u64],
     digest: &mut u64,
 ) -> [Party; 9]
-    requires { ⌜ (n ≤ 9) × (length (now totals) ≡ n * 8) × (length (now sheets) ≡ n * 381) ⌝ }
+    requires { ⌜ (n ≤ 9) × (length (now totals) ≡ n * 8) × (length (now sheets) ≡ n * 762) ⌝ }
 {
     let mut now = parties;
     let mut probe: usize = 0;
-    while probe < 3 {
-        if !search::over(bracket(now[0])) {
-            let index = search::middle(bracket(now[0]));
+    while probe < 6 {
+        let first = now[0];
+        if !search::finished(first.search) {
             let heard = rounds(n, now, totals, sheets, digest);
             now = heard;
-            report::word(b"index");
-            report::number(index);
-            report::word(b"verdict");
-            verdict(n as usize, now, index);
+            probed(n as usize, now, first.search);
         }
         probe += 1;
     }
     now
 }
 
-// The probed index has become the lower end or the upper one.
-fn verdict(n: usize, parties: [Party; 9], index: u64)
+// The index and the verdict; and what the first search gave, where that ends it.
+fn probed(n: usize, parties: [Party; 9], before: Search)
     requires { ⌜ n ≤ 9 ⌝ }
 {
-    if all_at(n, parties, parties[0]) {
-        if parties[0].lo == index {
-            report::number(1);
-        } else {
-            report::number(0);
-        }
-    } else {
+    let index = search::middle(before.bracket);
+    report::word(b"index");
+    report::number(index);
+    report::word(b"verdict");
+    let q = parties[0];
+    if !all_at(n, parties, q) {
         report::word(b"differ");
+        return;
+    }
+    let after = q.search;
+    verdict(before.which, after, index);
+    if before.which != after.which {
+        report::word(b"highest");
+        report::number(after.first);
+    }
+}
+
+// Whether the probed index has become the first search's lower end, or what it gave, or the second's
+// upper end.
+fn verdict(which: u64, after: Search, index: u64) {
+    let moved = if which == 2 {
+        after.bracket.hi
+    } else if after.which == 2 {
+        after.first
+    } else {
+        after.bracket.lo
+    };
+    if moved == index {
+        report::number(1);
+    } else {
+        report::number(0);
     }
 }
 
@@ -238,12 +294,19 @@ fn all_at(n: usize, parties: [Party; 9], q: Party) -> bool
 }
 
 fn stands(p: Party, q: Party) -> bool {
-    (p.lo == q.lo)
-        & (p.hi == q.hi)
-        & (p.probes == q.probes)
+    same_search(p.search, q.search)
         & (p.round == 1)
         & (p.bids == q.bids)
         & same_roll(p.roll, q.roll)
+}
+
+fn same_search(s: Search, r: Search) -> bool {
+    (s.which == r.which)
+        & (s.bracket.lo == r.bracket.lo)
+        & (s.bracket.hi == r.bracket.hi)
+        & (s.probes == r.probes)
+        & (s.first == r.first)
+        & (s.spent == r.spent)
 }
 
 fn same_roll(r: Roll, s: Roll) -> bool {
@@ -266,7 +329,7 @@ fn rounds(
     sheets: &[u64],
     digest: &mut u64,
 ) -> [Party; 9]
-    requires { ⌜ (n ≤ 9) × (length (now totals) ≡ n * 8) × (length (now sheets) ≡ n * 381) ⌝ }
+    requires { ⌜ (n ≤ 9) × (length (now totals) ≡ n * 8) × (length (now sheets) ≡ n * 762) ⌝ }
 {
     let mut now = parties;
     let mut round: usize = 0;
@@ -285,7 +348,7 @@ fn say_and_hear(
     sheets: &[u64],
     digest: &mut u64,
 ) -> [Party; 9]
-    requires { ⌜ (n ≤ 9) × (length (now totals) ≡ n * 8) × (length (now sheets) ≡ n * 381) ⌝ }
+    requires { ⌜ (n ≤ 9) × (length (now totals) ≡ n * 8) × (length (now sheets) ≡ n * 762) ⌝ }
 {
     let last = n as usize;
     let mut messages = [0u64; 9];

@@ -1,14 +1,22 @@
 //! Whole auctions: every call is compared, shares that are split at once are
-//! checked against their entries, each verdict and the answer against the totals
-//! of the bids, and damaged calls and bids that are sent again stand in between.
+//! checked against their entries, each verdict, what the first search gives and
+//! the answer against the totals of the bids, and damaged calls and bids that are
+//! sent again stand in between.
 
 use clockivy::Refusal;
-use clockivy_reference::{probe_limit, threshold, LAST_ROUND, MAX_BIDS, RECORD, SHEET};
+use clockivy_reference::{
+    probe_limit, sheet_count, threshold, FIRST_SEARCH, LAST_ROUND, MAX_BIDS, RECORD, SECOND_SEARCH,
+    SHEET,
+};
 
 use crate::call::Call;
 use crate::damage::damage;
 use crate::differential::{Difference, Tally};
-use crate::record::{has_bid, index, mark, BIDS, CARRY, HI, LO, OWN, PROBES, ROLL};
+use crate::outcome::Totals;
+use crate::record::{
+    has_bid, index, is_over, mark, BIDS, CARRY, FIRST, FIRST_PROBES, HI, LO, OWN, PROBES, ROLL,
+    SEARCH,
+};
 use crate::rng::Rng;
 
 /// A bid.
@@ -30,24 +38,25 @@ struct Auction<'a> {
     n: u64,
     k: u64,
     bids: Vec<Bid>,
+    /// The sums that nobody has, to hold the verdicts and the answer against.
+    totals: Totals,
     seats: Vec<Seat>,
 }
 
-/// Runs one auction of `bids` random bids, at most 1,000, of as many bidders.
+/// Runs one auction of bids with these tables, at most 1,000, of as many bidders.
 pub fn whole(
     rng: &mut Rng,
     n: u64,
     k: u64,
-    bids: u64,
+    tables: Vec<Vec<u64>>,
     tally: &mut Tally,
 ) -> Result<(), Difference> {
+    let totals = Totals::of(k, tables.iter().map(Vec::as_slice));
     let bids = rng
-        .numbers(MAX_BIDS, bids)
+        .numbers(MAX_BIDS, tables.len() as u64)
         .into_iter()
-        .map(|bidder| Bid {
-            bidder,
-            table: rng.table(k as usize),
-        })
+        .zip(tables)
+        .map(|(bidder, table)| Bid { bidder, table })
         .collect();
     let mut auction = Auction {
         rng,
@@ -55,18 +64,19 @@ pub fn whole(
         n,
         k,
         bids,
+        totals,
         seats: Vec::new(),
     };
     auction.open()?;
     auction.bid()?;
     auction.deal()?;
     let mut verdicts = 0;
-    while auction.bracket() > 1 {
+    while !is_over(&auction.seats[0].record) {
         auction.probe()?;
         verdicts += 1;
     }
     auction.ask(verdicts)?;
-    auction.tally.count_auction();
+    auction.tally.count_auction(&auction.totals);
     Ok(())
 }
 
@@ -187,7 +197,7 @@ impl Auction<'_> {
 
     fn deal(&mut self) -> Result<(), Difference> {
         let t = threshold(self.n);
-        for _ in 0..probe_limit(self.k) {
+        for _ in 0..sheet_count(self.k) {
             let mut words = self.rng.words(1 + t, Rng::amount_share);
             words[0] = self.rng.mask();
             let bytes = self.rng.bytes(126 * t + 62);
@@ -205,16 +215,34 @@ impl Auction<'_> {
 
     /// One probe: all rounds, then the verdict against the totals.
     fn probe(&mut self) -> Result<(), Difference> {
-        let before = self.seats[0].record.clone();
-        let index = index(&before) as u64;
+        let expected = self.probed(&self.seats[0].record);
         for _ in 1..=LAST_ROUND {
             self.round()?;
         }
         let after = &self.seats[0].record;
-        let mut expected = before.clone();
-        expected[if self.clears(index) { LO } else { HI }] = index;
-        expected[PROBES] += 1;
         self.holds(*after == expected, "a verdict is not that of the totals")
+    }
+
+    /// The record that a probe leaves, by the totals.
+    fn probed(&self, before: &[u64]) -> Vec<u64> {
+        let mut record = before.to_vec();
+        let index = index(before) as u64;
+        let end = match before[SEARCH] {
+            FIRST_SEARCH if self.totals.clears(index) => LO,
+            FIRST_SEARCH => HI,
+            _ if self.totals.supplies(index) => HI,
+            _ => LO,
+        };
+        record[end] = index;
+        record[PROBES] += 1;
+        if record[SEARCH] == FIRST_SEARCH && record[HI] - record[LO] == 1 {
+            record[SEARCH] = SECOND_SEARCH;
+            record[FIRST] = record[LO];
+            record[FIRST_PROBES] = record[PROBES];
+            record[HI] = record[FIRST] + 1;
+            record[LO] = 0;
+        }
+        record
     }
 
     /// One round: each party says its message, and each hears all of them.
@@ -244,30 +272,20 @@ impl Auction<'_> {
 
     /// Asks every party for the answer.
     fn ask(&mut self, verdicts: u64) -> Result<(), Difference> {
-        let highest = (1..=self.k).rev().find(|&index| self.clears(index));
+        let (highest, price) = (self.totals.highest(), self.totals.price());
         for own in 0..self.seats.len() {
-            let call = Call::answer(&self.seats[own].record, self.rng.word(), self.rng.word());
+            let record = &self.seats[own].record;
+            self.holds(record[FIRST] == highest, "the first search is wrong")?;
+            let call = Call::answer(record, self.rng.word(), self.rng.word());
             let left = self.accepted(call)?;
             let (index, probes) = (left.words[1][0], left.words[2][0]);
-            self.holds(index == highest.unwrap_or(0), "the answer is wrong")?;
+            self.holds(index == price, "the answer is wrong")?;
             self.holds(probes == verdicts, "the number of probes is wrong")?;
         }
         self.holds(
-            verdicts <= probe_limit(self.k),
+            verdicts <= probe_limit(self.k) + probe_limit(highest),
             "there were too many probes",
         )
-    }
-
-    fn bracket(&self) -> u64 {
-        self.seats[0].record[HI] - self.seats[0].record[LO]
-    }
-
-    /// Whether total demand at an index is at least total supply.
-    fn clears(&self, index: u64) -> bool {
-        let demand = index as usize - 1;
-        let supply = demand + self.k as usize;
-        let total = |place: usize| -> u64 { self.bids.iter().map(|bid| bid.table[place]).sum() };
-        total(demand) >= total(supply)
     }
 
     /// Makes a call that must be accepted, with damaged ones before it now and

@@ -87,6 +87,9 @@ impl Kind {
         }
     }
 
+    /// The calls that read a record, and so judge it.
+    pub const ON_RECORDS: [Kind; 4] = [Kind::Add, Kind::Say, Kind::Hear, Kind::Answer];
+
     /// How many of the word slices have a length of their own; those after
     /// them are single words.
     pub fn slices(self) -> usize {
@@ -227,6 +230,13 @@ impl Call {
     /// Asks for the answer, into words that hold `index` and `probes`.
     pub fn answer(record: &[u64], index: u64, probes: u64) -> Call {
         Call::new(Kind::Answer, [0; 3], &[record, &[index], &[probes]])
+    }
+
+    /// The record that the call judges, where it has the length of one.
+    pub fn judged_record(&self) -> Option<&[u64]> {
+        let place = self.kind.record()?;
+        let record = &self.words[place];
+        (Kind::ON_RECORDS.contains(&self.kind) && record.len() == RECORD).then_some(record)
     }
 
     /// Makes the call and gives the reply.

@@ -1,17 +1,21 @@
 //! Damage to a call: a number, a length, a field of the record, its roll or a
-//! word is changed, mostly to a value at or next to a limit. Some damage leaves
-//! the call acceptable; that is for the comparison to find out.
+//! word is changed, mostly to a value at or next to a limit, or a record is given
+//! one fault. Some damage leaves the call acceptable; that is for the comparison
+//! to find out.
 
 use clockivy_reference::field::amount::P;
 use clockivy_reference::{
-    probe_limit, LAST_ROUND, MASK_LIMIT, MAX_AMOUNT, MAX_BIDS, MAX_PRICES, RECORD, SHEET, SUM_LIMIT,
+    probe_limit, FIRST_SEARCH, LAST_ROUND, MASK_LIMIT, MAX_AMOUNT, MAX_BIDS, MAX_PRICES, RECORD,
+    SECOND_SEARCH, SHEET, SUM_LIMIT,
 };
 
 use crate::call::{Call, Kind};
 use crate::record::{
-    has_bid, mark, marks, unmark, BIDS, HI, K, LO, N, NOBODY, OWN, PROBES, ROLL, ROUND, SUM,
+    has_bid, mark, marks, unmark, BIDS, CARRY, FIRST, FIRST_PROBES, HI, K, LO, N, NOBODY, OWN,
+    PROBES, ROLL, ROUND, SEARCH, SUM,
 };
 use crate::rng::Rng;
+use crate::soundness::CLAUSES;
 
 /// Values at which one test or another turns.
 const EDGES: [u64; 24] = [
@@ -111,10 +115,10 @@ fn record(rng: &mut Rng, call: &mut Call) {
         Some(place) if call.words[place].len() == RECORD => &mut call.words[place],
         _ => return,
     };
-    if rng.once_in(3) {
-        roll(rng, record);
-    } else {
-        field(rng, record);
+    match rng.below(5) {
+        0 => roll(rng, record),
+        1..=2 => field(rng, record),
+        _ => CLAUSES[rng.place(CLAUSES.len())].break_in(rng, record),
     }
 }
 
@@ -130,7 +134,7 @@ fn roll(rng: &mut Rng, record: &mut [u64]) {
         2 => mark(record, bidder),
         3 => unmark(record, bidder),
         4 => {
-            let word = &mut record[ROLL..][rng.place(RECORD - ROLL)];
+            let word = &mut record[ROLL..SEARCH][rng.place(SEARCH - ROLL)];
             *word = value(rng, *word, &EDGES);
         }
         _ => {
@@ -146,17 +150,39 @@ fn roll(rng: &mut Rng, record: &mut [u64]) {
     }
 }
 
-/// Changes a field of the record before the roll.
+/// The fields of a record beside the roll.
+const FIELDS: [usize; 13] = [
+    N,
+    OWN,
+    K,
+    BIDS,
+    LO,
+    HI,
+    PROBES,
+    ROUND,
+    SUM,
+    CARRY,
+    SEARCH,
+    FIRST,
+    FIRST_PROBES,
+];
+
+/// Changes a field of the record beside the roll.
 fn field(rng: &mut Rng, record: &mut [u64]) {
-    let field = rng.place(ROLL);
+    let field = rng.pick(&FIELDS);
     let [n, own, k, bids, lo, hi, probes, ..] = record[..] else {
         unreachable!("it has the words of a record");
     };
-    let limit = if k <= MAX_PRICES { probe_limit(k) } else { 0 };
+    let [search, first, first_probes] = [SEARCH, FIRST, FIRST_PROBES].map(|place| record[place]);
+    // The last index that the search may give, and the most probes by its end.
+    let (last, most) = match search {
+        SECOND_SEARCH => (first, first_probes.wrapping_add(probe_limit(first))),
+        _ => (k, probe_limit(k)),
+    };
     let near = match field {
         N => [2, 3, 9, 10, own],
         OWN => [0, 1, n, n.wrapping_add(1), own ^ 1],
-        K => [0, 1, MAX_PRICES, MAX_PRICES + 1, hi.wrapping_sub(1)],
+        K => [0, MAX_PRICES, MAX_PRICES + 1, hi.wrapping_sub(1), first],
         BIDS => [
             0,
             bids.wrapping_sub(1),
@@ -175,12 +201,33 @@ fn field(rng: &mut Rng, record: &mut [u64]) {
             0,
             lo,
             lo.wrapping_add(1),
-            k.wrapping_add(1),
-            k.wrapping_add(2),
+            last.wrapping_add(1),
+            last.wrapping_add(2),
         ],
-        PROBES => [0, limit.wrapping_sub(1), limit, limit + 1, probes ^ 1],
+        PROBES => [
+            first_probes,
+            first_probes.wrapping_sub(1),
+            most.wrapping_sub(1),
+            most,
+            most.wrapping_add(1),
+        ],
         ROUND => [0, 1, 2, LAST_ROUND, LAST_ROUND + 1],
         SUM => [0, 1, SUM_LIMIT - 1, SUM_LIMIT, SUM_LIMIT + 1],
+        SEARCH => [0, FIRST_SEARCH, SECOND_SEARCH, 3, search ^ 3],
+        FIRST => [
+            0,
+            1,
+            k,
+            k.wrapping_add(1),
+            hi.wrapping_sub(rng.between(1, 2)),
+        ],
+        FIRST_PROBES => [
+            0,
+            1,
+            probe_limit(k).wrapping_add(rng.below(2)),
+            probes,
+            probes.wrapping_add(1),
+        ],
         _ => [0, 1, 255, 256, 511],
     };
     record[field] = value(rng, record[field], &near);

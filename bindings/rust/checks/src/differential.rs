@@ -7,7 +7,10 @@ use clockivy_reference::MAX_BIDS;
 use crate::call::{Call, Kind};
 use crate::damage::damage;
 use crate::engine::{Engine, Plain, Verified};
+use crate::meeting::meeting;
+use crate::outcome::{Endings, Totals};
 use crate::rng::Rng;
+use crate::soundness::{self, Found};
 use crate::{auction, generate};
 
 /// The two implementations differ, or an auction went wrong.
@@ -16,11 +19,25 @@ pub struct Difference(pub String);
 /// One more than the highest reply.
 const REPLIES: usize = 15;
 
-/// How many calls of each kind had each reply.
-#[derive(Default)]
+/// The reply to a record that is not sound.
+const OUT_OF_RANGE: u64 = 1;
+
+/// How many calls of each kind had each reply, and how many were lent a record in
+/// each condition; and how the whole auctions ended.
 pub struct Tally {
     counts: [[u64; REPLIES]; Kind::ALL.len()],
-    auctions: u64,
+    records: [[u64; Kind::ALL.len()]; soundness::CONDITIONS],
+    endings: Endings,
+}
+
+impl Default for Tally {
+    fn default() -> Tally {
+        Tally {
+            counts: Default::default(),
+            records: [[0; Kind::ALL.len()]; soundness::CONDITIONS],
+            endings: Endings::default(),
+        }
+    }
 }
 
 impl Tally {
@@ -52,17 +69,39 @@ impl Tally {
             )));
         }
         self.counts[call.kind as usize][reply as usize] += 1;
+        self.count_record(call, reply)?;
         Ok((reply, verified))
     }
 
+    /// Counts the record that a call was lent. It is refused where a clause is
+    /// broken, and a sound one is not.
+    fn count_record(&mut self, call: &Call, reply: u64) -> Result<(), Difference> {
+        let Some(record) = call.judged_record() else {
+            return Ok(());
+        };
+        let found = soundness::found(record);
+        let sound = matches!(found, Found::Sound(_));
+        // Adding judges the bidder's number by the same refusal.
+        let nobody = call.kind == Kind::Add && !(1..=MAX_BIDS).contains(&call.bidder);
+        if (reply == OUT_OF_RANGE) == (sound && !nobody) {
+            return Err(Difference(format!(
+                "both replied {reply} to a record of which is found {found:?}, given\n{call}"
+            )));
+        }
+        if let Found::Sound(condition) | Found::Broken(condition) = found {
+            self.records[condition][call.kind as usize] += 1;
+        }
+        Ok(())
+    }
+
     /// Counts a whole auction.
-    pub fn count_auction(&mut self) {
-        self.auctions += 1;
+    pub fn count_auction(&mut self, totals: &Totals) {
+        self.endings.count(totals);
     }
 
     /// The whole auctions.
     pub fn auctions(&self) -> u64 {
-        self.auctions
+        self.endings.auctions()
     }
 
     /// The number of calls compared.
@@ -80,6 +119,24 @@ impl Tally {
             .collect()
     }
 
+    /// The conditions of a record that a call judges and did not meet: each clause
+    /// of refusal 1 broken by itself, and each standing of a sound one.
+    pub fn unmet(&self) -> Vec<(Kind, &'static str)> {
+        let judged = |condition: usize| Kind::ON_RECORDS.map(|kind| (kind, condition));
+        (0..soundness::CONDITIONS)
+            .flat_map(judged)
+            .filter(|&(kind, condition)| self.records[condition][kind as usize] == 0)
+            .map(|(kind, condition)| (kind, soundness::name(condition)))
+            .collect()
+    }
+
+    /// The endings that no auction had.
+    pub fn unended(&self) -> Vec<&'static str> {
+        let counts = self.endings.counts();
+        let none = counts.filter(|&(_, count)| count == 0);
+        none.map(|(name, _)| name).collect()
+    }
+
     /// The replies that came up and that a call cannot give.
     pub fn unexpected(&self) -> Vec<(Kind, u64)> {
         let counted = |kind: Kind| (0..REPLIES as u64).map(move |reply| (kind, reply));
@@ -93,10 +150,25 @@ impl Tally {
     }
 }
 
-/// The table of counts by call and reply. A reply that no call can give, and
-/// that none gave, has no column.
+/// The tables of all counts.
 impl fmt::Display for Tally {
     fn fmt(&self, f: &mut fmt::Formatter<'_>) -> fmt::Result {
+        writeln!(f, "Calls by reply: 0 (done) or the number of the refusal\n")?;
+        self.write_replies(f)?;
+        writeln!(
+            f,
+            "\n\nCalls by the record lent: sound, or with one fault\n"
+        )?;
+        self.write_records(f)?;
+        writeln!(f, "\n\nWhole auctions by the balanced prices\n")?;
+        self.write_endings(f)
+    }
+}
+
+impl Tally {
+    /// By call and reply. A reply that no call can give, and that none gave, has
+    /// no column.
+    fn write_replies(&self, f: &mut fmt::Formatter<'_>) -> fmt::Result {
         let count = |kind: Kind, reply: usize| {
             let count = self.counts[kind as usize][reply];
             let shown = kind.replies().contains(&(reply as u64)) || count > 0;
@@ -125,25 +197,83 @@ impl fmt::Display for Tally {
         }
         Ok(())
     }
+
+    /// By the condition of the record and the call that judges it.
+    fn write_records(&self, f: &mut fmt::Formatter<'_>) -> fmt::Result {
+        write!(f, "{:<50}", "record")?;
+        for kind in Kind::ON_RECORDS {
+            write!(f, "{:>8}", kind.name())?;
+        }
+        for (condition, counts) in self.records.iter().enumerate() {
+            write!(f, "\n{:<50}", soundness::name(condition))?;
+            for kind in Kind::ON_RECORDS {
+                write!(f, "{:>8}", counts[kind as usize])?;
+            }
+        }
+        Ok(())
+    }
+
+    fn write_endings(&self, f: &mut fmt::Formatter<'_>) -> fmt::Result {
+        write!(f, "{:<50}{:>8}", "balanced prices", "auctions")?;
+        for (name, count) in self.endings.counts() {
+            write!(f, "\n{name:<50}{count:>8}")?;
+        }
+        Ok(())
+    }
 }
 
+/// The longest list over which every run of balanced prices is tried.
+const SHORT_LIST: u64 = 5;
+
 /// Whole auctions of every number of parties over the given numbers of prices,
-/// and one that fills the roll, with refused calls in between; then single
-/// calls, valid and damaged, until there are `calls` in all.
+/// those in which the totals meet in every place of a short list, and one that
+/// fills the roll, with refused calls in between; then single calls, valid and
+/// damaged, until there are `calls` in all.
 pub fn run(seed: u64, prices: &[u64], calls: u64, tally: &mut Tally) -> Result<(), Difference> {
     let mut rng = Rng::new(seed);
     for n in 3..=9 {
         for &k in prices {
-            let bids = rng.between(0, 5);
-            auction::whole(&mut rng, n, k, bids, tally)?;
+            let tables = tables(&mut rng, k);
+            auction::whole(&mut rng, n, k, tables, tally)?;
         }
     }
-    auction::whole(&mut rng, 3, 2, MAX_BIDS, tally)?;
+    for k in 1..=SHORT_LIST {
+        short_lists(&mut rng, k, tally)?;
+    }
+    let many = (0..MAX_BIDS).map(|_| rng.table(2)).collect();
+    auction::whole(&mut rng, 3, 2, many, tally)?;
     while tally.calls() < calls {
         let call = single(&mut rng);
         tally.compare(&call)?;
     }
     Ok(())
+}
+
+/// The tables of up to five bids: any, or such as balance somewhere, or just not.
+fn tables(rng: &mut Rng, k: u64) -> Vec<Vec<u64>> {
+    if rng.once_in(2) {
+        let bids = rng.between(0, 5);
+        return (0..bids).map(|_| rng.table(k as usize)).collect();
+    }
+    let anywhere = rng.between(0, k);
+    let high = rng.pick(&[anywhere, anywhere, k]);
+    let anywhere = rng.between(1, high + 1);
+    let low = rng.pick(&[anywhere, anywhere, 1, high + 1]);
+    meeting(rng, k, low, high)
+}
+
+/// Every run of balanced prices in a list of `k`, none in every place, and no
+/// bids.
+fn short_lists(rng: &mut Rng, k: u64, tally: &mut Tally) -> Result<(), Difference> {
+    for high in 0..=k {
+        for low in 1..=high + 1 {
+            let n = rng.between(3, 9);
+            let tables = meeting(rng, k, low, high);
+            auction::whole(rng, n, k, tables, tally)?;
+        }
+    }
+    let n = rng.between(3, 9);
+    auction::whole(rng, n, k, Vec::new(), tally)
 }
 
 /// One call with damage in up to three places. A hearing has the most to

@@ -4,12 +4,14 @@
 use clockivy_reference as reference;
 use clockivy_reference::field::{amount, byte};
 use clockivy_reference::{
-    probe_limit, LAST_ROUND, MAX_BIDS, MAX_PRICES, RECORD, SHEET, SUM_LIMIT, SUM_LOW,
+    probe_limit, sheet_count, FIRST_SEARCH, LAST_ROUND, MAX_BIDS, MAX_PRICES, RECORD,
+    SECOND_SEARCH, SHEET, SUM_LIMIT, SUM_LOW,
 };
 
 use crate::call::{Call, Kind};
 use crate::record::{
-    has_bid, index, mark, marks, unmark, BIDS, HI, LO, N, NOBODY, OWN, PROBES, ROLL, ROUND,
+    has_bid, index, mark, marks, unmark, BIDS, FIRST, FIRST_PROBES, HI, K, LO, N, NOBODY, OWN,
+    PROBES, ROLL, ROUND, SEARCH,
 };
 use crate::rng::Rng;
 
@@ -147,6 +149,7 @@ fn add(rng: &mut Rng, shape: Shape) -> Call {
     let mut record = record(rng, shape);
     if !rng.once_in(8) {
         record[PROBES] = 0;
+        record[FIRST_PROBES] = 0;
         record[ROUND] = 1;
     }
     let totals = rng.words(shape.table_len(), Rng::amount_share);
@@ -188,12 +191,16 @@ fn say(rng: &mut Rng, shape: Shape) -> Call {
     Call::say(&record, &totals, &sheets, message)
 }
 
-/// Changes the demand that is probed so that the message of round 1 is 0.
+/// Changes the demand that is probed so that the message of round 1 is 0. In the
+/// second search the message has demand taken away.
 fn silence(record: &[u64], totals: &mut [u64], sheets: &[u64]) {
     let mut message = 0;
     if record[ROUND] == 1 && reference::say(record, totals, sheets, &mut message) == 0 {
         let demand = &mut totals[index(record) - 1];
-        *demand = amount::sub(*demand, message);
+        *demand = match record[SEARCH] {
+            FIRST_SEARCH => amount::sub(*demand, message),
+            _ => amount::add(*demand, message),
+        };
     }
 }
 
@@ -216,6 +223,7 @@ pub fn hear(rng: &mut Rng, said: &Call) -> Call {
 fn answer(rng: &mut Rng, shape: Shape) -> Call {
     let mut record = record(rng, shape);
     if !rng.once_in(4) {
+        second_search(rng, &mut record);
         record[LO] = record[HI] - 1;
     }
     Call::answer(&record, rng.word(), rng.word())
@@ -224,21 +232,6 @@ fn answer(rng: &mut Rng, shape: Shape) -> Call {
 /// A record, not always one that an auction can reach, and mostly a sound one.
 fn record(rng: &mut Rng, shape: Shape) -> Vec<u64> {
     let Shape { n, own, k } = shape;
-    let hi = if rng.once_in(2) {
-        k + 1
-    } else {
-        rng.between(1, k + 1)
-    };
-    let lo = match rng.below(4) {
-        0 => 0,
-        1 => hi.saturating_sub(2),
-        _ => rng.below(hi),
-    };
-    let probes = if hi - lo == 1 {
-        rng.between(0, probe_limit(k))
-    } else {
-        rng.below(probe_limit(k))
-    };
     let round = match rng.below(4) {
         0 => 1,
         1 => LAST_ROUND,
@@ -250,10 +243,79 @@ fn record(rng: &mut Rng, shape: Shape) -> Vec<u64> {
         _ => rng.below(SUM_LIMIT),
     };
     let carry = u64::from(rng.byte());
-    let mut record = vec![n, own, k, 0, lo, hi, probes, round, sum, carry];
+    let mut record = vec![n, own, k, 0, 0, 0, 0, round, sum, carry];
     record.resize(RECORD, 0);
     roll(rng, &mut record);
+    any_search(rng, &mut record);
     record
+}
+
+/// Puts a search into a record, sound where the record allows one. Over no prices
+/// only the second is: the first has nothing to probe.
+pub fn any_search(rng: &mut Rng, record: &mut [u64]) {
+    if record[K] > 0 && rng.once_in(2) {
+        first_search(rng, record);
+    } else {
+        second_search(rng, record);
+    }
+}
+
+/// Puts a first search into a record, sound where there is a price to probe.
+pub fn first_search(rng: &mut Rng, record: &mut [u64]) {
+    let k = prices(record).max(1);
+    let hi = if rng.once_in(2) {
+        k + 1
+    } else {
+        rng.between(2, k + 1)
+    };
+    let lo = match rng.below(4) {
+        0 => 0,
+        1 => hi - 2,
+        _ => rng.below(hi - 1),
+    };
+    record[LO] = lo;
+    record[HI] = hi;
+    record[PROBES] = rng.below(probe_limit(k));
+    record[SEARCH] = FIRST_SEARCH;
+    record[FIRST] = 0;
+    record[FIRST_PROBES] = 0;
+}
+
+/// Puts a sound second search into a record. Often it has ended, now and then as
+/// it began.
+pub fn second_search(rng: &mut Rng, record: &mut [u64]) {
+    let k = prices(record);
+    let first = match rng.below(16) {
+        0 => 0,
+        1..=4 => k,
+        _ => rng.between(k.min(1), k),
+    };
+    let hi = if rng.once_in(2) {
+        first + 1
+    } else {
+        rng.between(1, first + 1)
+    };
+    let lo = match rng.below(4) {
+        0 => 0,
+        1 => hi.saturating_sub(2),
+        _ => rng.below(hi),
+    };
+    let own_probes = if hi - lo == 1 {
+        rng.between(0, probe_limit(first))
+    } else {
+        rng.below(probe_limit(first))
+    };
+    record[LO] = lo;
+    record[HI] = hi;
+    record[SEARCH] = SECOND_SEARCH;
+    record[FIRST] = first;
+    record[FIRST_PROBES] = rng.between(0, probe_limit(k));
+    record[PROBES] = record[FIRST_PROBES] + own_probes;
+}
+
+/// The prices of a record, or as many as leave room for numbers above.
+fn prices(record: &[u64]) -> u64 {
+    record[K].min(1 << 63)
 }
 
 /// Marks bidders on an empty roll and counts them. Now and then the count is
@@ -262,9 +324,9 @@ fn record(rng: &mut Rng, shape: Shape) -> Vec<u64> {
 fn roll(rng: &mut Rng, record: &mut [u64]) {
     match rng.below(8) {
         0 => {}
-        1 => record[ROLL..].fill(u64::MAX),
+        1 => record[ROLL..SEARCH].fill(u64::MAX),
         2 => {
-            record[ROLL..].fill(u64::MAX);
+            record[ROLL..SEARCH].fill(u64::MAX);
             unmark(record, rng.between(1, MAX_BIDS));
         }
         3..=4 => {
@@ -275,7 +337,7 @@ fn roll(rng: &mut Rng, record: &mut [u64]) {
             }
         }
         many => {
-            for word in &mut record[ROLL..] {
+            for word in &mut record[ROLL..SEARCH] {
                 *word = match many {
                     5 => rng.word() & rng.word(),
                     6 => rng.word(),
@@ -317,7 +379,7 @@ fn totals(rng: &mut Rng, shape: Shape, record: &[u64]) -> Vec<u64> {
 /// Preprocessing: the current probe's is sound, the others hold anything.
 fn sheets(rng: &mut Rng, shape: Shape, record: &[u64]) -> Vec<u64> {
     let mut sheets = Vec::new();
-    for probe in 0..probe_limit(shape.k) {
+    for probe in 0..sheet_count(shape.k) {
         if probe == record[PROBES] || rng.once_in(2) {
             sheets.push(rng.amount_share());
             sheets.extend(rng.words(SHEET - 1, |rng| u64::from(rng.byte())));

@@ -9,5 +9,8 @@ pub mod damage;
 pub mod differential;
 pub mod engine;
 pub mod generate;
+pub mod meeting;
+pub mod outcome;
 pub mod record;
 pub mod rng;
+pub mod soundness;

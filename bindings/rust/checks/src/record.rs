@@ -1,6 +1,6 @@
 //! The places of a record's fields, and its roll by bidders.
 
-use clockivy_reference::{MAX_BIDS, RECORD};
+use clockivy_reference::{MAX_BIDS, SECOND_SEARCH};
 
 /// The number of parties.
 pub const N: usize = 0;
@@ -10,11 +10,11 @@ pub const OWN: usize = 1;
 pub const K: usize = 2;
 /// Bids added.
 pub const BIDS: usize = 3;
-/// The highest index known to clear, or 0.
+/// The lower end of the search that is on.
 pub const LO: usize = 4;
-/// The lowest index known not to clear, or one past the last.
+/// The upper end of the search that is on.
 pub const HI: usize = 5;
-/// Probes done.
+/// Probes done, of both searches.
 pub const PROBES: usize = 6;
 /// The current round.
 pub const ROUND: usize = 7;
@@ -24,6 +24,12 @@ pub const SUM: usize = 8;
 pub const CARRY: usize = 9;
 /// The first word of the roll.
 pub const ROLL: usize = 10;
+/// Which search is on.
+pub const SEARCH: usize = ROLL + clockivy_reference::ROLL;
+/// What the first search gave, or 0.
+pub const FIRST: usize = SEARCH + 1;
+/// The probes of the first search, or 0.
+pub const FIRST_PROBES: usize = SEARCH + 2;
 
 /// The numbers that have a place on the roll and are no bidder's: 0, and those
 /// past the last bidder's.
@@ -54,11 +60,16 @@ pub fn unmark(record: &mut [u64], bidder: u64) {
 
 /// The number of marks on the roll.
 pub fn marks(record: &[u64]) -> u64 {
-    let roll = &record[ROLL..RECORD];
+    let roll = &record[ROLL..SEARCH];
     roll.iter().map(|word| u64::from(word.count_ones())).sum()
 }
 
 /// The probed index.
 pub fn index(record: &[u64]) -> usize {
     ((record[LO] + record[HI]) / 2) as usize
+}
+
+/// Whether the second search has ended.
+pub fn is_over(record: &[u64]) -> bool {
+    record[SEARCH] == SECOND_SEARCH && record[HI] - record[LO] == 1
 }

@@ -28,8 +28,8 @@ const ALREADY_ENTERED: u64 = 14;
 
 /// The words of a roll, with a bit for each bidder's number.
 pub const ROLL: usize = 16;
-/// The words of a party's record: ten numbers and the roll.
-pub const RECORD: usize = 10 + ROLL;
+/// The words of a party's record: ten numbers, the roll, and three numbers.
+pub const RECORD: usize = 10 + ROLL + 3;
 /// The words of one probe's preprocessing.
 pub const SHEET: usize = 127;
 /// The most bids that are held, and the highest bidder number.
@@ -46,6 +46,10 @@ pub const SUM_LOW: u64 = (1 << 58) + 2;
 pub const SUM_LIMIT: u64 = (1 << 59) + (1 << 33);
 /// The last round of a probe.
 pub const LAST_ROUND: u64 = 33;
+/// The search for the highest index with demand at least supply.
+pub const FIRST_SEARCH: u64 = 1;
+/// The search for the lowest index, up to that one, with supply at least demand.
+pub const SECOND_SEARCH: u64 = 2;
 
 /// The number of coefficients of a sharing among `n` parties.
 pub fn threshold(n: u64) -> usize {
@@ -59,6 +63,11 @@ pub fn probe_limit(k: u64) -> u64 {
         limit += 1;
     }
     limit
+}
+
+/// The sheets that are lent for `k` prices: enough for both searches.
+pub fn sheet_count(k: u64) -> u64 {
+    2 * probe_limit(k)
 }
 
 /// Opens a session: zeroes the totals and writes the record.
@@ -104,7 +113,7 @@ pub fn hear(record: &mut [u64], totals: &[u64], sheets: &[u64], messages: &[u64]
     reply(try_hear(record, totals, sheets, messages))
 }
 
-/// Writes the clearing index and the number of probes made.
+/// Writes the index of the price and the number of probes made.
 pub fn answer(record: &[u64], index: &mut u64, probes: &mut u64) -> u64 {
     reply(try_answer(record, index, probes))
 }
@@ -151,6 +160,9 @@ fn try_open(n: u64, own: u64, k: u64, totals: &mut [u64], record: &mut [u64]) ->
         sum: 0,
         carry: 0,
         roll: [0; ROLL],
+        search: FIRST_SEARCH,
+        first: 0,
+        first_probes: 0,
     };
     opened.write(record);
     Ok(())
@@ -321,7 +333,7 @@ fn try_hear(
 fn try_answer(record: &[u64], index: &mut u64, probes: &mut u64) -> Result<(), u64> {
     let party = Record::read(record)?;
     need(party.is_over(), OUT_OF_TURN)?;
-    *index = party.lo;
+    *index = party.price();
     *probes = party.probes;
     Ok(())
 }
@@ -354,6 +366,11 @@ struct Record {
     sum: u64,
     carry: u64,
     roll: [u64; ROLL],
+    /// Which search is on.
+    search: u64,
+    /// The index that the first search gave, and its probes; 0 until it ends.
+    first: u64,
+    first_probes: u64,
 }
 
 /// The preprocessing of the current probe, judged.
@@ -383,17 +400,15 @@ impl Record {
     /// The record in its words, judged.
     fn read(words: &[u64]) -> Result<Record, u64> {
         let words: &[u64; RECORD] = words.try_into().map_err(|_| WRONG_LENGTH)?;
-        let &[n, own, k, bids, lo, hi, probes, round, sum, carry, roll @ ..] = words;
+        let &[n, own, k, bids, lo, hi, probes, round, sum, carry, rest @ ..] = words;
+        let [roll @ .., search, first, first_probes] = rest;
         need(party_in_range(n, own) && prices_in_range(k), OUT_OF_RANGE)?;
         need(bids == marks(&roll), OUT_OF_RANGE)?;
         need(marks_bidders_alone(&roll), OUT_OF_RANGE)?;
-        need(lo < hi && hi <= k + 1, OUT_OF_RANGE)?;
         need((1..=LAST_ROUND).contains(&round), OUT_OF_RANGE)?;
         need(sum < SUM_LIMIT, OUT_OF_RANGE)?;
         need(carry <= 255, OUT_OF_RANGE)?;
-        need(probes <= probe_limit(k), OUT_OF_RANGE)?;
-        need(probes < probe_limit(k) || hi - lo <= 1, OUT_OF_RANGE)?;
-        Ok(Record {
+        let party = Record {
             n,
             own,
             k,
@@ -405,11 +420,17 @@ impl Record {
             sum,
             carry,
             roll,
-        })
+            search,
+            first,
+            first_probes,
+        };
+        need(party.search_in_range(), OUT_OF_RANGE)?;
+        Ok(party)
     }
 
     fn write(&self, words: &mut [u64]) {
-        let (numbers, roll) = words.split_at_mut(RECORD - ROLL);
+        let (numbers, rest) = words.split_at_mut(10);
+        let (roll, searches) = rest.split_at_mut(ROLL);
         numbers.copy_from_slice(&[
             self.n,
             self.own,
@@ -423,6 +444,42 @@ impl Record {
             self.carry,
         ]);
         roll.copy_from_slice(&self.roll);
+        searches.copy_from_slice(&[self.search, self.first, self.first_probes]);
+    }
+
+    /// Whether the numbers of the search that is on are within their ranges. A
+    /// first search that has ended is not: the hearing that ended it began the
+    /// second.
+    fn search_in_range(&self) -> bool {
+        match self.search {
+            FIRST_SEARCH => {
+                self.first == 0
+                    && self.first_probes == 0
+                    && self.bracket_in_range(self.k, self.probes)
+                    && !self.has_ended()
+            }
+            SECOND_SEARCH => {
+                self.first <= self.k
+                    && self.first_probes <= probe_limit(self.k)
+                    && self.first_probes <= self.probes
+                    && self.bracket_in_range(self.first, self.probes - self.first_probes)
+            }
+            _ => false,
+        }
+    }
+
+    /// Whether lo and hi are those of a search over the indices 1 to `last` that
+    /// has made so many probes.
+    fn bracket_in_range(&self, last: u64, probes: u64) -> bool {
+        self.lo < self.hi
+            && self.hi <= last + 1
+            && probes <= probe_limit(last)
+            && (probes < probe_limit(last) || self.has_ended())
+    }
+
+    /// Whether the search that is on has nothing left to probe.
+    fn has_ended(&self) -> bool {
+        self.hi - self.lo == 1
     }
 
     /// Whether a bidder from 1 to 1,000 is on the roll.
@@ -437,7 +494,18 @@ impl Record {
     }
 
     fn is_over(&self) -> bool {
-        self.hi - self.lo == 1
+        self.search == SECOND_SEARCH && self.has_ended()
+    }
+
+    /// The index of the price, when over: the middle of those at which demand
+    /// equals supply or, where there are none, what the first search gave.
+    fn price(&self) -> u64 {
+        let lowest = self.hi;
+        if lowest <= self.first {
+            (self.first + lowest) / 2
+        } else {
+            self.first
+        }
     }
 
     /// The probed index.
@@ -446,7 +514,7 @@ impl Record {
     }
 
     fn lengths_fit(&self, totals: &[u64], sheets: &[u64]) -> bool {
-        totals.len() == 2 * self.k as usize && sheets.len() == SHEET * probe_limit(self.k) as usize
+        totals.len() == 2 * self.k as usize && sheets.len() == SHEET * sheet_count(self.k) as usize
     }
 
     /// This party's shares of total demand and total supply at the probed index.
@@ -477,9 +545,13 @@ impl Record {
         match self.round {
             1 => {
                 let (demand, supply) = self.totals_at_index(totals);
+                let (plus, minus) = match self.search {
+                    FIRST_SEARCH => (demand, supply),
+                    _ => (supply, demand),
+                };
                 let constant = (1 << 59) + (1 << 32);
                 let masked = amount::sub(constant, sheet.mask());
-                amount::sub(amount::add(masked, demand), supply)
+                amount::sub(amount::add(masked, plus), minus)
             }
             LAST_ROUND => {
                 let sum_bit = bit(self.sum, LAST_ROUND);
@@ -542,15 +614,27 @@ impl Record {
             words[place] = word as u8;
         }
         let verdict = byte::open(&words[..messages.len()], threshold(self.n));
-        match verdict.ok_or(INCONSISTENT)? {
-            1 => self.lo = self.index(),
-            0 => self.hi = self.index(),
+        match (self.search, verdict.ok_or(INCONSISTENT)?) {
+            (FIRST_SEARCH, 1) | (SECOND_SEARCH, 0) => self.lo = self.index(),
+            (FIRST_SEARCH, 0) | (SECOND_SEARCH, 1) => self.hi = self.index(),
             _ => return Err(VERDICT_NOT_BIT),
         }
         self.probes += 1;
         self.round = 1;
         self.sum = 0;
         self.carry = 0;
+        if self.search == FIRST_SEARCH && self.has_ended() {
+            self.begin_second();
+        }
         Ok(())
+    }
+
+    /// Keeps what the first search came to and begins the second.
+    fn begin_second(&mut self) {
+        self.search = SECOND_SEARCH;
+        self.first = self.lo;
+        self.first_probes = self.probes;
+        self.lo = 0;
+        self.hi = self.first + 1;
     }
 }

@@ -6,12 +6,12 @@ use native.Mathlib.Nat.{sub-zero}
 use native.Mathlib.Omega.{arith}
 use lib.ListN.{length, take}
 use Rattle.sharing.specs.Scheme.{threshold}
-use Rattle.search.specs.Limit.{limit}
+use Rattle.search.specs.Limit.{most-probes}
 use Rattle.draws.specs.Draws.{all-sheets}
 use Rattle.panel.specs.Parties.{All, part}
 use Rattle.drawn_sheets.specs.Dealt.{sheet-put, sheets-of}
 use Rattle.draws.proofs.Drawn.{Word, after-sheet-word}
-use Rattle.panel.proofs.Parts.{part-length, limit-nine}
+use Rattle.panel.proofs.Parts.{part-length, sheets-eighteen}
 use Rattle.drawn_sheets.proofs.Dealing.{one-sheet, no-sheet}
 use borrow.Author.Needs.{needs}
 use Rattle.drawn_sheets.proofs.deal_all.Statement.{statement}
@@ -23,7 +23,7 @@ Inv-loop n k state sheets₀ most width last₀ at₀ i₀ sheets last at i =
     × (at ≡ 127 * i)
     × Word last
     × (length sheets ≡ length sheets₀)
-    × (most ≡ limit k)
+    × (most ≡ most-probes k)
     × All n
     (λ j. take (127 * i) (part (127 * most) j sheets) ++ sheets-of (j + 1) (all-sheets (threshold n) (most - i) last)
     ≡ sheets-of (j + 1) (all-sheets (threshold n) most state))
@@ -31,11 +31,11 @@ Inv-loop n k state sheets₀ most width last₀ at₀ i₀ sheets last at i =
 abbrev μ-loop : tie.MeasureT-loop
 μ-loop n k state sheets₀ most width last₀ at₀ i₀ sheets last at i = most - i
 
-limit-requires : tie.Need-limit-requires Inv-loop μ-loop
-limit-requires c κs = search needs
+most-probes-requires : tie.Need-most-probes-requires Inv-loop μ-loop
+most-probes-requires c κs = search needs
 
 mul-width : tie.Need-mul-width Inv-loop μ-loop
-mul-width c = omega (arith, c .limit .ensures, limit-nine _ (c .before .before .pre .2))
+mul-width c = omega (arith, c .most-probes .ensures, sheets-eighteen _ (c .before .before .pre .2))
 
 loop-holds : tie.Need-loop-holds Inv-loop μ-loop
 loop-holds c = (
@@ -43,8 +43,8 @@ loop-holds c = (
   omega arith,
   omega (arith, c .before .before .fits .state),
   refl,
-  c .limit .ensures,
-  λ j h. ap (λ (z : ℕ). sheets-of (j + 1) (all-sheets (threshold (c .before .before .args .n)) z (c .before .before .args .state))) (sub-zero (c .limit .result)),
+  c .most-probes .ensures,
+  λ j h. ap (λ (z : ℕ). sheets-of (j + 1) (all-sheets (threshold (c .before .before .args .n)) z (c .before .before .args .state))) (sub-zero (c .most-probes .result)),
 )
 
 deal-next-requires : tie.Need-deal-next-requires Inv-loop μ-loop
@@ -54,7 +54,7 @@ deal-next-requires c κs =
     (s .pre .0, s .pre .1, omega (arith, l .inv .1, c .before .loop-test .taken), l .inv .3 ∙ s .pre .3 ∙ ap (λ (z : ℕ). s .args .n * (127 * z)) (sym (l .inv .4)))
 
 add-at : tie.Need-add-at Inv-loop μ-loop
-add-at c = omega (arith, c .before .before .before .before .before .loop .inv .1, c .before .before .before .before .before .loop .inv .4, c .before .before .before .before .loop-test .taken, limit-nine _ (c .before .before .before .before .before .before .before .before .pre .2))
+add-at c = omega (arith, c .before .before .before .before .before .loop .inv .1, c .before .before .before .before .before .loop .inv .4, c .before .before .before .before .loop-test .taken, sheets-eighteen _ (c .before .before .before .before .before .before .before .before .pre .2))
 
 add-i : tie.Need-add-i Inv-loop μ-loop
 add-i c = search needs
@@ -68,7 +68,7 @@ loop-again c =
     let s = c .before .before .before .before .before .before .before .before in
     let a = s .args in
     let r = c .before .before .deal-next in
-    let m : ℕ = c .before .before .before .before .before .before .limit .result in
+    let m : ℕ = c .before .before .before .before .before .before .most-probes .result in
     let h : l .i < m = c .before .before .before .before .loop-test .taken in
     let lx : length (l .sheets) ≡ a .n * (127 * m) = l .inv .3 ∙ s .pre .3 ∙ ap (λ (z : ℕ). a .n * (127 * z)) (sym (l .inv .4)) in (
       omega arith,
@@ -91,7 +91,7 @@ returns c j h =
     let l = c .before .loop in
     let s = c .before .before .before .before in
     let a = s .args in
-    let m : ℕ = c .before .before .limit .result in
+    let m : ℕ = c .before .before .most-probes .result in
     let lx : length (l .sheets) ≡ a .n * (127 * m) = l .inv .3 ∙ s .pre .3 ∙ ap (λ (z : ℕ). a .n * (127 * z)) (sym (l .inv .4)) in
     ap (λ (z : ℕ). part (127 * z) j (l .sheets)) (sym (l .inv .4))
     ∙ no-sheet (threshold (a .n)) (j + 1) (l .last) m (l .i) (part (127 * m) j (l .sheets)) _ (c .loop-test .left)
@@ -104,7 +104,7 @@ deal-all-spec =
     (tie.spec
     Inv-loop
     μ-loop
-    limit-requires
+    most-probes-requires
     mul-width
     loop-holds
     deal-next-requires

@@ -18,7 +18,8 @@ use Rattle.round.specs.Round.{heard, unopened, sum-outside, verdict-outside}
 use Rattle.hearing.specs.Hear.{hear-judgement, after}
 use Rattle.refusal.proofs.Judging.{refuses, passes, all-passed}
 use Rattle.record.proofs.Replies.{next-accepted, next-refused}
-use Rattle.record.proofs.Soundness.{sound-of, probing}
+use Rattle.search.proofs.Bounds.{probing}
+use Rattle.record.proofs.Soundness.{sound-of}
 use Rattle.ranges.proofs.Ranges.{is-below}
 use Rattle.saying.proofs.Sheets.{current-there, current-long}
 use Rattle.saying.proofs.Laws.{Says, turns, was-said, was-refused}
@@ -174,7 +175,7 @@ current-requires : tie.Need-current-requires
 current-requires c κs =
     let k = own-known (c .before .before .before .before .before .before) in
     let f = facts k in
-    current-there (q k) (sheets k) (probing (q k) (f .sound) (f .going)) (f .sheets-long)
+    current-there (q k) (sheets k) (probing (q k .k) (q k .search) (f .sound .search) (f .going)) (f .sheets-long)
 
 after-requires : tie.Need-after-requires
 after-requires c κs =
@@ -182,7 +183,7 @@ after-requires c κs =
     let k = own-known h in
     let f = facts k in (
       sound-of (q k) (f .sound),
-      ap length (c .current .ensures) ∙ current-long (q k) (sheets k) (probing (q k) (f .sound) (f .going)) (f .sheets-long),
+      ap length (c .current .ensures) ∙ current-long (q k) (sheets k) (probing (q k .k) (q k .search) (f .sound .search) (f .going)) (f .sheets-long),
       rw (c .current .ensures) (is-below 256 (drop 1 (current (q k) (sheets k))) (f .in-field .bytes)),
       rw (h .open-round .ensures) (heard-possible (q k .n) (q k .round) (messages k) (f .sound .round-least)),
     )

@@ -1,12 +1,25 @@
--- `write` meets its contract: the ten numbers, then the roll after them. Assumes nothing.
-use mathlib.Core.Path.{ap, _∙_}
+-- `write` meets its contract: the ten numbers, the roll after them, and the rest of the search. Assumes nothing.
+use mathlib.Core.Path.{_≡_, ap, _∙_}
 use mathlib.Core.List.{List, _++_}
 use Prim.Native.Nat.{ℕ}
-use lib.ListN.{take}
-use Rattle.record_words.specs.Words.{words-of}
+use lib.ListN.{length, take, drop}
+use lib.Seq.{take-at}
+use Rattle.record.specs.declared.Party.{Party}
+use Rattle.record_words.specs.Words.{search-words, words-of}
+use Rattle.record_words.proofs.RollWords.{roll-end}
 use borrow.Author.Needs.{needs}
 use Rattle.record_words.proofs.write.Statement.{statement}
 use Rattle.record_words.proofs.write.Tie as tie
+
+-- the numbers and the roll are what stands before the search's words
+joined : (q : Party) (rest : List ℕ) → length (q .roll .words) ≡ 16
+    → take 26 (take 10 (words-of q) ++ q .roll .words ++ rest) ++ search-words (q .search) ≡ words-of q
+unfolding words-of
+joined q rest long =
+    ap (λ (ws : List ℕ). ws ++ search-words (q .search)) (take-at (take 10 (words-of q) ++ q .roll .words) rest 26 (roll-end q long))
+
+long : (c : tie.Start) → length (c .args .q .roll .words) ≡ 16
+long c = search needs
 
 write-numbers-requires : tie.Need-write-numbers-requires
 write-numbers-requires c κs = search needs
@@ -14,16 +27,24 @@ write-numbers-requires c κs = search needs
 write-roll-requires : tie.Need-write-roll-requires
 write-roll-requires c κs = search needs
 
+write-search-requires : tie.Need-write-search-requires
+write-search-requires c κs = search needs
+
 same-length : tie.Need-same-length
 same-length c = search needs
 
 returns : tie.Need-returns
 unfolding words-of
 returns c =
-    let second = c .before .before in
+    let third = c .before .before in
+    let second = third .before .before .before .before in
     let first = second .before .before .before .before in
-    let roll-words = first .before .before .before .args .q .roll .words in
-    second .write-roll .ensures ∙ ap (λ (ws : List ℕ). take 10 ws ++ roll-words) (first .write-numbers .ensures)
+    let start = first .before .before .before in
+    let q = start .args .q in
+    third .write-search .ensures
+    ∙ ap (λ (ws : List ℕ). take 26 ws ++ search-words (q .search))
+    (second .write-roll .ensures ∙ ap (λ (ws : List ℕ). take 10 ws ++ q .roll .words ++ drop 26 ws) (first .write-numbers .ensures))
+    ∙ joined q _ (long start)
 
 pub write-spec : {M : Type 1} → statement M
-write-spec = tie.close (tie.spec write-numbers-requires write-roll-requires same-length returns)
+write-spec = tie.close (tie.spec write-numbers-requires write-roll-requires write-search-requires same-length returns)

@@ -1,10 +1,10 @@
 -- `write_roll` meets its contract: of the roll, the words before i are written. Assumes nothing.
-use mathlib.Core.Path.{_≡_, ap₂, _∙_}
-use mathlib.Core.List.{List, _++_, append-nil}
+use mathlib.Core.Path.{_≡_, ap, _∙_}
+use mathlib.Core.List.{List, _++_}
 use Prim.Native.Nat.{ℕ, _+_, _-_, _≤_}
 use native.Mathlib.Numerals.{add-one}
 use native.Mathlib.Omega.{arith}
-use lib.ListN.{length, take, length-set, drop-of-length-le}
+use lib.ListN.{length, take, drop, length-set}
 use lib.Seq.{take-all, paste, paste-zero, paste-suc}
 use borrow.Author.Needs.{needs}
 use Rattle.record_words.proofs.write_roll.Statement.{statement}
@@ -60,12 +60,11 @@ same-length c = search needs
 returns : tie.Need-returns Inv-loop μ-loop
 returns c =
     let l = c .before .loop in
-    let s = c .before .before .before in
-    let a = s .args in
+    let a = c .before .before .before .args in
+    let e : l .i ≡ 16 = omega arith in
     l .inv .3
-    ∙ ap₂ (λ (new rest : List ℕ). take 10 (a .words .now) ++ new ++ rest) (take-all (l .i) (a .roll .words) (omega arith))
-    (drop-of-length-le (a .words .now) {i = 10 + l .i} (omega (arith, s .pre)))
-    ∙ append-nil (take 10 (a .words .now) ++ a .roll .words)
+    ∙ ap (paste (a .words .now) 10 (a .roll .words)) e
+    ∙ ap (λ (new : List ℕ). take 10 (a .words .now) ++ new ++ drop 26 (a .words .now)) (take-all 16 (a .roll .words) (omega arith))
 
 pub write-roll-spec : {M : Type 1} → statement M
 write-roll-spec =

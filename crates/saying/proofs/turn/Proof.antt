@@ -7,14 +7,15 @@ use lib.ListN.{length}
 use denote.Ref.{now}
 use borrow.Author.Tests.{not-false, eqb-true}
 use Rattle.ranges.specs.Sizes.{long}
-use Rattle.search.specs.Bracket.{over}
+use Rattle.search.specs.Searches.{finished}
+use Rattle.search.proofs.Bounds.{Probing, probing}
 use Rattle.saying.specs.declared.Said.the-variants.{Message}
-use Rattle.record.specs.Record.{bracket, sound}
+use Rattle.record.specs.Record.{sound}
 use Rattle.saying.specs.Say.{sheets-long, current, in-field, message, turn-judgement}
 use Rattle.ranges.proofs.Loops.{and-true}
 use Rattle.refusal.proofs.Judging.{refuses, passes, all-passed}
 use Rattle.saying.proofs.Laws.{said-accepted, said-refused}
-use Rattle.record.proofs.Soundness.{Sound, sound-facts, limit-most, Probing, probing}
+use Rattle.record.proofs.Soundness.{Sound, sound-facts, sheets-most}
 use Rattle.saying.proofs.Sheets.{current-there, current-long}
 use borrow.Author.Needs.{needs}
 use Rattle.saying.proofs.turn.Statement.{statement}
@@ -28,7 +29,7 @@ abbrev from-second : tie.Else2 → tie.Start
 from-second c = from-first (c .before .before)
 
 abbrev from-third : tie.Else3 → tie.Start
-from-third c = from-second (c .before .before .before)
+from-third c = from-second (c .before .before)
 
 -- each test that was passed
 whole : (c : tie.Else1) → sound (from-first c .args .q) ≡ true
@@ -37,10 +38,10 @@ whole c = not-false _ (ap not (sym (c .before .sound .ensures)) ∙ c .if1 .left
 sized : (c : tie.Else2) →
     let a = from-second c .args in
     not (long (2 * a .q .k) (a .totals .now) && long (sheets-long (a .q .k)) (a .sheets .now) && a .else-long) ≡ false
-sized c = rw (sym (c .before .limit .ensures)) (c .if2 .left)
+sized c = rw (sym (c .before .most-probes .ensures)) (c .if2 .left)
 
-going : (c : tie.Else3) → over (bracket (from-third c .args .q)) ≡ false
-going c = ap over (sym (c .before .before .bracket .ensures)) ∙ sym (c .before .over .ensures) ∙ c .if3 .left
+going : (c : tie.Else3) → finished (from-third c .args .q .search) ≡ false
+going c = sym (c .before .finished .ensures) ∙ c .if3 .left
 
 -- what they mean
 facts : (c : tie.Else1) → Sound (from-first c .args .q)
@@ -53,15 +54,15 @@ lengths c =
     let l = and-true _ _ (and-true _ _ (not-false _ (sized c)) .0) in
     (eqb-true _ _ (l .0), eqb-true _ _ (l .1))
 
-left-to-probe : (c : tie.Else3) → Probing (from-third c .args .q)
-left-to-probe c = probing _ (facts (c .before .before .before .before .before)) (going c)
+left-to-probe : (c : tie.Else3) → Probing (from-third c .args .q .k) (from-third c .args .q .search)
+left-to-probe c = probing _ _ (facts (c .before .before .before .before) .search) (going c)
 
 -- the sheet that was lent on
 sheet-long : (c : tie.After-current) → length (now (c .current .result)) ≡ 127
 sheet-long c =
     let a = from-third (c .before) .args in
     ap length (c .current .ensures)
-    ∙ current-long (a .q) (a .sheets .now) (left-to-probe (c .before)) (lengths (c .before .before .before .before) .1)
+    ∙ current-long (a .q) (a .sheets .now) (left-to-probe (c .before)) (lengths (c .before .before .before) .1)
 
 judged : (c : tie.After-in-field) →
     let a = from-third (c .before .before) .args in
@@ -77,50 +78,47 @@ returns : tie.Need-returns
 unfolding turn-judgement
 returns c = sym (said-refused _ _ _ (refuses _ _ _ (ap not (sym (c .before .sound .ensures)) ∙ c .if1 .taken)))
 
-limit-requires : tie.Need-limit-requires
-limit-requires c κs = search needs
+most-probes-requires : tie.Need-most-probes-requires
+most-probes-requires c κs = search needs
 
 mul-if2 : tie.Need-mul-if2
 mul-if2 c = omega (arith, facts (c .before) .listed .prices-most)
 
 mul-if2-2 : tie.Need-mul-if2-2
-mul-if2-2 c = omega (arith, c .limit .ensures, limit-most _ (facts (c .before) .listed .prices-most))
+mul-if2-2 c = omega (arith, c .most-probes .ensures, sheets-most _ (facts (c .before) .listed .prices-most))
 
 returns-2 : tie.Need-returns-2
 unfolding turn-judgement
 returns-2 c =
     sym
     (said-refused _ _ _
-    (passes _ _ _ (ap not (whole (c .before .before))) ∙ refuses _ _ _ (rw (sym (c .before .limit .ensures)) (c .if2 .taken))))
+    (passes _ _ _ (ap not (whole (c .before .before))) ∙ refuses _ _ _ (rw (sym (c .before .most-probes .ensures)) (c .if2 .taken))))
 
-bracket-requires : tie.Need-bracket-requires
-bracket-requires c κs = search needs
-
-over-requires : tie.Need-over-requires
-over-requires c κs = search needs
+finished-requires : tie.Need-finished-requires
+finished-requires c κs = search needs
 
 returns-3 : tie.Need-returns-3
 unfolding turn-judgement
 returns-3 c =
-    let two = c .before .before .before in
-    let over = ap over (sym (c .before .before .bracket .ensures)) ∙ sym (c .before .over .ensures) ∙ c .if3 .taken in
+    let two = c .before .before in
+    let over = sym (c .before .finished .ensures) ∙ c .if3 .taken in
     sym (said-refused _ _ _ (passes _ _ _ (ap not (whole (two .before .before))) ∙ passes _ _ _ (sized two) ∙ refuses _ _ _ over))
 
 current-requires : tie.Need-current-requires
 current-requires c κs =
-    current-there (from-third c .args .q) (from-third c .args .sheets .now) (left-to-probe c) (lengths (c .before .before .before) .1)
+    current-there (from-third c .args .q) (from-third c .args .sheets .now) (left-to-probe c) (lengths (c .before .before) .1)
 
 in-field-requires : tie.Need-in-field-requires
 in-field-requires c κs =
     let three = c .before in
-    let two = three .before .before .before in
+    let two = three .before .before in
     (whole (two .before .before), going three, lengths two .0, sheet-long c)
 
 returns-4 : tie.Need-returns-4
 unfolding turn-judgement
 returns-4 c =
     let three = c .before .before .before in
-    let two = three .before .before .before in
+    let two = three .before .before in
     sym
     (said-refused _ _ _
     (passes _ _ _ (ap not (whole (two .before .before))) ∙ passes _ _ _ (sized two) ∙ passes _ _ _ (going three)
@@ -129,7 +127,7 @@ returns-4 c =
 message-requires : tie.Need-message-requires
 message-requires c κs =
     let three = c .before .before .before in
-    let two = three .before .before .before in
+    let two = three .before .before in
     let e = sym (c .before .in-field .ensures) ∙ not-false _ (c .if4 .left) in
     (whole (two .before .before), going three, lengths two .0, sheet-long (c .before .before), e)
 
@@ -138,7 +136,7 @@ unfolding turn-judgement
 returns-5 c =
     let four = c .before in
     let three = four .before .before .before in
-    let two = three .before .before .before in
+    let two = three .before .before in
     let a = from-third three .args in
     ap Message (c .message .ensures ∙ ap (message (a .q) (a .totals .now)) (four .before .before .current .ensures))
     ∙ sym
@@ -152,12 +150,11 @@ turn-spec =
     (tie.spec
     sound-requires
     returns
-    limit-requires
+    most-probes-requires
     mul-if2
     mul-if2-2
     returns-2
-    bracket-requires
-    over-requires
+    finished-requires
     returns-3
     current-requires
     in-field-requires

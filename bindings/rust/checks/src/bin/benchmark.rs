@@ -21,9 +21,9 @@ use std::thread::available_parallelism;
 use std::time::{Duration, Instant};
 
 use clockivy_checks::engine::{Engine, Plain, Verified};
-use clockivy_checks::record::{mark, marks, BIDS, HI, LO};
+use clockivy_checks::record::{is_over, mark, marks, BIDS};
 use clockivy_checks::rng::Rng;
-use clockivy_reference::{probe_limit, threshold, LAST_ROUND, MAX_BIDS, RECORD, SHEET};
+use clockivy_reference::{sheet_count, threshold, LAST_ROUND, MAX_BIDS, RECORD, SHEET};
 
 const N: u64 = 5;
 const K: u64 = 1_024;
@@ -260,7 +260,7 @@ impl Inputs {
                 coins: rng.words(TABLE * t, Rng::amount_share),
             })
             .collect();
-        let draws: Vec<Drawn> = (0..probe_limit(K))
+        let draws: Vec<Drawn> = (0..sheet_count(K))
             .map(|_| {
                 let mut words = rng.words(1 + t, Rng::amount_share);
                 words[0] = rng.mask();
@@ -363,7 +363,7 @@ fn half() -> [u64; RECORD] {
 /// Every call of an auction, for all parties.
 fn auction<E: Engine>(inputs: &mut Inputs) {
     let mut seats = seats::<E>(&inputs.bids, &inputs.draws);
-    while seats[0].record[HI] - seats[0].record[LO] > 1 {
+    while !is_over(&seats[0].record) {
         round::<E>(&mut seats);
     }
     for seat in &seats {

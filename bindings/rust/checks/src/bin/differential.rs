@@ -2,9 +2,11 @@
 //!
 //!     cargo run --release --bin differential [CALLS [SEED]]
 //!
-//! It passes where no call made a difference and every reply has come up. Whole
-//! auctions come first, however few calls are asked for, and single calls fill
-//! up the number; without enough of these, some replies may not come up.
+//! It passes where no call made a difference, every reply has come up, every
+//! fault of a record has met every call that judges one, and whole auctions have
+//! ended in every way. Whole auctions come first, however few calls are asked
+//! for, and single calls fill up the number; without enough of these, something
+//! may not come up.
 
 use std::env;
 use std::process::ExitCode;
@@ -35,7 +37,6 @@ fn main() -> ExitCode {
     let start = Instant::now();
     let mut tally = Tally::default();
     let outcome = run(seed, &PRICES, calls, &mut tally);
-    println!("Calls by reply: 0 (done) or the number of the refusal\n");
     println!("{tally}\n");
     println!(
         "seed {seed}, {} calls, {} whole auctions, {:.0} seconds",
@@ -48,11 +49,12 @@ fn main() -> ExitCode {
         println!("differential: FAILED");
         return ExitCode::FAILURE;
     }
-    if let Some((kind, reply)) = tally.unreached().first() {
-        println!("{} never replied {reply}", kind.name());
+    let missing = missing(&tally);
+    if !missing.is_empty() {
+        println!("{}", missing.join("\n"));
         // As many calls as are made by default have to see them all.
         if tally.calls() < CALLS {
-            println!("differential: no difference, but too few calls to see every reply");
+            println!("differential: no difference, but too few calls to see everything");
         } else {
             println!("differential: FAILED");
         }
@@ -60,6 +62,21 @@ fn main() -> ExitCode {
     }
     println!("differential: passed, every reply, record and buffer the same");
     ExitCode::SUCCESS
+}
+
+/// What has to come up and did not, a line for each.
+fn missing(tally: &Tally) -> Vec<String> {
+    let mut lines = Vec::new();
+    for (kind, reply) in tally.unreached() {
+        lines.push(format!("{} never replied {reply}", kind.name()));
+    }
+    for (kind, condition) in tally.unmet() {
+        lines.push(format!("{} met no such record: {condition}", kind.name()));
+    }
+    for ending in tally.unended() {
+        lines.push(format!("no whole auction ended so: {ending}"));
+    }
+    lines
 }
 
 /// No reply has come up that a call cannot give.

@@ -6,16 +6,16 @@ use native.Mathlib.Omega.{arith}
 use Rattle.fields.specs.Byte.{bytes}
 use Rattle.comparison.specs.Local.{on-shares}
 use Rattle.comparison.specs.Rounds.{first-carry}
-use Rattle.search.specs.declared.Bracket.{Bracket}
-use Rattle.search.specs.Bracket.{step}
+use Rattle.search.specs.declared.searches.Search.{Search}
+use Rattle.search.specs.Searches.{next}
+use Rattle.search.proofs.Bounds.{probes-few}
 use Rattle.record.specs.declared.Party.{Party}
 use Rattle.round.specs.declared.Heard.{Heard}
 use Rattle.round.specs.declared.Heard.the-variants.{Sum, Verdict}
-use Rattle.record.specs.Record.{bracket}
 use Rattle.saying.specs.Say.{bit-share}
 use Rattle.record.specs.Updates.{in-round, decided}
 use Rattle.hearing.specs.Hear.{after}
-use Rattle.record.proofs.Soundness.{sound-facts, limit-most}
+use Rattle.record.proofs.Soundness.{sound-facts, sheets-most}
 use borrow.Author.Needs.{needs}
 use Rattle.hearing.proofs.after.after.Statement.{statement}
 use Rattle.hearing.proofs.after.after.Tie as tie
@@ -26,9 +26,9 @@ module _ (q : Party) (sheet : List ℕ) (h : Heard) where
   unfolding after
   summed v b carry e f g = rw (e, g, f)
 
-  judged : (v : ℕ) (b b′ : Bracket) → h ≡ Verdict v → b ≡ bracket q → b′ ≡ step b v → decided q b′ ≡ after q sheet h
+  judged : (v : ℕ) (s : Search) → h ≡ Verdict v → s ≡ next (q .search) v → decided q s ≡ after q sheet h
   unfolding after
-  judged v b b′ e f g = rw (e, g, f)
+  judged v s e f = rw (e, f)
 
 enum-known-heard : tie.Need-enum-known-heard
 enum-known-heard c = search needs
@@ -53,17 +53,14 @@ multiplied-requires c κs =
 enum-known-heard-3 : tie.Need-enum-known-heard-3
 enum-known-heard-3 c = search needs
 
-bracket-requires : tie.Need-bracket-requires
-bracket-requires c κs = search needs
-
-step-requires : tie.Need-step-requires
-step-requires c κs = search needs
+next-requires : tie.Need-next-requires
+next-requires c κs =
+    let s = c .before .before .before .before in
+    let f = sound-facts (s .args .q) (s .pre .0) in
+    omega (arith, probes-few _ _ (f .search), sheets-most (s .args .q .k) (f .listed .prices-most))
 
 decided-requires : tie.Need-decided-requires
-decided-requires c κs =
-    let s = c .before .before .before .before .before .before in
-    let f = sound-facts (s .args .q) (s .pre .0) in
-    omega (arith, f .probes, limit-most (s .args .q .k) (f .listed .prices-most))
+decided-requires c κs = search needs
 
 enum-told : tie.Need-enum-told
 enum-told c = search needs
@@ -80,10 +77,9 @@ returns-2 c = c .multiplied .ensures ∙ ap (after _ _) (sym (c .before .before 
 
 returns-3 : tie.Need-returns-3
 returns-3 c =
-    let s = c .before .before .before .before .before .before .before in
+    let s = c .before .before .before .before .before .before in
     c .decided .ensures
-    ∙ judged (s .args .q) (s .args .sheet .now) (s .args .heard) _ _ _ (c .before .before .before .before .heard3 .given .1)
-    (c .before .before .bracket .ensures) (c .before .step .ensures)
+    ∙ judged (s .args .q) (s .args .sheet .now) (s .args .heard) _ _ (c .before .before .before .heard3 .given .1) (c .before .next .ensures)
 
 returns-4 : tie.Need-returns-4
 unfolding after
@@ -100,8 +96,7 @@ after-spec =
     enum-known-heard-2
     multiplied-requires
     enum-known-heard-3
-    bracket-requires
-    step-requires
+    next-requires
     decided-requires
     enum-told
     returns

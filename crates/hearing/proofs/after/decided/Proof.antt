@@ -1,16 +1,12 @@
 -- `decided` meets its contract. Assumes nothing.
 use mathlib.Core.Path.{refl}
-use borrow.Author.Needs.{needs}
 use Rattle.record.specs.Updates.{decided}
 use Rattle.hearing.proofs.after.decided.Statement.{statement}
 use Rattle.hearing.proofs.after.decided.Tie as tie
-
-add-next : tie.Need-add-next
-add-next c = search needs
 
 returns : tie.Need-returns
 unfolding decided
 returns c = refl
 
 pub decided-spec : {M : Type 1} → statement M
-decided-spec = tie.close (tie.spec add-next returns)
+decided-spec = tie.close (tie.spec returns)

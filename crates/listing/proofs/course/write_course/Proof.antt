@@ -24,7 +24,7 @@ returns-2 : tie.Need-returns-2
 returns-2 c =
     let p2 = c .before .before in
     let p1 = p2 .before .before in
-    let a = p1 .before .before .before .before .before .args in
+    let a = p1 .before .before .before .before .args in
     let e = sym (length-course (a .course .index) (a .course .verdict) (a .course .probes)) in (
       λ h. then (p1 .write-probes .ensures .0) (then (p2 .write-clears .ensures .0) (wrote-same (ap rounds-line e) (c .write-rounds .ensures))),
       λ h. absurd (omega arith),

@@ -2,7 +2,7 @@
 use mathlib.Core.Path.{ap, _∙_}
 use Prim.Native.Nat.{_-_, _*_, _≤_}
 use native.Mathlib.Omega.{arith}
-use Rattle.search.specs.Limit.{limit}
+use Rattle.search.specs.Limit.{most-probes}
 use Rattle.record.specs.declared.Party.{Party}
 use Rattle.record.specs.Record.{blank}
 use Rattle.hearing.specs.Hear.{hear-reply}
@@ -36,7 +36,7 @@ hear-one-requires c κs =
       s .pre .1,
       omega (arith, h, s .pre .0),
       omega (arith, room (2 * s .args .k) (s .args .n) i h, s .pre .2),
-      omega (arith, room (127 * limit (s .args .k)) (s .args .n) i h, s .pre .3),
+      omega (arith, room (127 * most-probes (s .args .k)) (s .args .n) i h, s .pre .3),
     )
 
 mul-after : tie.Need-mul-after Inv-loop μ-loop
@@ -61,7 +61,7 @@ loop-again c =
       omega arith,
       rowed-more blank (a .n) _ _ (l .after) (l .i) _ (l .inv .1) (omega (arith, s .good, s .pre .0))
           (c .hear-one .ensures
-          ∙ ap (λ (q : Party). hear-reply q (part (2 * a .k) (l .i) (a .totals .now)) (part (127 * limit (a .k)) (l .i) (a .sheets .now)) (a .messages .now) .party) there),
+          ∙ ap (λ (q : Party). hear-reply q (part (2 * a .k) (l .i) (a .totals .now)) (part (127 * most-probes (a .k)) (l .i) (a .sheets .now)) (a .messages .now) .party) there),
     )
 
 returns : tie.Need-returns Inv-loop μ-loop

@@ -2,7 +2,7 @@
 use mathlib.Core.Path.{ap, _∙_}
 use Prim.Native.Nat.{_-_, _*_, _≤_}
 use native.Mathlib.Omega.{arith}
-use Rattle.search.specs.Limit.{limit}
+use Rattle.search.specs.Limit.{most-probes}
 use Rattle.record.specs.declared.Party.{Party}
 use Rattle.record.specs.Record.{blank}
 use Rattle.saying.specs.Say.{say-reply}
@@ -37,7 +37,7 @@ say-one-requires c κs =
       s .pre .1,
       omega (arith, h, s .pre .0),
       omega (arith, room (2 * s .args .k) (s .args .n) i h, s .pre .2),
-      omega (arith, room (127 * limit (s .args .k)) (s .args .n) i h, s .pre .3),
+      omega (arith, room (127 * most-probes (s .args .k)) (s .args .n) i h, s .pre .3),
     )
 
 mul-messages : tie.Need-mul-messages Inv-loop μ-loop
@@ -62,7 +62,7 @@ loop-again c =
       omega arith,
       rowed-more 0 (a .n) _ _ (l .messages) (l .i) _ (l .inv .1) (omega (arith, c .before .before .loop-test .taken, s .pre .4))
           (c .say-one .ensures
-          ∙ ap (λ (q : Party). word (say-reply q (part (2 * a .k) (l .i) (a .totals .now)) (part (127 * limit (a .k)) (l .i) (a .sheets .now)))) there),
+          ∙ ap (λ (q : Party). word (say-reply q (part (2 * a .k) (l .i) (a .totals .now)) (part (127 * most-probes (a .k)) (l .i) (a .sheets .now)))) there),
     )
 
 same-length : tie.Need-same-length Inv-loop μ-loop

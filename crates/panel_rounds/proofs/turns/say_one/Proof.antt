@@ -4,7 +4,7 @@ use mathlib.Core.List.{List}
 use Prim.Native.Nat.{ℕ, _+_, _-_, _*_, _≤_}
 use native.Mathlib.Omega.{arith}
 use lib.ListN.{length}
-use Rattle.search.specs.Limit.{limit}
+use Rattle.search.specs.Limit.{most-probes}
 use Rattle.saying.specs.Say.{say-reply}
 use Rattle.auction.specs.Canonical.{word}
 use Rattle.panel.proofs.Parts.{part-read}
@@ -15,8 +15,8 @@ use Rattle.panel_rounds.proofs.turns.say_one.Tie as tie
 mul-width : tie.Need-mul-width
 mul-width c = search needs
 
-limit-requires : tie.Need-limit-requires
-limit-requires c κs = search needs
+most-probes-requires : tie.Need-most-probes-requires
+most-probes-requires c κs = search needs
 
 mul-lent : tie.Need-mul-lent
 mul-lent c = search needs
@@ -25,12 +25,12 @@ mul-at : tie.Need-mul-at
 mul-at c = search needs
 
 -- there is room for the party's sheets
-fits : (c : tie.After-limit)
-    → c .before .before .before .args .i * (127 * c .limit .result) + 127 * c .limit .result ≤ length (c .before .before .before .args .sheets .now)
+fits : (c : tie.After-most-probes)
+    → c .before .before .before .args .i * (127 * c .most-probes .result) + 127 * c .most-probes .result ≤ length (c .before .before .before .args .sheets .now)
 fits c =
     let s = c .before .before .before in
-    let e : s .args .i * (127 * limit (s .args .k)) + 127 * limit (s .args .k) ≡ s .args .i * (127 * c .limit .result) + 127 * c .limit .result =
-    ap (λ (z : ℕ). s .args .i * (127 * z) + 127 * z) (sym (c .limit .ensures)) in
+    let e : s .args .i * (127 * most-probes (s .args .k)) + 127 * most-probes (s .args .k) ≡ s .args .i * (127 * c .most-probes .result) + 127 * c .most-probes .result =
+    ap (λ (z : ℕ). s .args .i * (127 * z) + 127 * z) (sym (c .most-probes .ensures)) in
     omega (arith, e, s .pre .3)
 
 mul-from : tie.Need-mul-from
@@ -74,12 +74,12 @@ word-requires c κs = search needs
 
 returns : tie.Need-returns
 returns c =
-    let m = c .before .before .before .before .limit in
+    let m = c .before .before .before .before .most-probes in
     let a = c .before .before .before .before .before .before .before .args in
     let v : a .i * (2 * a .k) + 2 * a .k - a .i * (2 * a .k) ≡ 2 * a .k = omega arith in
-    let w : a .i * (127 * m .result) + 127 * m .result - a .i * (127 * m .result) ≡ 127 * limit (a .k) = omega (arith, m .ensures) in
+    let w : a .i * (127 * m .result) + 127 * m .result - a .i * (127 * m .result) ≡ 127 * most-probes (a .k) = omega (arith, m .ensures) in
     let x = part-read (2 * a .k) (a .i) (a .i * (2 * a .k)) _ (a .totals .now) refl v in
-    let y = part-read (127 * limit (a .k)) (a .i) (a .i * (127 * m .result)) _ (a .sheets .now) (ap (λ (z : ℕ). a .i * (127 * z)) (m .ensures)) w in
+    let y = part-read (127 * most-probes (a .k)) (a .i) (a .i * (127 * m .result)) _ (a .sheets .now) (ap (λ (z : ℕ). a .i * (127 * z)) (m .ensures)) w in
     c .word .ensures ∙ ap word (c .before .say .ensures) ∙ ap₂ (λ (x y : List ℕ). word (say-reply (a .q) x y)) x y
 
 pub say-one-spec : {M : Type 1} → statement M
@@ -87,7 +87,7 @@ say-one-spec =
     tie.close
     (tie.spec
     mul-width
-    limit-requires
+    most-probes-requires
     mul-lent
     mul-at
     mul-from

@@ -1,14 +1,13 @@
 -- `probe` meets its contract: i rounds are made, of every auction in which the parties may stand. Assumes nothing.
 use mathlib.Core.Path.{_≡_}
 use mathlib.Core.List.{List}
-use Prim.Native.Nat.{ℕ, _-_, _≤_}
+use Prim.Native.Nat.{_-_, _≤_}
 use native.Mathlib.Omega.{arith}
-use Rattle.search.specs.declared.Bracket.{Bracket}
-use Rattle.search.specs.Bracket.{middle}
+use Rattle.search.specs.declared.searches.Search.{Search}
 use Rattle.comparison.specs.Probe.{SheetCoins}
 use Rattle.auction.specs.Auction.{Bid, IsAuction}
 use Rattle.auction.specs.Coins.{Coins, InRange}
-use Rattle.auction.proofs.Closed.{polynomials, probe-at, fresh-stage}
+use Rattle.auction.proofs.Closed.{polynomials, probe-of, fresh-stage}
 use Rattle.auction.proofs.Round.{Ready, stage-of}
 use Rattle.standing.proofs.Standing.{Stands}
 use Rattle.standing.proofs.Rounds.{round-stands, step-at, step-last}
@@ -20,17 +19,17 @@ abbrev Inv-loop : tie.InvT-loop
 Inv-loop n k totals sheets after₀ i₀ after i =
     (i ≤ 32)
     × ((bids : List Bid) (c : Coins) → IsAuction (record { n = n; k = k; bids = bids }) → InRange (record { n = n; k = k; bids = bids }) c
-    → (b : Bracket) (m : ℕ) (s : SheetCoins) (ss : List SheetCoins) → Ready (record { n = n; k = k; bids = bids }) c b m s ss
-    → Stands (record { n = n; k = k; bids = bids }) c (fresh-stage b m) after₀ totals sheets
+    → (here : Search) (s : SheetCoins) (ss : List SheetCoins) → Ready (record { n = n; k = k; bids = bids }) c here s ss
+    → Stands (record { n = n; k = k; bids = bids }) c (fresh-stage here) after₀ totals sheets
     → Stands (record { n = n; k = k; bids = bids }) c
-    (stage-of b m (probe-at (record { n = n; k = k; bids = bids }) (polynomials (record { n = n; k = k; bids = bids }) c) (middle b) s) i)
+    (stage-of here (probe-of (record { n = n; k = k; bids = bids }) (polynomials (record { n = n; k = k; bids = bids }) c) here s) i)
     after totals sheets)
 
 abbrev μ-loop : tie.MeasureT-loop
 μ-loop n k totals sheets after₀ i₀ after i = 32 - i
 
 loop-holds : tie.Need-loop-holds Inv-loop μ-loop
-loop-holds c = (omega arith, λ bids d A C b m s ss R H. H)
+loop-holds c = (omega arith, λ bids d A C here s ss R H. H)
 
 round-requires : tie.Need-round-requires Inv-loop μ-loop
 round-requires c κs = search needs
@@ -46,19 +45,19 @@ loop-again c =
     let l = c .before .before .loop in
     let a = c .before .before .before .before .before .args in (
       omega arith,
-      λ bids d A C b m s ss R H.
-          round-stands _ d _ _ _ (step-at _ d A C b m s ss R (l .i) (c .before .loop-test .taken)) (l .after) (a .totals .now) (a .sheets .now) (l .inv .1 bids d A C b m s ss R H) (c .round .result) (c .round .ensures),
+      λ bids d A C here s ss R H.
+          round-stands _ d _ _ _ (step-at _ d A C here s ss R (l .i) (c .before .loop-test .taken)) (l .after) (a .totals .now) (a .sheets .now) (l .inv .1 bids d A C here s ss R H) (c .round .result) (c .round .ensures),
     )
 
 round-requires-2 : tie.Need-round-requires-2 Inv-loop μ-loop
 round-requires-2 c κs = search needs
 
 returns : tie.Need-returns Inv-loop μ-loop
-returns c = λ bids d A C b m s ss R H.
+returns c = λ bids d A C here s ss R H.
     let l = c .before .before .loop in
     let a = c .before .before .before .before .before .args in
     let e : l .i ≡ 32 = omega (arith, c .before .loop-test .left, l .inv .0) in
-    round-stands _ d _ _ _ (step-last _ d A C b m s ss R) (l .after) (a .totals .now) (a .sheets .now) (rw e at (l .inv .1 bids d A C b m s ss R H)) (c .round2 .result) (c .round2 .ensures)
+    round-stands _ d _ _ _ (step-last _ d A C here s ss R) (l .after) (a .totals .now) (a .sheets .now) (rw e at (l .inv .1 bids d A C here s ss R H)) (c .round2 .result) (c .round2 .ensures)
 
 pub probe-spec : {M : Type 1} → statement M
 probe-spec =

@@ -5,11 +5,11 @@ use borrow.Author.Needs.{needs}
 use Rattle.probing.proofs.searching.going.Statement.{statement}
 use Rattle.probing.proofs.searching.going.Tie as tie
 
-over-requires : tie.Need-over-requires
-over-requires c κs = search needs
+finished-requires : tie.Need-finished-requires
+finished-requires c κs = search needs
 
 returns : tie.Need-returns
-returns c = ap not (c .over .ensures)
+returns c = ap not (c .finished .ensures)
 
 pub going-spec : {M : Type 1} → statement M
-going-spec = tie.close (tie.spec over-requires returns)
+going-spec = tie.close (tie.spec finished-requires returns)

@@ -1,5 +1,5 @@
 -- `search` meets its contract: the probes made are noted, in every auction in which the parties may stand. Assumes nothing.
-use mathlib.Core.Path.{_≡_, refl, sym, ap, _∙_}
+use mathlib.Core.Path.{_≡_, refl, sym, ap, ap₂, _∙_}
 use mathlib.Core.Bool.{Bool, true, false, not, _&&_}
 use mathlib.Core.List.{List}
 use Prim.Native.Nat.{_-_, _≤_, _<_}
@@ -8,14 +8,17 @@ use lib.Dec.{ltb}
 use borrow.Author.Tests.{ltb-true, ltb-false, not-true}
 use Rattle.ranges.proofs.Loops.{and-left, and-right}
 use lib.ListN.{length, getD, length-set}
-use Rattle.search.specs.Bracket.{start, middle, over}
-use Rattle.record.specs.Record.{bracket, blank}
+use Rattle.search.specs.Bracket.{middle}
+use Rattle.search.specs.Searches.{first-search, finished}
+use Rattle.record.specs.declared.Party.{Party}
+use Rattle.record.specs.Record.{blank}
 use Rattle.panel.proofs.Parts.{getD-there}
 use Rattle.session.specs.Answer.{answer-reply}
 use Rattle.auction.specs.Auction.{Bid, IsAuction}
 use Rattle.auction.specs.Coins.{Coins, InRange}
 use Rattle.auction.proofs.Closed.{fresh-stage}
 use Rattle.standing.proofs.Standing.{Stands}
+use Rattle.listing.specs.Lines.{most-listed}
 use Rattle.probing.specs.Follows.{priced, verdict-read}
 use Rattle.probing.proofs.Leading.{Led, led-start, led-more, led-over, follows}
 use borrow.Author.Needs.{needs}
@@ -24,25 +27,25 @@ use Rattle.probing.proofs.searching.search.Tie as tie
 
 abbrev Inv-loop : tie.InvT-loop
 Inv-loop n k totals sheets index₀ verdict₀ here₀ more₀ done₀ index verdict here more done =
-    (done ≤ 9)
-    × (length index ≡ 9)
-    × (length verdict ≡ 9)
+    (done ≤ most-listed)
+    × (length index ≡ most-listed)
+    × (length verdict ≡ most-listed)
     × (length here ≡ 9)
-    × (more ≡ not (over (bracket (getD here 0 blank))))
+    × (more ≡ not (finished (getD here 0 blank .search)))
     × ((bids : List Bid) (c : Coins) → IsAuction (record { n = n; k = k; bids = bids }) → InRange (record { n = n; k = k; bids = bids }) c
-    → Stands (record { n = n; k = k; bids = bids }) c (fresh-stage (start k) 0) here₀ totals sheets
+    → Stands (record { n = n; k = k; bids = bids }) c (fresh-stage (first-search k)) here₀ totals sheets
     → Led (record { n = n; k = k; bids = bids }) c here totals sheets index verdict done)
 
 abbrev μ-loop : tie.MeasureT-loop
-μ-loop n k totals sheets index₀ verdict₀ here₀ more₀ done₀ index verdict here more done = 9 - done
+μ-loop n k totals sheets index₀ verdict₀ here₀ more₀ done₀ index verdict here more done = most-listed - done
 
 -- where a test of two fails and the second holds, the first does not
 stops : (x m : Bool) → (x && m) ≡ false → m ≡ true → x ≡ false
 stops true m e f = sym f ∙ e
 stops false m e f = refl
 
-inside : (c : tie.In-loop Inv-loop μ-loop) → c .before .loop .done < 9
-inside c = let l = c .before .loop in ltb-true (l .done) 9 (and-left (ltb (l .done) 9) (l .more) (c .loop-test .taken))
+inside : (c : tie.In-loop Inv-loop μ-loop) → c .before .loop .done < most-listed
+inside c = let l = c .before .loop in ltb-true (l .done) most-listed (and-left (ltb (l .done) most-listed) (l .more) (c .loop-test .taken))
 
 array-copy-out-first : tie.Need-array-copy-out-first Inv-loop μ-loop
 array-copy-out-first c = search needs
@@ -55,7 +58,7 @@ loop-holds c =
     let parties = c .before .before .before .before .args .parties in
     let long : length parties ≡ 9 = search needs in
     let first = getD-there parties 0 _ blank (omega arith) in
-    (omega arith, refl, refl, long, c .going .ensures ∙ ap (λ q. not (over (bracket q))) first, λ bids d A C H. led-start _ _ bids d A C _ _ _ _ _ H)
+    (omega arith, refl, refl, long, c .going .ensures ∙ ap (λ q. not (finished (q .search))) first, λ bids d A C H. led-start _ _ bids d A C _ _ _ _ _ H)
 
 array-copy-out-q : tie.Need-array-copy-out-q Inv-loop μ-loop
 array-copy-out-q c = search needs
@@ -98,21 +101,21 @@ loop-again c =
     let l = c .before .before .before .before .before .before .before .loop in
     let a = c .before .before .before .before .before .before .before .before .before .before .before .before .args in
     let t = c .before .before .before .before .before .before .loop-test .taken in
-    let h : l .done < 9 = inside (c .before .before .before .before .before .before) in
+    let h : l .done < most-listed = inside (c .before .before .before .before .before .before) in
     let after = c .before .before .before .before .probe in
     let long : length (after .result) ≡ 9 = search needs in
     let here = getD-there (l .here) 0 _ blank (omega (arith, l .inv .3)) in
     let next = getD-there (after .result) 0 _ blank (omega arith) in
-    let g : over (bracket (getD (l .here) 0 blank)) ≡ false = not-true _ (sym (l .inv .4) ∙ and-right (ltb (l .done) 9) (l .more) t) in (
+    let g : finished (getD (l .here) 0 blank .search) ≡ false = not-true _ (sym (l .inv .4) ∙ and-right (ltb (l .done) most-listed) (l .more) t) in (
       omega arith,
       simp length-set (l .inv .1),
       simp length-set (l .inv .2),
       long,
-      c .going2 .ensures ∙ ap (λ q. not (over (bracket q))) next,
+      c .going2 .ensures ∙ ap (λ q. not (finished (q .search))) next,
       λ bids d A C H.
           led-more (a .n) (a .k) bids d A C (a .totals .now) (a .sheets .now) (l .here) (after .result) (l .index) (l .verdict) (l .done)
-          (l .inv .5 bids d A C H) g (after .ensures) _ _ (c .before .before .probed .ensures ∙ ap (λ q. middle (bracket q)) here)
-          (c .before .decided .ensures ∙ ap (λ q. verdict-read (q .lo) (c .before .before .probed .result)) next) (l .inv .1) (l .inv .2) h,
+          (l .inv .5 bids d A C H) g (after .ensures) _ _ (c .before .before .probed .ensures ∙ ap (λ q. middle (q .search .bracket)) here)
+          (c .before .decided .ensures ∙ ap₂ (λ (q r : Party). verdict-read (q .search) (r .search)) here next) (l .inv .1) (l .inv .2) h,
     )
 
 array-copy-out-last : tie.Need-array-copy-out-last Inv-loop μ-loop
@@ -131,7 +134,7 @@ returns c =
           let L = l .inv .5 bids d A C H in
           follows (a .n) (a .k) bids d A C (a .totals .now) (a .sheets .now) (l .here) (l .index) (l .verdict) (l .done) L
           (led-over (a .n) (a .k) bids d A C (a .totals .now) (a .sheets .now) (l .here) (l .index) (l .verdict) (l .done) L (s .pre .1)
-          (λ e. ltb-false (l .done) 9 (stops (ltb (l .done) 9) (l .more) (c .before .before .loop-test .left) (l .inv .4 ∙ ap not e))))
+          (λ e. ltb-false (l .done) most-listed (stops (ltb (l .done) most-listed) (l .more) (c .before .before .loop-test .left) (l .inv .4 ∙ ap not e))))
           _ refl refl refl (c .price .ensures ∙ ap (λ q. priced (answer-reply q)) (getD-there (l .here) 0 _ blank (omega (arith, l .inv .3)))),
     )
 

@@ -3,7 +3,7 @@ use mathlib.Core.Path.{sym, ap, _∙_}
 use Prim.Native.Nat.{ℕ, _*_, _≤_}
 use native.Mathlib.Omega.{arith}
 use lib.Seq.{length-take-le}
-use Rattle.panel.proofs.Parts.{limit-nine}
+use Rattle.panel.proofs.Parts.{sheets-eighteen}
 use Rattle.rehearsal.proofs.Accepted.{Runs, good-runs}
 use borrow.Author.Needs.{needs}
 use Rattle.rehearsal.proofs.running.run.Statement.{statement}
@@ -19,14 +19,14 @@ mul-held c = search (needs, runs (c .before) .few-prices)
 mul-held-2 : tie.Need-mul-held-2
 mul-held-2 c = search (needs, runs (c .before) .held)
 
-limit-requires : tie.Need-limit-requires
-limit-requires c κs = search needs
+most-probes-requires : tie.Need-most-probes-requires
+most-probes-requires c κs = search needs
 
-few-sheets : (c : tie.After-limit) → c .limit .result ≤ 9
-few-sheets c = omega (arith, c .limit .ensures, limit-nine (c .before .before .args .shape .k) (runs (c .before .before) .few-prices))
+few-sheets : (c : tie.After-most-probes) → c .most-probes .result ≤ 18
+few-sheets c = omega (arith, c .most-probes .ensures, sheets-eighteen (c .before .before .args .shape .k) (runs (c .before .before) .few-prices))
 
-lent : (c : tie.After-limit) → c .before .before .args .shape .n * (127 * c .limit .result) ≤ 10287
-lent c = rw (c .limit .ensures) (runs (c .before .before) .lent)
+lent : (c : tie.After-most-probes) → c .before .before .args .shape .n * (127 * c .most-probes .result) ≤ 20574
+lent c = rw (c .most-probes .ensures) (runs (c .before .before) .lent)
 
 mul-lent : tie.Need-mul-lent
 mul-lent c = search (needs, few-sheets c)
@@ -61,7 +61,7 @@ hold-requires c κs =
       r .few-bids,
       r .an-auction,
       sym (slice-aggregate-hold (c .before)),
-      sym (slice-aggregate-hold-2 c) ∙ ap (λ (z : ℕ). s .args .shape .n * (127 * z)) (l .limit .ensures),
+      sym (slice-aggregate-hold-2 c) ∙ ap (λ (z : ℕ). s .args .shape .n * (127 * z)) (l .most-probes .ensures),
     )
 
 returns : tie.Need-returns
@@ -76,7 +76,7 @@ run-spec =
     (tie.spec
     mul-held
     mul-held-2
-    limit-requires
+    most-probes-requires
     mul-lent
     mul-lent-2
     no-totals-requires

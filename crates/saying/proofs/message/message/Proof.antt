@@ -10,6 +10,7 @@ use Rattle.fields.specs.Amount.{amounts}
 use Rattle.fields.specs.Byte.{bytes}
 use Rattle.comparison.specs.Local.{on-shares}
 use Rattle.comparison.specs.Rounds.{masked, left, right, both, last}
+use Rattle.search.specs.Searches.{side}
 use Rattle.saying.specs.Say.{mask-share, bit-share}
 use Rattle.saying.proofs.Messages.{first-message, product-message, last-message}
 use Rattle.record.proofs.Soundness.{Sound, sound-facts}
@@ -30,22 +31,24 @@ demand-share-requires c κs = search needs
 supply-share-requires : tie.Need-supply-share-requires
 supply-share-requires c κs = search needs
 
-shared-slice-read-t11 : tie.Need-shared-slice-read-t11
-shared-slice-read-t11 c = search needs
+shared-slice-read-compared : tie.Need-shared-slice-read-compared
+shared-slice-read-compared c = search needs
 
-masked-requires : tie.Need-masked-requires
-masked-requires c κs = search needs
+compared-requires : tie.Need-compared-requires
+compared-requires c κs = search needs
 
 returns : tie.Need-returns
 returns c =
     let demand = c .before .before .before in
     let a = demand .before .before .before .before .before .args in
-    c .masked .ensures
-    ∙ ap₂ (masked (on-shares amounts) (mask-share (a .sheet .now))) (demand .demand-share .ensures) (c .before .before .supply-share .ensures)
+    let which = a .q .search .which in
+    c .compared .ensures
+    ∙ ap₂ (λ (d s : ℕ). masked (on-shares amounts) (mask-share (a .sheet .now)) (side which d s) (side which s d)) (demand .demand-share .ensures)
+    (c .before .before .supply-share .ensures)
     ∙ sym (first-message (a .q) (a .totals .now) (a .sheet .now) (demand .before .if1 .taken))
 
-cast-t15 : tie.Need-cast-t15
-cast-t15 c = omega (arith, facts (c .before .before .before .before .before) .carry)
+cast-t13 : tie.Need-cast-t13
+cast-t13 c = omega (arith, facts (c .before .before .before .before .before) .carry)
 
 byte-share-requires : tie.Need-byte-share-requires
 byte-share-requires c κs =
@@ -103,10 +106,10 @@ message-spec =
     (tie.spec
     demand-share-requires
     supply-share-requires
-    shared-slice-read-t11
-    masked-requires
+    shared-slice-read-compared
+    compared-requires
     returns
-    cast-t15
+    cast-t13
     byte-share-requires
     triple-share-requires
     triple-share-requires-2

@@ -35,7 +35,7 @@ part from sheets =
 
 returns : tie.Need-returns
 unfolding current
-returns c = part (127 * c .before .args .q .probes) (c .before .args .sheets .now)
+returns c = part (127 * c .before .args .q .search .probes) (c .before .args .sheets .now)
 
 pub current-spec : {M : Type 1} → statement M
 current-spec =

@@ -1,9 +1,10 @@
 -- `answer` meets its contract: each early return is one entry of its list of tests. Assumes nothing.
 use mathlib.Core.Path.{_≡_, sym, ap, _∙_}
 use mathlib.Core.Bool.{false, not}
+use Prim.Native.Nat.{ℕ}
 use borrow.Author.Needs.{needs}
-use Rattle.search.specs.Bracket.{over}
 use Rattle.record.specs.Record.{sound}
+use Rattle.session.specs.declared.reply.Answer.the-variants.{Cleared}
 use Rattle.session.specs.Answer.{answer-judgement}
 use Rattle.refusal.proofs.Judging.{refuses, passes, all-passed}
 use Rattle.session.proofs.Answered.{answered-accepted, answered-refused}
@@ -21,23 +22,26 @@ returns c = sym (answered-refused _ _ _ (refuses _ _ _ (ap not (sym (c .before .
 whole : (c : tie.Else1) → not (sound (c .before .before .args .q)) ≡ false
 whole c = ap not (sym (c .before .sound .ensures)) ∙ c .if1 .left
 
-bracket-requires : tie.Need-bracket-requires
-bracket-requires c κs = search needs
-
-over-requires : tie.Need-over-requires
-over-requires c κs = search needs
+finished-requires : tie.Need-finished-requires
+finished-requires c κs = search needs
 
 returns-2 : tie.Need-returns-2
 unfolding answer-judgement
 returns-2 c =
-    let turn = ap (λ b. not (over b)) (sym (c .before .before .bracket .ensures)) ∙ ap not (sym (c .before .over .ensures)) ∙ c .if2 .taken in
+    let turn = ap not (sym (c .before .finished .ensures)) ∙ c .if2 .taken in
     sym (answered-refused _ _ _ (passes _ _ _ (whole (c .before .before .before)) ∙ refuses _ _ _ turn))
+
+price-requires : tie.Need-price-requires
+price-requires c κs = search needs
 
 returns-3 : tie.Need-returns-3
 unfolding answer-judgement
 returns-3 c =
-    let turn = ap (λ b. not (over b)) (sym (c .before .before .bracket .ensures)) ∙ ap not (sym (c .before .over .ensures)) ∙ c .if2 .left in
-    sym (answered-accepted _ _ (passes _ _ _ (whole (c .before .before .before)) ∙ passes _ _ _ turn ∙ all-passed))
+    let f = c .before .before in
+    let s = f .before .before .before .before .args .q .search in
+    let turn = ap not (sym (f .finished .ensures)) ∙ c .before .if2 .left in
+    ap (λ (index : ℕ). Cleared index (s .probes)) (c .price .ensures)
+    ∙ sym (answered-accepted _ _ (passes _ _ _ (whole (f .before .before)) ∙ passes _ _ _ turn ∙ all-passed))
 
 pub answer-spec : {M : Type 1} → statement M
-answer-spec = tie.close (tie.spec sound-requires returns bracket-requires over-requires returns-2 returns-3)
+answer-spec = tie.close (tie.spec sound-requires returns finished-requires returns-2 price-requires returns-3)

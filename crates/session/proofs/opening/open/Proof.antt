@@ -7,6 +7,8 @@ use lib.ListN.{replicate}
 use borrow.Author.Tests.{not-false, eq-eqb, ne-eqb}
 use Rattle.ranges.specs.Sizes.{party, listed}
 use Rattle.session.specs.Open.{open-judgement}
+use Rattle.search.specs.Bracket.{start}
+use Rattle.search.specs.Searches.{first-search}
 use Rattle.record.specs.Updates.{fresh}
 use Rattle.refusal.proofs.Judging.{refuses, passes, all-passed, kept-new, kept-old}
 use Rattle.record.proofs.Replies.{next-accepted, next-refused}
@@ -15,13 +17,13 @@ use borrow.Author.Needs.{needs}
 use Rattle.session.proofs.opening.open.Statement.{statement}
 use Rattle.session.proofs.opening.open.Tie as tie
 
-abbrev start : tie.Else1 → tie.Start
-start c = c .before .before .before
+abbrev started : tie.Else1 → tie.Start
+started c = c .before .before .before
 
-ranged : (c : tie.Else1) → not (party (start c .args .n) (start c .args .own) && listed (start c .args .k)) ≡ false
+ranged : (c : tie.Else1) → not (party (started c .args .n) (started c .args .own) && listed (started c .args .k)) ≡ false
 ranged c = ap not (sym (c .before .on-list .ensures)) ∙ c .if1 .left
 
-few : (c : tie.Else1) → start c .args .k ≤ 1024
+few : (c : tie.Else1) → started c .args .k ≤ 1024
 few c = on-list _ _ _ (not-false _ (ranged c)) .prices-most
 
 on-list-requires : tie.Need-on-list-requires
@@ -72,7 +74,7 @@ same-length : tie.Need-same-length
 same-length c = search needs
 
 returns-3 : tie.Need-returns-3
-unfolding open-judgement fresh
+unfolding open-judgement fresh first-search start
 returns-3 c =
     let r = c .before .before .before .before in
     let d = r .before .before in

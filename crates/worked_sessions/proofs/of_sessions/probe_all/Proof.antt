@@ -5,52 +5,25 @@ use Rattle.worked_sessions.proofs.of_sessions.probe_all.Statement.{stat
 use Rattle.worked_sessions.proofs.of_sessions.probe_all.Tie as tie
 
 abbrev Inv-loop : tie.InvT-loop
-Inv-loop n totals sheets digest₀ now₀ probe₀ t10 t11 digest now probe = Unit {0}
+Inv-loop n totals sheets digest₀ now₀ probe₀ digest now probe = Unit {0}
 
 abbrev μ-loop : tie.MeasureT-loop
-μ-loop n totals sheets digest₀ now₀ probe₀ t10 t11 digest now probe = 3 - probe
+μ-loop n totals sheets digest₀ now₀ probe₀ digest now probe = 6 - probe
 
 loop-holds : tie.Need-loop-holds Inv-loop μ-loop
 loop-holds c = search needs
 
-array-copy-out-bracket : tie.Need-array-copy-out-bracket Inv-loop μ-loop
-array-copy-out-bracket c = search needs
+array-copy-out-first : tie.Need-array-copy-out-first Inv-loop μ-loop
+array-copy-out-first c = search needs
 
-bracket-requires : tie.Need-bracket-requires Inv-loop μ-loop
-bracket-requires c κs = search needs
-
-over-requires : tie.Need-over-requires Inv-loop μ-loop
-over-requires c κs = search needs
-
-array-copy-out-bracket-2 : tie.Need-array-copy-out-bracket-2 Inv-loop μ-loop
-array-copy-out-bracket-2 c = search needs
-
-bracket-requires-2 : tie.Need-bracket-requires-2 Inv-loop μ-loop
-bracket-requires-2 c κs = search needs
-
-middle-requires : tie.Need-middle-requires Inv-loop μ-loop
-middle-requires c κs = search needs
+finished-requires : tie.Need-finished-requires Inv-loop μ-loop
+finished-requires c κs = search needs
 
 rounds-requires : tie.Need-rounds-requires Inv-loop μ-loop
 rounds-requires c κs = search needs
 
-slice-aggregate-word : tie.Need-slice-aggregate-word Inv-loop μ-loop
-slice-aggregate-word c = search needs
-
-word-requires : tie.Need-word-requires Inv-loop μ-loop
-word-requires c κs = search needs
-
-number-requires : tie.Need-number-requires Inv-loop μ-loop
-number-requires c κs = search needs
-
-slice-aggregate-word-2 : tie.Need-slice-aggregate-word-2 Inv-loop μ-loop
-slice-aggregate-word-2 c = search needs
-
-word-requires-2 : tie.Need-word-requires-2 Inv-loop μ-loop
-word-requires-2 c κs = search needs
-
-verdict-requires : tie.Need-verdict-requires Inv-loop μ-loop
-verdict-requires c κs = search needs
+probed-requires : tie.Need-probed-requires Inv-loop μ-loop
+probed-requires c κs = search needs
 
 add-probe : tie.Need-add-probe Inv-loop μ-loop
 add-probe c = search needs
@@ -71,19 +44,10 @@ probe-all-spec =
     Inv-loop
     μ-loop
     loop-holds
-    array-copy-out-bracket
-    bracket-requires
-    over-requires
-    array-copy-out-bracket-2
-    bracket-requires-2
-    middle-requires
+    array-copy-out-first
+    finished-requires
     rounds-requires
-    slice-aggregate-word
-    word-requires
-    number-requires
-    slice-aggregate-word-2
-    word-requires-2
-    verdict-requires
+    probed-requires
     add-probe
     loop-less
     loop-again

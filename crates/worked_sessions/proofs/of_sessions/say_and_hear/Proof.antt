@@ -2,7 +2,7 @@
 use mathlib.Core.Path.{sym}
 use native.Mathlib.Omega.{arith}
 use lib.Seq.{length-take-le}
-use Rattle.search.specs.Limit.{limit, digits}
+use Rattle.search.specs.Limit.{limit, digits, most-probes}
 use Rattle.panel.proofs.Parts.{prefix-fits, prefix-count}
 use borrow.Author.Needs.{needs}
 use Rattle.worked_sessions.proofs.of_sessions.say_and_hear.Statement.{statement}
@@ -15,7 +15,7 @@ slice-aggregate-say-all : tie.Need-slice-aggregate-say-all
 slice-aggregate-say-all c = sym (length-take-le _ _ (search needs))
 
 say-all-requires : tie.Need-say-all-requires
-unfolding limit digits
+unfolding limit digits most-probes
 say-all-requires c κs =
     let p = c .before .before .before .pre in
     (p .0, omega arith, p .1, p .2, length-take-le _ _ (omega (arith, p .0)))
@@ -36,7 +36,7 @@ slice-aggregate-hear-all : tie.Need-slice-aggregate-hear-all
 slice-aggregate-hear-all c = prefix-count _ _ (c .before .before .before .before .before .say-all .last .1 .1 .1 .1 .1 .0) (c .before .before .before .before .before .before .before .before .before .pre .0) (c .before .before .before .before .messages2 .given)
 
 hear-all-requires : tie.Need-hear-all-requires
-unfolding limit digits
+unfolding limit digits most-probes
 hear-all-requires c κs =
     let p = c .before .before .before .before .before .before .before .before .before .pre in
     (p .0, omega arith, p .1, p .2)

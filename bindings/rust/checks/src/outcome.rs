@@ -1,0 +1,169 @@
+//! What an auction comes to, from the totals in the clear.
+
+/// Total demand and total supply at each price.
+pub struct Totals {
+    bids: usize,
+    demand: Vec<u64>,
+    supply: Vec<u64>,
+}
+
+impl Totals {
+    /// The totals of these tables over `k` prices.
+    pub fn of<'a>(k: u64, tables: impl IntoIterator<Item = &'a [u64]>) -> Totals {
+        let k = k as usize;
+        let mut totals = Totals {
+            bids: 0,
+            demand: vec![0; k],
+            supply: vec![0; k],
+        };
+        for table in tables {
+            totals.bids += 1;
+            for place in 0..k {
+                totals.demand[place] += table[place];
+                totals.supply[place] += table[k + place];
+            }
+        }
+        totals
+    }
+
+    fn prices(&self) -> u64 {
+        self.demand.len() as u64
+    }
+
+    /// Whether demand at an index is at least supply.
+    pub fn clears(&self, index: u64) -> bool {
+        let place = index as usize - 1;
+        self.demand[place] >= self.supply[place]
+    }
+
+    /// Whether supply at an index is at least demand.
+    pub fn supplies(&self, index: u64) -> bool {
+        let place = index as usize - 1;
+        self.supply[place] >= self.demand[place]
+    }
+
+    /// The highest index with demand at least supply, or 0.
+    pub fn highest(&self) -> u64 {
+        let mut falling = (1..=self.prices()).rev();
+        falling.find(|&index| self.clears(index)).unwrap_or(0)
+    }
+
+    /// The lowest index from 1 to that one with supply at least demand.
+    pub fn lowest(&self) -> Option<u64> {
+        (1..=self.highest()).find(|&index| self.supplies(index))
+    }
+
+    /// The index of the price, or 0.
+    pub fn price(&self) -> u64 {
+        match self.lowest() {
+            Some(lowest) => (self.highest() + lowest) / 2,
+            None => self.highest(),
+        }
+    }
+
+    /// How many indices are balanced.
+    fn balanced(&self) -> u64 {
+        self.lowest()
+            .map_or(0, |lowest| self.highest() - lowest + 1)
+    }
+
+    fn is_odd(&self) -> bool {
+        self.balanced() % 2 == 1
+    }
+
+    fn is_even(&self) -> bool {
+        self.balanced() > 0 && !self.is_odd()
+    }
+
+    /// Where the balanced indices stand.
+    fn at(&self, from_first: bool, to_last: bool) -> bool {
+        (self.lowest() == Some(1)) == from_first && (self.highest() == self.prices()) == to_last
+    }
+}
+
+/// A way in which an auction can end.
+struct Ending {
+    name: &'static str,
+    holds: fn(&Totals) -> bool,
+}
+
+/// The endings. An auction without bids has every price balanced, and is counted
+/// there too.
+const ENDINGS: [Ending; 12] = [
+    Ending {
+        name: "no price",
+        holds: |totals| totals.highest() == 0,
+    },
+    Ending {
+        name: "none balanced, inside",
+        holds: |totals| totals.balanced() == 0 && totals.highest() > 0 && totals.at(false, false),
+    },
+    Ending {
+        name: "none balanced, at the last",
+        holds: |totals| totals.balanced() == 0 && totals.at(false, true),
+    },
+    Ending {
+        name: "odd number balanced, inside",
+        holds: |totals| totals.is_odd() && totals.at(false, false),
+    },
+    Ending {
+        name: "odd number balanced, from the first",
+        holds: |totals| totals.is_odd() && totals.at(true, false),
+    },
+    Ending {
+        name: "odd number balanced, to the last",
+        holds: |totals| totals.is_odd() && totals.at(false, true),
+    },
+    Ending {
+        name: "odd number balanced, all",
+        holds: |totals| totals.is_odd() && totals.at(true, true),
+    },
+    Ending {
+        name: "even number balanced, inside",
+        holds: |totals| totals.is_even() && totals.at(false, false),
+    },
+    Ending {
+        name: "even number balanced, from the first",
+        holds: |totals| totals.is_even() && totals.at(true, false),
+    },
+    Ending {
+        name: "even number balanced, to the last",
+        holds: |totals| totals.is_even() && totals.at(false, true),
+    },
+    Ending {
+        name: "even number balanced, all",
+        holds: |totals| totals.is_even() && totals.at(true, true),
+    },
+    Ending {
+        name: "no bids",
+        holds: |totals| totals.bids == 0,
+    },
+];
+
+/// How many auctions had each ending.
+#[derive(Default)]
+pub struct Endings {
+    counts: [u64; ENDINGS.len()],
+    auctions: u64,
+}
+
+impl Endings {
+    /// Counts an auction.
+    pub fn count(&mut self, totals: &Totals) {
+        self.auctions += 1;
+        for (count, ending) in self.counts.iter_mut().zip(&ENDINGS) {
+            *count += u64::from((ending.holds)(totals));
+        }
+    }
+
+    /// The number of auctions.
+    pub fn auctions(&self) -> u64 {
+        self.auctions
+    }
+
+    /// Each ending and how often it came up.
+    pub fn counts(&self) -> impl Iterator<Item = (&'static str, u64)> + '_ {
+        let names = ENDINGS.iter().map(|ending| ending.name);
+        names.zip(self.counts)
+    }
+}
