@@ -212,7 +212,7 @@ module _ (a b : Auction) (A : IsAuction a) (B : IsAuction b) (alike : Alike a b)
         only = λ o R l m runL runM S. same-coins o R l m runL runM S;
       }
 
--- DEMAND 3: any t parties together learn nothing but i and j.
+-- DEMAND 3: any t parties together learn nothing but who bids, in which order, and i and j.
 pub demand-3 : Demand3
 demand-3 =
     record {
