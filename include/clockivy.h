@@ -124,9 +124,9 @@
  *   Coins are drawn by the caller: each uniform over its range, independent,
  *   used once. A party's shares, totals, sheets and record are for that party
  *   alone, but for the roll: who bids, and in which order, is not hidden from
- *   the other parties. The dealer must see neither the messages of round 1 nor
- *   the sum they open to: it knows the mask, and so would learn total demand
- *   minus total supply at the probed index, in either search.
+ *   the other parties. The dealer must see neither the messages nor the sum that
+ *   those of round 1 open to: it knows the mask and the triples, and so would
+ *   learn total demand minus total supply at the probed index, in either search.
  *   What the parties open is not hidden: every verdict of both searches, and
  *   with them i, j and the answer. That is more than the price alone: it tells
  *   at which prices demand is above supply, at which it equals it, and at which
@@ -134,6 +134,10 @@
  *   same bidders, entered in the same order, that come to the same i and the
  *   same j, or like them to none, for exactly one choice of the coins; but for
  *   masks that leave their range, at most 2^33 - 2 of 2^58 at each probe.
+ *   Time is not hidden. clockivy_hear and clockivy_deal read products of bytes
+ *   from tables, at places that depend on shares and coins. Whoever can watch
+ *   the cache of the processor that a call runs on, or time it closely, may
+ *   learn of them: make these calls where nobody else's code runs.
  *
  * Three uses that give bids away
  *   A sheet hides one message of each round. Saying that message again is

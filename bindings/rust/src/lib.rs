@@ -137,6 +137,11 @@
 //!   at the probed index, or in the second search supply minus demand. The
 //!   dealer knows the mask, so a dealer who sees the opened sum, from even one
 //!   party or from the messages, learns total demand minus total supply there.
+//! * Nobody watches a party or the dealer at work. [`Speaking::hear`] and
+//!   [`deal`] read products of bytes from tables, at places that depend on shares
+//!   and coins. Whoever can watch the cache of the processor that a call runs on,
+//!   or time it closely, may learn of them: make these calls where nobody else's
+//!   code runs.
 //!
 //! Who bids, and in which order, is not hidden. Nor is what the parties open:
 //! every verdict of both searches, and with them i, j and the answer. That is

@@ -5,16 +5,18 @@ ghost use mathlib.Core.List.{_∷_};
 ghost use Prim.Native.Nat.{_+_, _*_, _≤_, _<_};
 ghost use lib.ListN.{length, take, drop};
 ghost use Rattle.fields.specs.Byte.{bytes};
+ghost use Rattle.byte_rows.specs.Row.{multiples};
 ghost use Rattle.sharing.specs.Polynomial.{value};
 ghost use Rattle.dealer.specs.Deal.{deal-judgement, byte-shares, mask-bits, triple, triples, preprocessing, deal-left};
-use fields::BitShare;
+use byte_rows::multiples;
 use fields::P;
+use fields::product;
 use ranges::all_below;
 use ranges::is_party;
 use refusal::Judgement;
 use refusal::Refusal;
 use sharing::share_amount;
-use sharing::share_byte;
+use sharing::share_by;
 use sharing::threshold;
 
 // A mask is below this.
@@ -62,14 +64,15 @@ fn write(t: usize, own: u64, words: &[u64], bytes: &[u8], sheet: &mut [u64])
     let mask = words[0];
     sheet[0] = share_amount(mask, &words[1..], own).0;
     let point = own as u8;
+    let row = multiples(point);
     let start = 33 * t;
-    write_bits(t, point, mask, bytes, &mut sheet[1..34]);
-    write_triples(t, point, &bytes[start..], &mut sheet[34..]);
+    write_bits(t, point, &row, mask, bytes, &mut sheet[1..34]);
+    write_triples(t, point, &row, &bytes[start..], &mut sheet[34..]);
 }
 
 // The shares of the mask's lowest 33 bits, lowest first.
-fn write_bits(t: usize, point: u8, mask: u64, drawn: &[u8], shares: &mut [u64])
-    requires { ⌜ (33 * t ≤ length (now drawn)) × (length (now shares) ≡ 33) ⌝ }
+fn write_bits(t: usize, point: u8, row: &[u8; 256], mask: u64, drawn: &[u8], shares: &mut [u64])
+    requires { ⌜ (33 * t ≤ length (now drawn)) × (length (now shares) ≡ 33) × (now row ≡ multiples point) ⌝ }
     ensures { λ _. ⌜ now (shares .exit) ≡ byte-shares t point (mask-bits mask) (now (drawn .entry)) ⌝ }
 {
     let mut rest = mask;
@@ -77,7 +80,7 @@ fn write_bits(t: usize, point: u8, mask: u64, drawn: &[u8], shares: &mut [u64])
     let mut i = 0;
     while i < 33 {
         let bit = (rest & 1) as u8;
-        shares[i] = share_from(bit, drawn, at, t, point);
+        shares[i] = share_from(bit, drawn, at, t, point, row);
         rest = rest >> 1;
         at = at + t;
         i += 1;
@@ -85,8 +88,8 @@ fn write_bits(t: usize, point: u8, mask: u64, drawn: &[u8], shares: &mut [u64])
 }
 
 // The shares of 31 triples.
-fn write_triples(t: usize, point: u8, drawn: &[u8], shares: &mut [u64])
-    requires { ⌜ (31 * (2 + 3 * t) ≤ length (now drawn)) × (length (now shares) ≡ 93) ⌝ }
+fn write_triples(t: usize, point: u8, row: &[u8; 256], drawn: &[u8], shares: &mut [u64])
+    requires { ⌜ (31 * (2 + 3 * t) ≤ length (now drawn)) × (length (now shares) ≡ 93) × (now row ≡ multiples point) ⌝ }
     ensures { λ _. ⌜ now (shares .exit) ≡ triples t point 31 (now (drawn .entry)) ⌝ }
 {
     let step = 2 + 3 * t;
@@ -95,32 +98,32 @@ fn write_triples(t: usize, point: u8, drawn: &[u8], shares: &mut [u64])
     while i < 31 {
         let from = 3 * i;
         let to = from + 3;
-        write_triple(t, point, &drawn[at..], &mut shares[from..to]);
+        write_triple(t, point, row, &drawn[at..], &mut shares[from..to]);
         at = at + step;
         i += 1;
     }
 }
 
 // The shares of alpha, beta and their product gamma.
-fn write_triple(t: usize, point: u8, drawn: &[u8], shares: &mut [u64])
-    requires { ⌜ (2 + 3 * t ≤ length (now drawn)) × (length (now shares) ≡ 3) ⌝ }
+fn write_triple(t: usize, point: u8, row: &[u8; 256], drawn: &[u8], shares: &mut [u64])
+    requires { ⌜ (2 + 3 * t ≤ length (now drawn)) × (length (now shares) ≡ 3) × (now row ≡ multiples point) ⌝ }
     ensures { λ _. ⌜ now (shares .exit) ≡ triple t point (now (drawn .entry)) ⌝ }
 {
     let alpha = drawn[0];
     let beta = drawn[1];
-    let gamma = BitShare(alpha).mul(BitShare(beta)).0;
+    let gamma = product(alpha, beta);
     let first = 2 + t;
     let second = first + t;
-    shares[0] = share_from(alpha, drawn, 2, t, point);
-    shares[1] = share_from(beta, drawn, first, t, point);
-    shares[2] = share_from(gamma, drawn, second, t, point);
+    shares[0] = share_from(alpha, drawn, 2, t, point, row);
+    shares[1] = share_from(beta, drawn, first, t, point, row);
+    shares[2] = share_from(gamma, drawn, second, t, point, row);
 }
 
 // The share of a byte, made with the t drawn bytes from a place on.
-fn share_from(secret: u8, drawn: &[u8], from: usize, t: usize, point: u8) -> u64
-    requires { ⌜ from + t ≤ length (now drawn) ⌝ }
+fn share_from(secret: u8, drawn: &[u8], from: usize, t: usize, point: u8, row: &[u8; 256]) -> u64
+    requires { ⌜ (from + t ≤ length (now drawn)) × (now row ≡ multiples point) ⌝ }
     ensures { λ r. ⌜ r ≡ value bytes (secret ∷ take t (drop from (now (drawn .entry)))) point ⌝ }
 {
     let to = from + t;
-    share_byte(secret, &drawn[from..to], point).0 as u64
+    share_by(secret, &drawn[from..to], point, row).0 as u64
 }

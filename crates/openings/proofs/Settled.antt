@@ -16,6 +16,18 @@ use Rattle.openings.specs.Opening.{moments, readable, settled}
 use Rattle.openings.specs.declared.opening.Opening.{Opening}
 use Rattle.openings.specs.declared.opening.Opening.the-variants.{Secret, Inconsistent}
 
+-- as many words as parties, 3 to 9
+abbrev pub Counted : ℕ → List ℕ → Type 0
+Counted n words = (3 ≤ n) × (n ≤ 9) × (length words ≡ n)
+
+pub count : (n : ℕ) (words : List ℕ) → leb 3 n && leb n 9 && eqb (length words) n ≡ true → Counted n words
+count n words e =
+    let b : leb 3 n && leb n 9 ≡ true = and-left (leb 3 n && leb n 9) (eqb (length words) n) e in (
+      leb-true 3 n (and-left (leb 3 n) (leb n 9) b),
+      leb-true n 9 (and-right (leb 3 n) (leb n 9) b),
+      eqb-true (length words) n (and-right (leb 3 n && leb n 9) (eqb (length words) n) e),
+    )
+
 -- what readable words are
 pub record Readable (size n : ℕ) (words : List ℕ) : Type 0 where
   pub least : 3 ≤ n
@@ -27,12 +39,11 @@ module _ (size n : ℕ) (words : List ℕ) where
   pub read : readable size n words ≡ true → Readable size n words
   unfolding readable
   read e =
-      let a : leb 3 n && leb n 9 && eqb (length words) n ≡ true = and-left _ (every (λ w. ltb w size) words) e in
-      let b : leb 3 n && leb n 9 ≡ true = and-left (leb 3 n && leb n 9) (eqb (length words) n) a in
+      let c = count n words (and-left _ (every (λ w. ltb w size) words) e) in
       record {
-        least = leb-true 3 n (and-left (leb 3 n) (leb n 9) b);
-        most = leb-true n 9 (and-right (leb 3 n) (leb n 9) b);
-        long = eqb-true (length words) n (and-right (leb 3 n && leb n 9) (eqb (length words) n) a);
+        least = c .0;
+        most = c .1;
+        long = c .2;
         small = and-right (leb 3 n && leb n 9 && eqb (length words) n) (every (λ w. ltb w size) words) e;
       }
 

@@ -1,6 +1,6 @@
 -- An opening as a loop makes it: one sum after another. Assumes nothing.
 use mathlib.Core.Path.{_≡_, refl, sym, ap, ap₂, _∙_}
-use mathlib.Core.Bool.{Bool, true, false, cond, _&&_}
+use mathlib.Core.Bool.{Bool, true, false, cond}
 use mathlib.Core.List.{List}
 use Prim.Native.Nat.{ℕ, zero, suc, _+_, _-_, _≤_, _<_}
 use native.Mathlib.Numerals.{add-one}
@@ -23,28 +23,6 @@ module _ (O : Ops ℕ) (xs : List ℕ) where
   -- whether the sums of x y, x^2 y, .. are 0, m of them
   abbrev pub vanish : ℕ → List ℕ → Bool
   vanish m ys = every (eqb 0) (moments O m xs (products O xs ys))
-
-  pub vanish-none : (m : ℕ) (ys : List ℕ) → m ≡ 0 → vanish m ys ≡ true
-  unfolding moments every
-  vanish-none m ys e = ap (λ (k : ℕ). vanish k ys) e
-
-  vanish-suc : (m : ℕ) (ys : List ℕ) → vanish (suc m) ys ≡ eqb 0 (total O (products O xs ys)) && vanish m (products O xs ys)
-  unfolding moments every
-  vanish-suc m ys = refl
-
-  -- a next sum that is 0, and one that is not
-  module _ (m : ℕ) (ys zs : List ℕ) (some : 0 < m) (next : zs ≡ products O xs ys) where
-    pub vanish-more : total O zs ≡ 0 → vanish m ys ≡ vanish (m - 1) zs
-    vanish-more e =
-        let j : m ≡ suc (m - 1) = omega arith in
-        ap (λ (k : ℕ). vanish k ys) j ∙ vanish-suc (m - 1) ys
-        ∙ ap₂ (λ (b : Bool) (z : List ℕ). b && vanish (m - 1) z) (eq-eqb 0 _ (sym e ∙ ap (total O) next)) (sym next)
-
-    pub vanish-not : (total O zs ≡ 0 → ⊥) → vanish m ys ≡ false
-    vanish-not d =
-        let j : m ≡ suc (m - 1) = omega arith in
-        ap (λ (k : ℕ). vanish k ys) j ∙ vanish-suc (m - 1) ys
-        ∙ ap (λ (b : Bool). b && vanish (m - 1) (products O xs ys)) (ne-eqb 0 _ (λ e. d (ap (total O) next ∙ sym e)))
 
   -- ---- the sums by their places, the secret's at place 0
 

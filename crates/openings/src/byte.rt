@@ -1,20 +1,32 @@
 // Opening bytes.
 ghost use mathlib.Core.Path.{_≡_};
-ghost use mathlib.Core.Bool.{true};
-ghost use Prim.Native.Nat.{_≤_};
+ghost use mathlib.Core.Bool.{cond, _&&_};
+ghost use mathlib.Core.List.{[], _∷_, map};
+ghost use Prim.Native.Nat.{_-_, _/_, _%_, _≤_, _<_};
 ghost use lib.Dec.{ltb};
-ghost use lib.ListN.{length, take};
-ghost use Rattle.ranges.specs.Lists.{every};
+ghost use lib.ListN.{length};
 ghost use Rattle.fields.specs.Byte.{bytes};
-ghost use Rattle.sharing.specs.Scheme.{points};
+ghost use Rattle.fields.specs.Packed.{packed};
+ghost use Rattle.sharing.specs.Scheme.{threshold, points};
 ghost use Rattle.weights.specs.Rows.{weights, byte-scheme};
 ghost use Rattle.weights.specs.Products.{products};
-ghost use Rattle.openings.specs.Opening.{total, opened};
+ghost use Rattle.openings.specs.Opening.{moments, opened};
+ghost use Rattle.openings.specs.declared.opening.Opening.the-variants.{Secret, Inconsistent};
 use crate::opening::Opening;
+use crate::opening::counted;
 use crate::opening::readable;
-use fields::BitShare;
+use fields::exponent;
+use fields::log;
+use fields::power;
+use ranges::all_below;
 use sharing::threshold;
 use weights::byte_row;
+
+// What the lowest bytes of n words open to, and what is above them.
+pub struct Pair {
+    pub low: Opening,
+    pub high: Opening,
+}
 
 // What n words open to: their weighted sum, where the sums of x, x^2, .. times them are 0.
 pub fn open_byte(n: u64, words: &[u64]) -> Opening
@@ -23,61 +35,84 @@ pub fn open_byte(n: u64, words: &[u64]) -> Opening
     if !readable(n, words, 256) {
         return Opening::Inconsistent;
     }
-    let count = n as usize;
-    let mut terms = weighted(count, words);
-    let secret = total(&terms[..count]);
-    let mut left = n - 1 - threshold(n);
-    while 0 < left {
-        raise(&mut terms[..count]);
-        if total(&terms[..count]) != 0 {
-            return Opening::Inconsistent;
-        }
-        left -= 1;
-    }
-    Opening::Secret(secret as u64)
+    // Above bytes there is nothing, so the other sums take next to no time.
+    secret_of(true, sums(n, words).low)
 }
 
-// The first n terms are the words with their weights.
-fn weighted(n: usize, words: &[u64]) -> [u8; 9]
-    requires { ⌜ (3 ≤ n) × (n ≤ 9) × (length (now words) ≡ n) × (every (λ w. ltb w 256) (now words) ≡ true) ⌝ }
-    ensures { λ r. ⌜ take n r ≡ products bytes (weights byte-scheme n) (now (words .entry)) ⌝ }
+// Words of two bytes, which are opened together: they have weights and points in common.
+pub fn open_pair(n: u64, words: &[u64]) -> Pair
+    ensures { λ r. ⌜ (r .low ≡ opened byte-scheme n (map (λ w. w % 256) (now (words .entry))))
+        × (r .high ≡ opened byte-scheme n (map (λ w. w / 256) (now (words .entry)))) ⌝ }
 {
-    let row = byte_row(n as u64);
-    let mut terms = [0u8; 9];
-    let mut i = 0;
-    while i < n {
-        let weight = row[i];
-        let word = (words[i] % 256) as u8;
-        terms[i] = BitShare(weight).mul(BitShare(word)).0;
-        i += 1;
+    if !counted(n, words) {
+        return Pair {
+            low: Opening::Inconsistent,
+            high: Opening::Inconsistent,
+        };
     }
-    terms
-}
-
-// Multiplies each term by its point.
-fn raise(terms: &mut [u8])
-    requires { ⌜ length (now terms) ≤ 9 ⌝ }
-    ensures { λ _. ⌜ now (terms .exit) ≡ products bytes (points (length (now (terms .entry)))) (now (terms .entry)) ⌝ }
-{
-    let mut point: u8 = 1;
-    let mut i = 0;
-    while i < terms.len() {
-        let term = terms[i];
-        terms[i] = BitShare(point).mul(BitShare(term)).0;
-        point += 1;
-        i += 1;
+    let all = sums(n, words);
+    Pair {
+        low: secret_of(true, all.low),
+        high: secret_of(all_below(words, 65536), all.high),
     }
 }
 
-fn total(terms: &[u8]) -> u8
-    ensures { λ r. ⌜ r ≡ total bytes (now (terms .entry)) ⌝ }
+// By the word that has all sums: the first is the secret, where there is nothing above it, and the words
+// were small enough.
+fn secret_of(small: bool, all: u64) -> Opening
+    ensures { λ r. ⌜ r ≡ cond («small» && ltb all 256) (Secret all) Inconsistent ⌝ }
 {
-    let mut sum = BitShare(0);
-    let mut i = terms.len();
+    if small & (all < 256) {
+        return Opening::Secret(all);
+    }
+    Opening::Inconsistent
+}
+
+struct Summed {
+    low: u64,
+    high: u64,
+}
+
+// All sums in one word, a byte for each, the first in the lowest place; of the lowest bytes, and of those
+// above them.
+fn sums(n: u64, words: &[u64]) -> Summed
+    requires { ⌜ (3 ≤ n) × (n ≤ 9) × (length (now words) ≡ n) ⌝ }
+    ensures { λ r. ⌜ (r .low ≡ packed (moments bytes (n - threshold n) (points n) (products bytes (weights byte-scheme n) (map (λ w. w % 256) (now (words .entry))))))
+        × (r .high ≡ packed (moments bytes (n - threshold n) (points n) (products bytes (weights byte-scheme n) (map (λ w. w / 256 % 256) (now (words .entry)))))) ⌝ }
+{
+    let row = byte_row(n);
+    let count = n - threshold(n);
+    let mut low: u64 = 0;
+    let mut high: u64 = 0;
+    let mut i = words.len();
     while 0 < i {
+        let point = i as u8;
         i -= 1;
-        let term = terms[i];
-        sum = BitShare(term).add(sum);
+        let weight = row[i];
+        let word = words[i];
+        low = low ^ terms(weight, (word % 256) as u8, point, count);
+        high = high ^ terms(weight, (word / 256 % 256) as u8, point, count);
     }
-    sum.0
+    Summed { low, high }
+}
+
+// What a word brings to each of the sums: itself with its weight, that times its point, and so on.
+// Exponents are added, so each product more takes one look into a table.
+fn terms(weight: u8, word: u8, point: u8, count: u64) -> u64
+    requires { ⌜ (0 < weight) × (0 < point) × (count ≤ 5) ⌝ }
+    ensures { λ r. ⌜ r ≡ packed (moments bytes count (point ∷ []) (bytes .mul weight word ∷ [])) ⌝ }
+{
+    if word == 0 {
+        return 0;
+    }
+    let step = log(point);
+    let mut at = exponent(log(weight), log(word));
+    let mut all: u64 = 0;
+    let mut j: u64 = 0;
+    while j < count {
+        all = all + ((power(at) as u64) << (8 * j));
+        at = exponent(at, step);
+        j += 1;
+    }
+    all
 }

@@ -4,5 +4,7 @@ mod byte;
 mod opening;
 
 pub use amount::open_amount;
+pub use byte::Pair;
 pub use byte::open_byte;
+pub use byte::open_pair;
 pub use opening::Opening;

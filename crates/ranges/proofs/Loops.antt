@@ -7,7 +7,7 @@ use native.Mathlib.Nat.{add-zero}
 use native.Mathlib.Numerals.{add-one}
 use native.Mathlib.Omega.{arith}
 use lib.Dec.{eqb}
-use lib.ListN.{length, take, drop, set, getD}
+use lib.ListN.{length, take, drop, set, getD, drop-of-length-le}
 use lib.Seq.{drop-cons, drop-drop, drop-set-lt, getD-drop, take-suc, take-suc-set}
 use borrow.Author.Tests.{eqb-false}
 use Rattle.ranges.specs.Lists.{from, every, member}
@@ -79,6 +79,19 @@ every-more test xs i h e = rw (add-one, drop-cons xs i 0 h, e)
 pub every-fails : (test : ℕ → Bool) (xs : List ℕ) (i : ℕ) → i < length xs → test (getD xs i 0) ≡ false → every test (drop i xs) ≡ false
 unfolding every
 every-fails test xs i h e = rw (drop-cons xs i 0 h, e)
+
+-- words are joined one by one: what is joined passes exactly where each word of it does
+module _ (test : ℕ → Bool) (xs : List ℕ) (i : ℕ) where
+  pub every-joined : (before after : Bool) → i < length xs → after ≡ before && test (getD xs i 0)
+      → before && every test (drop i xs) ≡ after && every test (drop (i + 1) xs)
+  unfolding every
+  every-joined true after h e = rw (add-one, drop-cons xs i 0 h, e)
+  every-joined false after h e = rw e
+
+  pub every-joined-end : (all : Bool) → length xs ≤ i → all && every test (drop i xs) ≡ all
+  unfolding every
+  every-joined-end true h = ap (every test) (drop-of-length-le _ h)
+  every-joined-end false h = refl
 
 -- of a list that passes, each number does
 pub every-at : (test : ℕ → Bool) (xs : List ℕ) (i : ℕ) → every test xs ≡ true → i < length xs → test (getD xs i 0) ≡ true

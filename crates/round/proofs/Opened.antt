@@ -2,39 +2,18 @@
 use mathlib.Core.Path.{_≡_, refl, sym, ap, ap₂, _∙_}
 use mathlib.Core.Bool.{Bool, true, false}
 use mathlib.Core.List.{List, map}
-use Prim.Native.Nat.{ℕ, _+_, _/_, _%_, _≤_, _<_}
+use Prim.Native.Nat.{ℕ, _/_, _%_, _≤_, _<_}
 use native.Mathlib.Numerals.{lt-of-le-of-ne}
 use native.Mathlib.Omega.{arith}
-use lib.Dec.{leb, ltb, eqb}
-use lib.ListN.{length, take, set, getD, length-map, List·getD-map}
-use lib.Seq.{take-all}
+use lib.Dec.{leb, eqb}
 use borrow.Author.Tests.{leb-true, leb-false, eqb-true, eqb-false, le-leb, lt-leb, eq-eqb, ne-eqb}
-use Rattle.ranges.specs.Lists.{every}
-use Rattle.weights.specs.Rows.{Scheme, amount-scheme, byte-scheme}
-use Rattle.openings.specs.Opening.{readable, opened}
+use Rattle.weights.specs.Rows.{amount-scheme, byte-scheme}
+use Rattle.openings.specs.Opening.{opened}
 use Rattle.openings.specs.declared.opening.Opening.{Opening}
 use Rattle.openings.specs.declared.opening.Opening.the-variants.{Secret, Inconsistent}
 use Rattle.openings.proofs.Laws.{byte-fits, exactly}
-use Rattle.ranges.proofs.Loops.{and-true, fill}
 use Rattle.round.specs.declared.Heard.the-variants.{Sum, Factors, Verdict}
 use Rattle.round.specs.Round.{sum-of, factors-of, verdict-of, heard, Possible}
-
--- there are at most 9 parties
-few-words : (size n : ℕ) (words : List ℕ) → readable size n words ≡ true → length words ≤ 9
-unfolding readable
-few-words size n words e =
-    let small = and-true _ (every (λ w. ltb w size) words) e in
-    let sized = and-true _ _ (small .0) in
-    let few = and-true (leb 3 n) _ (sized .0) in
-    omega (arith, leb-true n 9 (few .1), eqb-true (length words) n (sized .1))
-
-pub too-many : (S : Scheme) (n : ℕ) (words : List ℕ) → 9 < length words → opened S n words ≡ Inconsistent
-unfolding opened
-too-many S n words h = split (readable (S .size) n words) refl
-  where
-    split : (b : Bool) → readable (S .size) n words ≡ b → opened S n words ≡ Inconsistent
-    split false e = rw e
-    split true e = absurd (omega (arith, few-words (S .size) n words e))
 
 -- what is opened in the byte scheme is a byte
 pub opened-lt : (n v : ℕ) (words : List ℕ) → opened byte-scheme n words ≡ Secret v → v < 256
@@ -98,16 +77,3 @@ heard-possible n round messages least = split (eqb round 1) (leb round 32) refl 
         (of-factors (opened byte-scheme n low) (opened byte-scheme n high) (lt-of-le-of-ne least (λ e. other (sym e))) h
         (λ d e. opened-lt n d low e) (λ d e. opened-lt n d high e))
     split false false f p = rw (heard-verdict n round messages (leb-false round 32 p)) (of-verdict (opened byte-scheme n messages))
-
--- a list that is filled from the left with a function of the words
-module _ (f : ℕ → ℕ) (zero : f 0 ≡ 0) (words out : List ℕ) where
-  pub fill-map : (i : ℕ) → i < length out → i < length words → take i out ≡ take i (map f words)
-      → take (i + 1) (set out i (f (getD words i 0))) ≡ take (i + 1) (map f words)
-  fill-map i ho hw e =
-      fill out (map f words) i (f (getD words i 0)) ho (simp length-map hw)
-      (sym (ap (getD (map f words) i) (sym zero) ∙ List·getD-map f words i 0)) e
-
-  pub filled-map : (i : ℕ) → i ≤ length words → length words ≤ i → take i out ≡ take i (map f words) → take (length words) out ≡ map f words
-  filled-map i l h e =
-      let done : length words ≡ i = omega arith in
-      ap (λ (k : ℕ). take k out) done ∙ e ∙ take-all i (map f words) (simp length-map h)

@@ -9,6 +9,7 @@ use crate::Heard;
 use openings::Opening;
 use openings::open_amount;
 use openings::open_byte;
+use openings::open_pair;
 
 // The least and the greatest T: 2^59 + 2^32, less a mask below 2^58, with a difference of totals
 // below 2^32 either way.
@@ -38,21 +39,18 @@ pub fn open_round(n: u64, round: u64, messages: &[u64]) -> Heard
 fn factors(n: u64, messages: &[u64]) -> Heard
     ensures { λ r. ⌜ r ≡ factors-of (opened byte-scheme n (map (λ w. w % 256) (now (messages .entry)))) (opened byte-scheme n (map (λ w. w / 256) (now (messages .entry)))) ⌝ }
 {
-    let count = messages.len();
-    if 9 < count {
-        return Heard::Unopened;
-    }
-    let mut low = [0u64; 9];
-    let mut high = [0u64; 9];
-    let mut i = 0;
-    while i < count {
-        let word = messages[i];
-        low[i] = word % 256;
-        high[i] = word / 256;
-        i += 1;
-    }
-    match open_byte(n, &low[..count]) {
-        Opening::Secret(d) => match open_byte(n, &high[..count]) {
+    let pair = open_pair(n, messages);
+    let low = pair.low;
+    let high = pair.high;
+    factors_of(low, high)
+}
+
+// D and E, where both parts open.
+fn factors_of(low: Opening, high: Opening) -> Heard
+    ensures { λ r. ⌜ r ≡ factors-of low high ⌝ }
+{
+    match low {
+        Opening::Secret(d) => match high {
             Opening::Secret(e) => Heard::Factors(d, e),
             Opening::Inconsistent => Heard::Unopened,
         },

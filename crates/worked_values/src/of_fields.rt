@@ -1,13 +1,19 @@
 // FIPS 197's worked sums and products, further ones, and amounts at the edges of their range.
+use byte_rows::multiples;
 use fields::AmountShare;
 use fields::BitShare;
 use fields::P;
+use fields::exponent;
+use fields::log;
+use fields::power;
 
 const MAX: u64 = 0xffff_ffff_ffff_ffff;
 
 pub(crate) fn print() {
     worked_products();
     byte_products();
+    powers_and_logarithms();
+    rows();
     amount_sums();
     amount_differences();
     amount_products();
@@ -27,13 +33,55 @@ fn worked_products() {
 
 fn byte_products() {
     report::title(b"byte products:");
+    product(0x00, 0x00);
     product(0x00, 0xff);
+    product(0xff, 0x00);
     product(0x01, 0xff);
     product(0x80, 0x02);
     product(0x87, 0x02);
     product(0x53, 0xca);
     product(0xff, 0xff);
     product(0x0f, 0xc7);
+    report::end();
+}
+
+// The last power is the first again. The exponent of a product may be 255 as well as 0.
+fn powers_and_logarithms() {
+    report::title(b"powers of 03h:");
+    report::byte(power(0));
+    report::byte(power(1));
+    report::byte(power(2));
+    report::byte(power(25));
+    report::byte(power(254));
+    report::byte(power(255));
+    report::end();
+
+    report::title(b"their logarithms:");
+    report::number(log(0x01) as u64);
+    report::number(log(0x03) as u64);
+    report::number(log(0x05) as u64);
+    report::number(log(0x02) as u64);
+    report::number(log(0xf6) as u64);
+    report::number(log(power(255)) as u64);
+    report::end();
+
+    report::title(b"exponents of products:");
+    report::number(exponent(0, 0) as u64);
+    report::number(exponent(200, 55) as u64);
+    report::number(exponent(200, 56) as u64);
+    report::number(exponent(254, 254) as u64);
+    report::end();
+}
+
+fn rows() {
+    report::title(b"multiples of 57h by 0, 1, 2, 19, 131, 255:");
+    let row = multiples(0x57);
+    report::byte(row[0]);
+    report::byte(row[1]);
+    report::byte(row[2]);
+    report::byte(row[0x13]);
+    report::byte(row[0x83]);
+    report::byte(row[0xff]);
     report::end();
 }
 

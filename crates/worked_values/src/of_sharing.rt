@@ -8,6 +8,7 @@ pub(crate) fn print() {
     amounts_of_five();
     amounts_of_others();
     opened_bytes();
+    opened_pairs();
 }
 
 fn shares_of_amounts() {
@@ -65,6 +66,29 @@ fn opened_bytes() {
     let line_of_four = [0x81, 0x1a, 0x9a, 0x37];
     opened(openings::open_byte(4, &line_of_four));
     report::end();
+}
+
+// The low bytes open to 1, the high ones to 87, unless they are not on a line or reach above a byte.
+fn opened_pairs() {
+    report::title(b"opened pairs:");
+    let good = [0xd481, 0x4a1a, 0xc99a];
+    pair(3, &good);
+    let low_bent = [0xd481, 0x4a1a, 0xc99b];
+    pair(3, &low_bent);
+    let high_bent = [0xd481, 0x4b1a, 0xc99a];
+    pair(3, &high_bent);
+    let wide = [0xd481, 0x4a1a, 0x1c99a];
+    pair(3, &wide);
+    pair(4, &good);
+    report::end();
+}
+
+fn pair(n: u64, words: &[u64]) {
+    let both = openings::open_pair(n, words);
+    let low = both.low;
+    let high = both.high;
+    opened(low);
+    opened(high);
 }
 
 // Parties 1 to n.

@@ -6,7 +6,7 @@ use clockivy_reference::MAX_BIDS;
 
 use crate::call::{Call, Kind};
 use crate::damage::damage;
-use crate::engine::{Engine, Plain, Verified};
+use crate::engine::{ByteProduct, Engine, Plain, Verified};
 use crate::meeting::meeting;
 use crate::outcome::{Endings, Totals};
 use crate::rng::Rng;
@@ -23,11 +23,13 @@ const REPLIES: usize = 15;
 const OUT_OF_RANGE: u64 = 1;
 
 /// How many calls of each kind had each reply, and how many were lent a record in
-/// each condition; and how the whole auctions ended.
+/// each condition; how the whole auctions ended; and how many byte products were
+/// the same.
 pub struct Tally {
     counts: [[u64; REPLIES]; Kind::ALL.len()],
     records: [[u64; Kind::ALL.len()]; soundness::CONDITIONS],
     endings: Endings,
+    byte_products: u64,
 }
 
 impl Default for Tally {
@@ -36,6 +38,7 @@ impl Default for Tally {
             counts: Default::default(),
             records: [[0; Kind::ALL.len()]; soundness::CONDITIONS],
             endings: Endings::default(),
+            byte_products: 0,
         }
     }
 }
@@ -92,6 +95,30 @@ impl Tally {
             self.records[condition][call.kind as usize] += 1;
         }
         Ok(())
+    }
+
+    /// Makes every product of two bytes on both implementations.
+    pub fn compare_byte_products(&mut self) -> Result<(), Difference> {
+        for a in 0..=u8::MAX {
+            for b in 0..=u8::MAX {
+                let verified = Verified::byte_product(a, b);
+                let plain = Plain::byte_product(a, b);
+                if verified != plain {
+                    return Err(Difference(format!(
+                        "{} makes {a:02X}h times {b:02X}h {verified:02X}h, {} makes it {plain:02X}h",
+                        Verified::NAME,
+                        Plain::NAME
+                    )));
+                }
+                self.byte_products += 1;
+            }
+        }
+        Ok(())
+    }
+
+    /// The byte products that were the same.
+    pub fn byte_products(&self) -> u64 {
+        self.byte_products
     }
 
     /// Counts a whole auction.
@@ -225,11 +252,12 @@ impl Tally {
 /// The longest list over which every run of balanced prices is tried.
 const SHORT_LIST: u64 = 5;
 
-/// Whole auctions of every number of parties over the given numbers of prices,
-/// those in which the totals meet in every place of a short list, and one that
-/// fills the roll, with refused calls in between; then single calls, valid and
-/// damaged, until there are `calls` in all.
+/// Every byte product by itself; whole auctions of every number of parties over
+/// the given numbers of prices, those in which the totals meet in every place of
+/// a short list, and one that fills the roll, with refused calls in between; then
+/// single calls, valid and damaged, until there are `calls` in all.
 pub fn run(seed: u64, prices: &[u64], calls: u64, tally: &mut Tally) -> Result<(), Difference> {
+    tally.compare_byte_products()?;
     let mut rng = Rng::new(seed);
     for n in 3..=9 {
         for &k in prices {

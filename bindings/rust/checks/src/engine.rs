@@ -93,3 +93,25 @@ macro_rules! engine {
 
 engine!(Verified, "verified", words, "The verified library.");
 engine!(Plain, "plain", reference, "The plain reference.");
+
+/// The byte product by itself.
+pub trait ByteProduct {
+    /// The product of two bytes.
+    fn byte_product(a: u8, b: u8) -> u8;
+}
+
+impl ByteProduct for Verified {
+    #[inline]
+    fn byte_product(a: u8, b: u8) -> u8 {
+        clockivy_byte_product::byte_product(a, b)
+    }
+}
+
+impl ByteProduct for Plain {
+    /// Not inlined, as the archive's cannot be: on both sides a product is one
+    /// call.
+    #[inline(never)]
+    fn byte_product(a: u8, b: u8) -> u8 {
+        reference::field::byte::mul(a, b)
+    }
+}

@@ -13,17 +13,17 @@ use Rattle.dealer.proofs.share_from.Tie as tie
 add-to : tie.Need-add-to
 add-to c = search needs
 
-sub-share-byte : tie.Need-sub-share-byte
-sub-share-byte c = search needs
+sub-share-by : tie.Need-sub-share-by
+sub-share-by c = search needs
 
-part-share-byte-start : tie.Need-part-share-byte-start
-part-share-byte-start c = search needs
+part-share-by-start : tie.Need-part-share-by-start
+part-share-by-start c = search needs
 
-part-share-byte-end : tie.Need-part-share-byte-end
-part-share-byte-end c = search needs
+part-share-by-end : tie.Need-part-share-by-end
+part-share-by-end c = search needs
 
-share-byte-requires : tie.Need-share-byte-requires
-share-byte-requires c κs = search needs
+share-by-requires : tie.Need-share-by-requires
+share-by-requires c κs = search needs
 
 cast-result : tie.Need-cast-result
 cast-result c = search needs
@@ -32,16 +32,16 @@ returns : tie.Need-returns
 returns c =
     let a = c .before .before .before .before .args in
     let long : a .from + a .t - a .from ≡ a .t = omega arith in
-    c .before .share-byte .ensures ∙ ap (λ (m : ℕ). value bytes (a .secret ∷ take m (drop (a .from) (a .drawn .now))) (a .point)) long
+    c .before .share-by .ensures ∙ ap (λ (m : ℕ). value bytes (a .secret ∷ take m (drop (a .from) (a .drawn .now))) (a .point)) long
 
 pub share-from-spec : {M : Type 1} → statement M
 share-from-spec =
     tie.close
     (tie.spec
     add-to
-    sub-share-byte
-    part-share-byte-start
-    part-share-byte-end
-    share-byte-requires
+    sub-share-by
+    part-share-by-start
+    part-share-by-end
+    share-by-requires
     cast-result
     returns)

@@ -62,13 +62,13 @@ whole t own m words drawn bits triples′ h em eb et =
 
 -- once the bits are written: what the call was given, the mask's share, the bits' and how many they are
 abbrev given : tie.After-write-bits → tie.Start
-given c = c .before .before .before .before .before .before .before .before
+given c = c .before .before .before .before .before .before .before .before .before .before
 
 abbrev mask-word : tie.After-write-bits → ℕ
-mask-word c = c .before .before .share-amount .result .0
+mask-word c = c .before .before .before .before .share-amount .result .0
 
 abbrev bit-words : tie.After-write-bits → List ℕ
-bit-words c = c .write-bits .last .1 .1 .1 .1 .0
+bit-words c = c .write-bits .last .1 .1 .1 .1 .1 .0
 
 some-bits : (c : tie.After-write-bits) → length (bit-words c) ≡ 33
 some-bits c = ap length (c .write-bits .ensures) ∙ length-shares _ _ _ _ ∙ length-bits _
@@ -94,6 +94,9 @@ slice-write-sheet c = search needs
 cast-point : tie.Need-cast-point
 cast-point c = search needs
 
+multiples-requires : tie.Need-multiples-requires
+multiples-requires c κs = search needs
+
 mul-start : tie.Need-mul-start
 mul-start c = search needs
 
@@ -104,7 +107,7 @@ part-write-bits-start : tie.Need-part-write-bits-start
 part-write-bits-start c = search needs
 
 part-write-bits-end : tie.Need-part-write-bits-end
-part-write-bits-end c = simp length-set (omega (arith, c .before .before .before .before .before .before .pre))
+part-write-bits-end c = simp length-set (omega (arith, c .before .before .before .before .before .before .before .before .pre))
 
 write-bits-requires : tie.Need-write-bits-requires
 write-bits-requires c κs = search needs
@@ -120,12 +123,12 @@ part-write-triples-end c = search needs
 
 sub-write-triples-2 : tie.Need-sub-write-triples-2
 sub-write-triples-2 c =
-    let e = c .before .before .before in
+    let e = c .before .before .before .before in
     room (given e .args .sheet .now) (bit-words e) (mask-word e) (given e .pre .3) (some-bits e)
 
 part-write-triples-start-2 : tie.Need-part-write-triples-start-2
 part-write-triples-start-2 c =
-    let e = c .before .before .before in
+    let e = c .before .before .before .before in
     room (given e .args .sheet .now) (bit-words e) (mask-word e) (given e .pre .3) (some-bits e)
 
 part-write-triples-end-2 : tie.Need-part-write-triples-end-2
@@ -133,23 +136,23 @@ part-write-triples-end-2 c = search needs
 
 write-triples-requires : tie.Need-write-triples-requires
 write-triples-requires c κs =
-    let e = c .before .before .before .before in
-    (simp (length-take, length-drop) (omega (arith, given e .pre)), left (given e .args .sheet .now) (bit-words e) (mask-word e) (given e .pre .3) (some-bits e))
+    let e = c .before .before .before .before .before in
+    (simp (length-take, length-drop) (omega (arith, given e .pre)), left (given e .args .sheet .now) (bit-words e) (mask-word e) (given e .pre .3) (some-bits e), search needs)
 
 same-length : tie.Need-same-length
 same-length c =
-    let e = c .before .before .before .before .before .before .before in
-    put-length (given e .args .sheet .now) (bit-words e) (mask-word e) (given e .pre .3) (some-bits e) (c .before .before .write-triples .last .1 .1 .1 .0)
+    let e = c .before .before .before .before .before .before .before .before in
+    put-length (given e .args .sheet .now) (bit-words e) (mask-word e) (given e .pre .3) (some-bits e) (c .before .before .write-triples .last .1 .1 .1 .1 .0)
     (ap length (c .before .before .write-triples .ensures) ∙ length-triples _ _ 31 _)
 
 returns : tie.Need-returns
 returns c =
-    let e = c .before .before .before .before .before .before .before in
+    let e = c .before .before .before .before .before .before .before .before in
     let a = given e .args in
-    let triple-words = c .before .before .write-triples .last .1 .1 .1 .0 in
+    let triple-words = c .before .before .write-triples .last .1 .1 .1 .1 .0 in
     put (given e .args .sheet .now) (bit-words e) (mask-word e) (given e .pre .3) (some-bits e) triple-words
     ∙ whole (a .t) (a .own) (mask-word e) (a .words .now) (a .bytes .now) (bit-words e) triple-words
-    (omega (arith, given e .pre)) (e .before .before .share-amount .ensures) (e .write-bits .ensures) (c .before .before .write-triples .ensures)
+    (omega (arith, given e .pre)) (e .before .before .before .before .share-amount .ensures) (e .write-bits .ensures) (c .before .before .write-triples .ensures)
 
 pub write-spec : {M : Type 1} → statement M
 write-spec =
@@ -162,6 +165,7 @@ write-spec =
     share-amount-requires
     slice-write-sheet
     cast-point
+    multiples-requires
     mul-start
     sub-write-bits
     part-write-bits-start

@@ -19,11 +19,11 @@ use Rattle.dealer.proofs.write_bits.Statement.{statement}
 use Rattle.dealer.proofs.write_bits.Tie as tie
 
 abbrev Inv-loop : tie.InvT-loop
-Inv-loop t point mask drawn shares₀ rest₀ at₀ i₀ shares rest at i =
+Inv-loop t point row mask drawn shares₀ rest₀ at₀ i₀ shares rest at i =
     (i ≤ 33) × (at ≡ i * t) × (rest ≡ mask / 2 ^ i) × (length shares ≡ 33) × (take i shares ≡ take i (byte-shares t point (mask-bits mask) drawn))
 
 abbrev μ-loop : tie.MeasureT-loop
-μ-loop t point mask drawn shares₀ rest₀ at₀ i₀ shares rest at i = 33 - i
+μ-loop t point row mask drawn shares₀ rest₀ at₀ i₀ shares rest at i = 33 - i
 
 -- the bytes of a bit are there
 fits : (c : tie.In-loop Inv-loop μ-loop) → c .before .loop .at + c .before .before .before .before .args .t ≤ length (c .before .before .before .before .args .drawn .now)
@@ -55,7 +55,7 @@ cast-bit : tie.Need-cast-bit Inv-loop μ-loop
 cast-bit c = omega (arith, and-mask (c .before .loop .rest) 1)
 
 share-from-requires : tie.Need-share-from-requires Inv-loop μ-loop
-share-from-requires c κs = fits c
+share-from-requires c κs = (fits c, c .before .before .before .before .pre .2)
 
 mul-shares : tie.Need-mul-shares Inv-loop μ-loop
 mul-shares c = search needs

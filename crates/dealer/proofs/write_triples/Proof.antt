@@ -15,11 +15,11 @@ use Rattle.dealer.proofs.write_triples.Statement.{statement}
 use Rattle.dealer.proofs.write_triples.Tie as tie
 
 abbrev Inv-loop : tie.InvT-loop
-Inv-loop t point drawn shares₀ step at₀ i₀ shares at i =
+Inv-loop t point row drawn shares₀ step at₀ i₀ shares at i =
     (i ≤ 31) × (at ≡ i * (2 + 3 * t)) × (length shares ≡ 93) × (take (3 * i) shares ++ triples t point (31 - i) (drop at drawn) ≡ triples t point 31 drawn)
 
 abbrev μ-loop : tie.MeasureT-loop
-μ-loop t point drawn shares₀ step at₀ i₀ shares at i = 31 - i
+μ-loop t point row drawn shares₀ step at₀ i₀ shares at i = 31 - i
 
 mul-step : tie.Need-mul-step Inv-loop μ-loop
 mul-step c = search needs
@@ -102,7 +102,7 @@ write-triple-requires c κs =
     let s = c .before .before .before .before .before .before in
     let l = c .before .before .before .loop in
     let f = fits (c .before .before) in
-    (simp (length-take, length-drop) (omega arith), simp (length-take, length-drop) (omega arith))
+    (simp (length-take, length-drop) (omega arith), simp (length-take, length-drop) (omega arith), s .pre .2)
 
 add-at : tie.Need-add-at Inv-loop μ-loop
 add-at c = omega (arith, fits (c .before .before .before .before .before), c .before .before .before .before .before .before .before .before .before .good)
@@ -123,8 +123,8 @@ loop-again c =
     let made = c .before .before .write-triple .ensures ∙ ap (triple (a .t) (a .point)) rest in (
       omega arith,
       omega arith,
-      put-length (a .t) (a .point) (l .i) (l .at) (l .shares) (c .before .before .write-triple .last .1 .1 .1 .0) (a .drawn .now) (l .inv .2) h made,
-      sym (put-more (a .t) (a .point) (l .i) (l .at) (l .shares) (c .before .before .write-triple .last .1 .1 .1 .0) (a .drawn .now) (l .inv .2) h made) ∙ l .inv .3,
+      put-length (a .t) (a .point) (l .i) (l .at) (l .shares) (c .before .before .write-triple .last .1 .1 .1 .1 .0) (a .drawn .now) (l .inv .2) h made,
+      sym (put-more (a .t) (a .point) (l .i) (l .at) (l .shares) (c .before .before .write-triple .last .1 .1 .1 .1 .0) (a .drawn .now) (l .inv .2) h made) ∙ l .inv .3,
     )
 
 same-length : tie.Need-same-length Inv-loop μ-loop

@@ -9,6 +9,10 @@
 //! figure of the repeat. The table has the middle figure of all repeats, the
 //! least and the greatest.
 //!
+//! The byte product by itself is timed along a chain, where each product waits for
+//! the one before; the time is that of one product. On both sides a product is one
+//! call.
+//!
 //! A second table has one party's shares of a bid written entry by entry beside
 //! the same by one call, on either side, in the same way.
 //!
@@ -20,7 +24,7 @@ use std::process::ExitCode;
 use std::thread::available_parallelism;
 use std::time::{Duration, Instant};
 
-use clockivy_checks::engine::{Engine, Plain, Verified};
+use clockivy_checks::engine::{ByteProduct, Engine, Plain, Verified};
 use clockivy_checks::record::{is_over, mark, marks, BIDS};
 use clockivy_checks::rng::Rng;
 use clockivy_reference::{sheet_count, threshold, LAST_ROUND, MAX_BIDS, RECORD, SHEET};
@@ -36,6 +40,9 @@ const ENTRY: u64 = K;
 const NEXT: u64 = MAX_BIDS / 2;
 /// The round that stands for rounds 2 to 32, which do the same work.
 const MIDDLE: u64 = 17;
+
+/// The products of a chain.
+const CHAIN: u32 = 1_000;
 
 const SEED: u64 = 1979;
 
@@ -72,6 +79,8 @@ struct Case {
     name: &'static str,
     timed: fn(&mut Inputs),
     beside: fn(&mut Inputs),
+    /// How many times what the row names is done in a run.
+    parts: u32,
 }
 
 /// One call, or one auction, verified and beside that plain.
@@ -81,6 +90,7 @@ macro_rules! case {
             name: $name,
             timed: $run::<Verified $(, { $round })?>,
             beside: $run::<Plain $(, { $round })?>,
+            parts: 1,
         }
     };
 }
@@ -100,6 +110,12 @@ const CALLS: [Case; 10] = [
 
 const AUCTION: Case = case!("whole auction, 1,000 bids", auction);
 
+/// A run is a chain of products.
+const PRODUCT: Case = Case {
+    parts: CHAIN,
+    ..case!("byte product", products)
+};
+
 /// One party's shares of a bid by entries, beside one call.
 const BIDS_BY_ENTRIES: [Case; 2] = [by_entries::<Verified>(), by_entries::<Plain>()];
 
@@ -108,6 +124,7 @@ const fn by_entries<E: Engine>() -> Case {
         name: E::NAME,
         timed: split_entries::<E>,
         beside: split::<E>,
+        parts: 1,
     }
 }
 
@@ -120,6 +137,7 @@ fn main() -> ExitCode {
     for case in &CALLS {
         println!("{}", measure(case, &mut inputs, &CALL_PLAN));
     }
+    println!("{}", measure(&PRODUCT, &mut inputs, &CALL_PLAN));
     println!("{}", measure(&AUCTION, &mut inputs, &AUCTION_PLAN));
 
     println!();
@@ -128,15 +146,21 @@ fn main() -> ExitCode {
         println!("{}", measure(case, &mut inputs, &BID_PLAN));
     }
 
-    auction::<Verified>(&mut inputs);
-    let verified = inputs.answer;
-    auction::<Plain>(&mut inputs);
-    if verified != inputs.answer {
-        println!("\nbenchmark: FAILED, the answers differ");
+    let verified = outcome::<Verified>(&mut inputs);
+    let plain = outcome::<Plain>(&mut inputs);
+    if verified != plain {
+        println!("\nbenchmark: FAILED, the answers or the products differ");
         return ExitCode::FAILURE;
     }
-    println!("\nbenchmark: done, same answers");
+    println!("\nbenchmark: done, same answers and products");
     ExitCode::SUCCESS
+}
+
+/// What an auction and a chain of products come to.
+fn outcome<E: Engine + ByteProduct>(inputs: &mut Inputs) -> ([u64; 2], u8) {
+    auction::<E>(inputs);
+    products::<E>(inputs);
+    (inputs.answer, inputs.product)
 }
 
 /// The first two lines of a table: what a row is, what is timed, beside what.
@@ -159,8 +183,9 @@ fn measure(case: &Case, inputs: &mut Inputs, plan: &Plan) -> String {
             least[0] = least[0].min(batch(case.timed, inputs, times));
             least[1] = least[1].min(batch(case.beside, inputs, times));
         }
-        timed.push(least[0].as_secs_f64() / f64::from(times));
-        beside.push(least[1].as_secs_f64() / f64::from(times));
+        let parts = f64::from(times) * f64::from(case.parts);
+        timed.push(least[0].as_secs_f64() / parts);
+        beside.push(least[1].as_secs_f64() / parts);
     }
     let mut ratios: Vec<f64> = timed.iter().zip(&beside).map(|(t, b)| t / b).collect();
     format!(
@@ -192,6 +217,7 @@ fn middle(figures: &mut [f64]) -> f64 {
 /// A time in a unit that suits it.
 fn shown(seconds: f64) -> String {
     match seconds {
+        s if s < 1e-8 => format!("{:.1} ns", s * 1e9),
         s if s < 1e-6 => format!("{:.0} ns", s * 1e9),
         s if s < 1e-4 => format!("{:.2} us", s * 1e6),
         s if s < 1e-3 => format!("{:.3} ms", s * 1e3),
@@ -245,10 +271,13 @@ struct Inputs {
     half: [u64; RECORD],
     addend: Vec<u64>,
     sum: Vec<u64>,
+    /// The factors of a chain of products. None is 0, so that no product is.
+    factors: Vec<u8>,
     /// What the calls write.
     shares: Vec<u64>,
     sheet: Vec<u64>,
     answer: [u64; 2],
+    product: u8,
 }
 
 impl Inputs {
@@ -284,9 +313,11 @@ impl Inputs {
             half: half(),
             addend: rng.words(TABLE, Rng::amount_share),
             sum: vec![0; TABLE],
+            factors: (0..CHAIN).map(|_| rng.between(1, 255) as u8).collect(),
             shares: vec![0; TABLE],
             sheet: vec![0; SHEET],
             answer: [0; 2],
+            product: 0,
         }
     }
 }
@@ -346,6 +377,15 @@ fn hear<E: Engine, const ROUND: u64>(inputs: &mut Inputs) {
     let Seat { totals, sheets, .. } = &inputs.seat;
     let mut record = round.record;
     done(E::hear(&mut record, totals, sheets, &round.messages));
+}
+
+/// A chain of products, each made from the one before.
+fn products<E: ByteProduct>(inputs: &mut Inputs) {
+    let mut product = 1;
+    for &factor in &inputs.factors {
+        product = E::byte_product(product, factor);
+    }
+    inputs.product = product;
 }
 
 /// The record of the timed party before the first round, with every second

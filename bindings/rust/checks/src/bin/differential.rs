@@ -2,11 +2,11 @@
 //!
 //!     cargo run --release --bin differential [CALLS [SEED]]
 //!
-//! It passes where no call made a difference, every reply has come up, every
-//! fault of a record has met every call that judges one, and whole auctions have
-//! ended in every way. Whole auctions come first, however few calls are asked
-//! for, and single calls fill up the number; without enough of these, something
-//! may not come up.
+//! It passes where no call and no byte product made a difference, every reply has
+//! come up, every fault of a record has met every call that judges one, and whole
+//! auctions have ended in every way. All byte products and the whole auctions
+//! come first, however few calls are asked for, and single calls fill up the
+//! number; without enough of these, something may not come up.
 
 use std::env;
 use std::process::ExitCode;
@@ -39,9 +39,10 @@ fn main() -> ExitCode {
     let outcome = run(seed, &PRICES, calls, &mut tally);
     println!("{tally}\n");
     println!(
-        "seed {seed}, {} calls, {} whole auctions, {:.0} seconds",
+        "seed {seed}, {} calls, {} whole auctions, {} byte products, {:.0} seconds",
         tally.calls(),
         tally.auctions(),
+        tally.byte_products(),
         start.elapsed().as_secs_f64()
     );
     if let Err(Difference(what)) = outcome.and_then(|()| expected(&tally)) {
@@ -60,7 +61,7 @@ fn main() -> ExitCode {
         }
         return ExitCode::FAILURE;
     }
-    println!("differential: passed, every reply, record and buffer the same");
+    println!("differential: passed, every reply, record, buffer and byte product the same");
     ExitCode::SUCCESS
 }
 

@@ -1,0 +1,2 @@
+-- Laws of a row of multiples, which other crates cite.
+pub mod Rows

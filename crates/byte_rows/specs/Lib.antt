@@ -1,0 +1,2 @@
+-- Rows that products of bytes are read from.
+pub mod Row

@@ -1,0 +1,31 @@
+-- A match on a number whose arms are the words of a packed table, the last one by `_`. Assumes nothing.
+use mathlib.Core.Path.{_≡_, sym, ap}
+use mathlib.Core.List.{List}
+use Prim.Native.Nat.{ℕ, zero, suc, _*_, _≤_, _<_}
+use native.Mathlib.Omega.{arith}
+use lib.ListN.{take, drop}
+use Rattle.fields.specs.Packed.{packed}
+
+module _ (table : List ℕ) where
+  abbrev pub word : ℕ → ℕ
+  word k = packed (take 8 (drop (8 * k) table))
+
+  -- in an arm of its own
+  pub at : {k n : ℕ} → k ≡ n → word n ≡ word k
+  at e = ap word (sym e)
+
+  -- where k is none of 0 to n - 1
+  abbrev pub None : ℕ → ℕ → Type 0
+  None k zero = Unit
+  None k (suc n) = None k n × (k ≡ n → ⊥)
+
+  past : (k n : ℕ) → None k n → n ≤ k
+  past k zero none = omega arith
+  past k (suc n) none =
+      let l : n ≤ k = past k n (none .0) in
+      let d : k ≡ n → ⊥ = none .1 in
+      omega (arith, l, d)
+
+  -- in the arm of all that is left
+  pub last : {k : ℕ} (n : ℕ) → None k n → k < suc n → word n ≡ word k
+  last {k} n none h = let l : n ≤ k = past k n none in at {k = k} {n = n} (omega (arith, l, h))
