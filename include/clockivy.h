@@ -15,6 +15,8 @@
  *   bidder  a bidder's number, 1 to 1,000, the same at every party
  *   roll    the marks of the bidders whose bids a party has added, 16 words:
  *           bidder b is bit b % 64 of word b / 64, bit 0 being the lowest
+ *   present the marks of who was present in a round, n bytes, party 1's first:
+ *           1 for a party whose message counts, 0 for one that was away
  *   record  where a party stands in the auction, CLOCKIVY_RECORD_LEN words
  *           (clockivy_party)
  *
@@ -24,8 +26,8 @@
  *   a time (clockivy_split_entry). Each party adds its shares under the bidder's
  *   number. The dealer writes every party's sheets for 2P probes, as many as two
  *   searches may make, from new coins for each probe. Then, round after round,
- *   each party says a message and hears all n of them, 33 rounds to a probe,
- *   until the answer is there.
+ *   each party says a message and hears those of all who are present, t + 1 or
+ *   more of the n, 33 rounds to a probe, until the answer is there.
  *
  * The two searches
  *   A probe compares total demand with total supply at one index, which is
@@ -83,7 +85,8 @@
  *   - The shares of an entry are made from the same t coins for all n parties,
  *     so write an entry for every party before drawing for the next one. Shares
  *     from other coins do not fit: where that entry is probed, hearing round 1
- *     is all but surely 10. An entry that is written anew with other coins is
+ *     is all but surely 10 if more than t + 1 parties are present, and with
+ *     t + 1 it may pass. An entry that is written anew with other coins is
  *     written anew for every party, before any shares are handed out.
  *   - The same table is lent to all 2kn calls. Each judges the table that it is
  *     lent and takes one amount of it: amounts of several tables make a bid
@@ -107,8 +110,10 @@
  *     splitting: shares of a table split anew do not fit those that other
  *     parties have added. Compare the rolls before the first message is said;
  *     who is in is no secret among the parties. Where a bid is missing at some
- *     of them, or split anew for some, hearing round 1 is all but surely 10,
- *     and by then no bid may be added: start anew, with new sheets.
+ *     of those present, or split anew for some, hearing round 1 is all but
+ *     surely 10 if they are more than t + 1, and by then no bid may be added:
+ *     start anew, with new sheets. If they are t + 1 it is 11 seven times in
+ *     eight; else the price may be wrong and nothing tells.
  *   - A bid that is in is not replaced: another bid of its bidder is 14 too,
  *     whoever sends it. A call does not know its sender, so see that a bid
  *     comes from the bidder whose number it has, before it is added: a number
@@ -117,23 +122,64 @@
  *     as one. Where totals hold a bid that the roll does not mark, the bid sent
  *     again counts double; where the roll marks a bid that the totals do not
  *     hold, it is missing there, and is 14 when sent again. clockivy_add cannot
- *     tell. Round 1 does, by 10 as above, unless all parties make the same
- *     slip: then the price is wrong and nothing tells.
+ *     tell. Round 1 does, as above, unless all parties make the same slip: then
+ *     the price is wrong and nothing tells.
+ *
+ * A party that drops off
+ *   Any t + 1 of the n messages open a round, so that the parties which are
+ *   there go on without the others. Hearing takes n messages and n marks of who
+ *   was present, and goes by the marked messages alone: what stands in another
+ *   place may be anything, and differ from party to party.
+ *   - A party may be marked in a round once it has heard every round before. It
+ *     may hear the round itself later than the others do.
+ *   - A party that is not marked may say its message or not; it is not used. It
+ *     may hear the round with the others, late, or never. Its own place is not
+ *     compared, and its totals are not used and so not judged.
+ *   - A party that comes back hears every round that it has missed, in order,
+ *     each with the messages and the marks with which the others heard it. Then
+ *     it stands where they stand, and may be marked again. So somebody keeps the
+ *     messages and the marks of each round until all who may come back have
+ *     heard it; the dealer must not see them.
+ *   - Every party opens, adds every bid and is dealt its sheets, whether it then
+ *     hears a round or not. The parties that have heard every round give the
+ *     answer, all the same one; t + 1 of them are enough to come to it.
+ *   What the parties have to see to:
+ *   - They agree on the marks of a round, and on the marked messages, before any
+ *     of them hears it. A call does not know what others hear. With t + 1 marked
+ *     any messages that are in range open, to one thing or another. So a party
+ *     that hears a round with other marks than the rest, a late one say, or with
+ *     another message in a marked place, may step to another sum, carry or
+ *     verdict without a refusal, and from there on what it says and answers is
+ *     wrong. Only where every message is right do any marks open to the same.
+ *   - With t + 1 marked only the range of what the others said is checked (10).
+ *     A wrong message that is in range, one of a party which has not heard every
+ *     round before say, opens to something else, and is refused only if that is
+ *     no sum (11) or no verdict (12). With more than t + 1 marked, one wrong
+ *     message of another party is always 10. So mark everybody who is there.
+ *   - A party hears a round once; a refused hearing is none. Heard anew from a
+ *     stored record, with other messages or marks, it makes the party say other
+ *     messages from the same sheet, and that gives bids away: see "Three uses
+ *     that give bids away".
+ *   - A party that is away keeps its totals, sheets and record to itself, like
+ *     any other. With all that it was sent, it is one of the t parties that may
+ *     pool what they have.
  *
  * Secrets
  *   Coins are drawn by the caller: each uniform over its range, independent,
  *   used once. A party's shares, totals, sheets and record are for that party
  *   alone, but for the roll: who bids, and in which order, is not hidden from
- *   the other parties. The dealer must see neither the messages nor the sum that
- *   those of round 1 open to: it knows the mask and the triples, and so would
- *   learn total demand minus total supply at the probed index, in either search.
+ *   the other parties, nor who was present. The dealer must see neither the
+ *   messages nor the sum that those of round 1 open to: it knows the mask and
+ *   the triples, and so would learn total demand minus total supply at the
+ *   probed index, in either search.
  *   What the parties open is not hidden: every verdict of both searches, and
  *   with them i, j and the answer. That is more than the price alone: it tells
  *   at which prices demand is above supply, at which it equals it, and at which
  *   it is below. What any t parties receive together fits any other bids of the
  *   same bidders, entered in the same order, that come to the same i and the
- *   same j, or like them to none, for exactly one choice of the coins; but for
- *   masks that leave their range, at most 2^33 - 2 of 2^58 at each probe.
+ *   same j, or like them to none, for exactly one choice of the coins, with the
+ *   same parties present in each round; but for masks that leave their range, at
+ *   most 2^33 - 2 of 2^58 at each probe.
  *   Time is not hidden. clockivy_hear and clockivy_deal read products of bytes
  *   from tables, at places that depend on shares and coins. Whoever can watch
  *   the cache of the processor that a call runs on, or time it closely, may
@@ -154,14 +200,14 @@
  *   - Sheets used again: by an older record, by one record in two sessions, or
  *     by a session opened anew. Each passes every judgement and uses masks and
  *     triples again. Where it then meets other totals, or hears other messages
- *     than before, it says other messages. Store the record before the message
- *     said from it leaves, and go on from the newest one only, with the totals
- *     and the sheets that belong to it. A session that starts anew gets new
- *     sheets from the dealer. Nor may one sheet stand in two places of those
- *     lent: P sheets lent twice over have the right length and pass. Used in both
- *     searches, two opened sums would have one mask, and differ by demand minus
- *     supply at the one probe plus the same at the other, for all parties to
- *     read.
+ *     or marks than before, it says other messages. Store the record before the
+ *     message said from it leaves, and go on from the newest one only, with the
+ *     totals and the sheets that belong to it. A session that starts anew gets
+ *     new sheets from the dealer. Nor may one sheet stand in two places of those
+ *     lent: P sheets lent twice over have the right length and pass. Used in
+ *     both searches, two opened sums would have one mask, and differ by demand
+ *     minus supply at the one probe plus the same at the other, for all parties
+ *     to read.
  *   - Coins used again: for another entry of the bid, for another bid, or for
  *     an entry that is written anew with another amount. Where all t recur, a
  *     party's two shares differ by just what the two amounts differ by, so that
@@ -184,8 +230,8 @@ extern "C" {
 /* The replies. */
 enum {
     CLOCKIVY_DONE = 0,
-    CLOCKIVY_OUT_OF_RANGE = 1,        /* n, own, k, entry, bidder or a field of the
-                                         record */
+    CLOCKIVY_OUT_OF_RANGE = 1,        /* n, own, k, entry, bidder, a mark of who was
+                                         present or a field of the record */
     CLOCKIVY_WRONG_LENGTH = 2,        /* a slice is not as long as stated */
     CLOCKIVY_OUT_OF_TURN = 3,         /* a bid after the first heard round; a round
                                          when over; the answer before it is over */
@@ -195,13 +241,15 @@ enum {
     CLOCKIVY_NOT_MONOTONE = 7,        /* demand rises or supply falls */
     CLOCKIVY_SHARE_OUT_OF_RANGE = 8,  /* an amount's share at or above the prime, a
                                          bit's share above 255 */
-    CLOCKIVY_OWN_MESSAGE_DIFFERS = 9, /* the party's own place holds another message
-                                         than it says */
-    CLOCKIVY_INCONSISTENT = 10,       /* a message out of range, or no polynomial of
-                                         degree at most t through all of them */
+    CLOCKIVY_OWN_MESSAGE_DIFFERS = 9, /* a party that was present finds another message
+                                         in its own place than it says */
+    CLOCKIVY_INCONSISTENT = 10,       /* of those present a message out of range, or
+                                         no polynomial of degree at most t through
+                                         their messages */
     CLOCKIVY_SUM_OUT_OF_RANGE = 11,   /* the opened sum of round 1 */
     CLOCKIVY_VERDICT_NOT_BIT = 12,    /* the opened verdict is above 1 */
-    CLOCKIVY_ALREADY_ENTERED = 14     /* a bid of this bidder has been added */
+    CLOCKIVY_ALREADY_ENTERED = 14,    /* a bid of this bidder has been added */
+    CLOCKIVY_TOO_FEW_PRESENT = 15     /* fewer than t + 1 parties were present */
 };
 
 /* Limits. */
@@ -359,33 +407,41 @@ uint64_t clockivy_say(const uint64_t *record, size_t record_len,
                       uint64_t *message);
 
 /*
- * Takes all parties' messages of the current round and steps the record to the
- * next round. Round 33 opens the verdict and moves lo or hi to the probed index,
- * as under "The two searches": in the first search 1 moves lo, in the second 1
- * moves hi. Then the next probe begins, or the second search in place of the
- * first, or the auction is over.
+ * Takes the messages of the current round, of those who were present, and steps
+ * the record to the next round. Round 33 opens the verdict and moves lo or hi to
+ * the probed index, as under "The two searches": in the first search 1 moves lo,
+ * in the second 1 moves hi. Then the next probe begins, or the second search in
+ * place of the first, or the auction is over.
+ *
+ * Any t + 1 messages open the round. All parties hear it with the same marks,
+ * and a marked party has heard every round before: see "A party that drops off".
  *
  *   record    stepped
  *   totals    2k words
  *   sheets    127 times 2P words
- *   messages  n words, party 1's first
+ *   messages  n words, party 1's first; where the mark is 0, anything
+ *   present   n bytes, party 1's first: 1 for a party that was present, else 0
  *
- *   1   a field of the record is out of range
+ *   1   a field of the record is out of range, or a mark is above 1
  *   2   record has not CLOCKIVY_RECORD_LEN words, totals not 2k, sheets not
- *       127 times 2P, or messages not n
+ *       127 times 2P, messages not n, or present not n bytes
  *   3   the auction is over
- *   8   as in clockivy_say
- *   9   the party's own place holds another message than it says
- *   10  a message is at or above the prime (round 1), above 65,535 (2 to 32)
- *       or above 255 (33); or no polynomial of degree at most t passes through
- *       them (rounds 2 to 32: through the low bytes, and through the high)
+ *   15  fewer than t + 1 are marked
+ *   8   as in clockivy_say; but in round 1 the totals are judged only if the
+ *       party itself is marked
+ *   9   the party is marked, and its own place holds another message than it says
+ *   10  a marked message is at or above the prime (round 1), above 65,535 (2 to
+ *       32) or above 255 (33); or no polynomial of degree at most t passes
+ *       through the marked ones (rounds 2 to 32: through the low bytes, and
+ *       through the high). With t + 1 of them there always is one
  *   11  round 1: the opened sum is outside 2^58 + 2 to 2^59 + 2^33 - 1
  *   12  round 33: the opened verdict is above 1
  */
 uint64_t clockivy_hear(uint64_t *record, size_t record_len,
                        const uint64_t *totals, size_t totals_len,
                        const uint64_t *sheets, size_t sheets_len,
-                       const uint64_t *messages, size_t messages_len);
+                       const uint64_t *messages, size_t messages_len,
+                       const uint8_t *present, size_t present_len);
 
 /*
  * Writes the index of the price and the number of probes made, of both searches
@@ -528,11 +584,12 @@ CLOCKIVY_INLINE uint64_t clockivy_party_say(const clockivy_party *party,
 CLOCKIVY_INLINE uint64_t clockivy_party_hear(clockivy_party *party,
                                              const uint64_t *totals, size_t totals_len,
                                              const uint64_t *sheets, size_t sheets_len,
-                                             const uint64_t *messages, size_t messages_len)
+                                             const uint64_t *messages, size_t messages_len,
+                                             const uint8_t *present, size_t present_len)
 {
     return clockivy_hear((uint64_t *)party, CLOCKIVY_RECORD_LEN,
                          totals, totals_len, sheets, sheets_len,
-                         messages, messages_len);
+                         messages, messages_len, present, present_len);
 }
 
 CLOCKIVY_INLINE uint64_t clockivy_party_answer(const clockivy_party *party,

@@ -1,10 +1,12 @@
 /*
  * A whole auction of five parties in one process: four bids, eight listed
  * prices. One bid is split entry by entry. A line drops while a bid is sent, and
- * the bid is sent again when the others are in. Demand equals supply at four
- * neighbouring prices, and the middle one is taken, rounded down. Prints the bid
- * sent again, each probe and the price, and checks all of it against the tables,
- * which only a program that plays every role can add up.
+ * the bid is sent again when the others are in. A party drops off in the middle
+ * of a probe; the others go on, and it hears what it has missed when it comes
+ * back. Demand equals supply at four neighbouring prices, and the middle one is
+ * taken, rounded down. Prints the bid sent again, each probe, the party that
+ * comes back and the price, and checks all of it against the tables, which only a
+ * program that plays every role can add up.
  *
  *   cc -O2 -I../../include auction.c -L../../target/staticlib -lexchange -o auction
  *
@@ -38,6 +40,12 @@ enum { BY_ENTRIES = 2 };
 /* The bid whose line drops, and the parties that it has reached by then. */
 enum { DROPPED = 1, REACHED = 2 };
 
+/*
+ * The party that drops off, from 0, and for which rounds, counted from 0 over all
+ * probes: from the middle of the first probe into the second.
+ */
+enum { AWAY = 3, FROM = 20, UNTIL = 45 };
+
 /* What a desk keeps until every party has its bid. */
 struct desk {
     uint64_t bidder;
@@ -52,6 +60,14 @@ struct seat {
 };
 
 static struct seat seats[N];
+
+/* A round, as it is kept for a party that comes back. */
+struct heard {
+    uint64_t messages[N];
+    uint8_t present[N];
+};
+
+static struct heard missed[UNTIL - FROM];
 
 /* Stops at a reply other than 0. */
 static void done(uint64_t reply, const char *call)
@@ -205,19 +221,62 @@ static void deal(size_t probe)
                            CLOCKIVY_SHEET_LEN), "deal");
 }
 
-/* Each party says its message, and each hears all of them. */
-static void exchange_round(void)
+/* A party says its message of the round. */
+static uint64_t say(size_t i)
 {
-    const size_t sheets_len = SHEETS * CLOCKIVY_SHEET_LEN;
-    uint64_t messages[N];
+    uint64_t message;
+
+    done(clockivy_party_say(&seats[i].party, seats[i].totals, TABLE,
+                            seats[i].sheets, SHEETS * CLOCKIVY_SHEET_LEN, &message), "say");
+    return message;
+}
+
+/* A party hears a round. */
+static void hear(size_t i, const struct heard *round)
+{
+    done(clockivy_party_hear(&seats[i].party, seats[i].totals, TABLE,
+                             seats[i].sheets, SHEETS * CLOCKIVY_SHEET_LEN,
+                             round->messages, N, round->present, N), "hear");
+}
+
+/*
+ * The party that comes back hears every round that it has missed, in order, with
+ * the messages and the marks with which the others have heard it. Then it stands
+ * where they do, and may be marked again.
+ */
+static void come_back(void)
+{
     size_t i;
 
+    for (i = 0; i < UNTIL - FROM; i++)
+        hear(AWAY, &missed[i]);
+    check(seats[AWAY].party.probes == seats[0].party.probes
+          && seats[AWAY].party.round == seats[0].party.round,
+          "a party has not come back to where the others are");
+    printf("party %d back: %d rounds heard late\n", AWAY + 1, UNTIL - FROM);
+}
+
+/*
+ * Each party that is there says its message, and each hears those of all who are.
+ * While one is away, the round is kept for it.
+ */
+static void exchange_round(size_t number)
+{
+    const int without = number >= FROM && number < UNTIL;
+    struct heard round;
+    size_t i;
+
+    if (number == UNTIL)
+        come_back();
+    for (i = 0; i < N; i++) {
+        round.present[i] = without && i == AWAY ? 0 : 1;
+        round.messages[i] = round.present[i] ? say(i) : 0;
+    }
     for (i = 0; i < N; i++)
-        done(clockivy_party_say(&seats[i].party, seats[i].totals, TABLE,
-                                seats[i].sheets, sheets_len, &messages[i]), "say");
-    for (i = 0; i < N; i++)
-        done(clockivy_party_hear(&seats[i].party, seats[i].totals, TABLE,
-                                 seats[i].sheets, sheets_len, messages, N), "hear");
+        if (round.present[i])
+            hear(i, &round);
+    if (without)
+        missed[number - FROM] = round;
 }
 
 /* The sum of all bids at a place of their tables. */
@@ -278,6 +337,7 @@ int main(void)
     uint64_t index = 0;
     uint64_t probes = 0;
     struct desk desks[BIDS];
+    size_t rounds = 0;
     size_t i;
 
     check(clockivy_sheet_count(K) == SHEETS, "the sheets are too few");
@@ -305,7 +365,7 @@ int main(void)
         int opened;
 
         for (i = 0; i < CLOCKIVY_ROUNDS; i++)
-            exchange_round();
+            exchange_round(rounds++);
         opened = verdict(search, probed, party);
         printf("probe %d index %d verdict %d\n", (int)party->probes, (int)probed, opened);
         check(opened == compared(search, probed), "the verdict is wrong");

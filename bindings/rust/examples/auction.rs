@@ -1,14 +1,18 @@
 //! A whole auction of five parties in one process: four bids, eight listed
 //! prices. One bid is split entry by entry. A line drops while a bid is sent, and
-//! the bid is sent again when the others are in. Demand equals supply at four
-//! neighbouring prices, and the middle one is taken, rounded down. Prints the bid
-//! sent again, each probe and the price, and checks all of it against the tables,
-//! which only a program that plays every role can add up.
+//! the bid is sent again when the others are in. A party drops off in the middle
+//! of a probe; the others go on, and it hears what it has missed when it comes
+//! back. Demand equals supply at four neighbouring prices, and the middle one is
+//! taken, rounded down. Prints the bid sent again, each probe, the party that
+//! comes back and the price, and checks all of it against the tables, which only a
+//! program that plays every role can add up.
 //!
 //! The coins here come from a small generator with a fixed seed. A real bidder
 //! or dealer draws them from the operating system.
 
 mod coins;
+
+use std::ops::Range;
 
 use clockivy::{
     coins_len, deal, deal_bytes_len, deal_words_len, sheets_len, split, table_len, Collecting,
@@ -34,6 +38,10 @@ const BY_ENTRIES: usize = 2;
 /// The bid whose line drops, and the parties that it has reached by then.
 const DROPPED: usize = 1;
 const REACHED: usize = 2;
+/// The party that drops off, from 0, and for which rounds, counted from 0 over all
+/// probes: from the middle of the first probe into the second.
+const AWAY: usize = 3;
+const WITHOUT: Range<u64> = 20..45;
 
 fn main() -> Result<(), Refusal> {
     let mut coins = Coins::new();
@@ -75,10 +83,12 @@ fn main() -> Result<(), Refusal> {
         .map(|((session, totals), sheets)| session.speak(totals, sheets))
         .collect();
 
+    let mut rounds = 0..;
+    let mut missed = Vec::new();
     while !parties[0].is_over() {
         let (search, index) = (parties[0].record().search, parties[0].index());
-        for _ in 1..=ROUNDS {
-            round(&mut parties)?;
+        for number in rounds.by_ref().take(ROUNDS as usize) {
+            exchange(&mut parties, number, &mut missed)?;
         }
         let after = parties[0].record();
         let verdict = verdict(search, index, after);
@@ -182,15 +192,49 @@ fn preprocess(coins: &mut Coins) -> Result<Vec<Vec<u64>>, Refusal> {
     Ok(sheets)
 }
 
-/// Each party says its message, and each hears all of them.
-fn round(parties: &mut [Speaking]) -> Result<(), Refusal> {
-    let messages = parties
-        .iter()
-        .map(Speaking::say)
-        .collect::<Result<Vec<_>, _>>()?;
-    for party in parties {
-        party.hear(&messages)?;
+/// A round, as it is kept for a party that comes back.
+struct Round {
+    messages: [u64; N as usize],
+    present: [u8; N as usize],
+}
+
+/// Each party that is there says its message, and each hears those of all who are.
+/// While one is away, the round is kept for it.
+fn exchange(parties: &mut [Speaking], number: u64, missed: &mut Vec<Round>) -> Result<(), Refusal> {
+    if number == WITHOUT.end {
+        come_back(parties, missed)?;
     }
+    let mut round = Round {
+        messages: [0; N as usize],
+        present: [1; N as usize],
+    };
+    if WITHOUT.contains(&number) {
+        round.present[AWAY] = 0;
+    }
+    let is_there = |place: &usize| round.present[*place] == 1;
+    for place in (0..parties.len()).filter(is_there) {
+        round.messages[place] = parties[place].say()?;
+    }
+    for place in (0..parties.len()).filter(is_there) {
+        parties[place].hear(&round.messages, &round.present)?;
+    }
+    if WITHOUT.contains(&number) {
+        missed.push(round);
+    }
+    Ok(())
+}
+
+/// The party that comes back hears every round that it has missed, in order, with
+/// the messages and the marks with which the others have heard it. Then it stands
+/// where they do, and may be marked again.
+fn come_back(parties: &mut [Speaking], missed: &mut Vec<Round>) -> Result<(), Refusal> {
+    let (own, late) = (AWAY + 1, missed.len());
+    for Round { messages, present } in missed.drain(..) {
+        parties[AWAY].hear(&messages, &present)?;
+    }
+    let [back, there] = [AWAY, 0].map(|place| parties[place].record());
+    assert_eq!((back.probes, back.round), (there.probes, there.round));
+    println!("party {own} back: {late} rounds heard late");
     Ok(())
 }
 

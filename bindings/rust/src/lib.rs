@@ -17,11 +17,11 @@
 //!   first, and adds each bid's shares ([`Collecting::add`]), once for each
 //!   bidder: it keeps a roll of who is in. Then it is [`Speaking`]
 //!   ([`Collecting::speak`]): it says a message ([`Speaking::say`]) and hears
-//!   all n of them ([`Speaking::hear`]), 33 rounds for each probe of two binary
-//!   searches, until [`Speaking::answer`] gives the index of the price: the
-//!   middle, rounded down, of those at which total demand equals total supply;
-//!   where there are none, the highest at which demand is above supply, or 0 for
-//!   no price.
+//!   those of all who are present, t + 1 or more of the n ([`Speaking::hear`]),
+//!   33 rounds for each probe of two binary searches, until [`Speaking::answer`]
+//!   gives the index of the price: the middle, rounded down, of those at which
+//!   total demand equals total supply; where there are none, the highest at which
+//!   demand is above supply, or 0 for no price.
 //!
 //! A call judges all that it is lent, and where something is wrong it answers a
 //! [`Refusal`] and changes nothing. Drawing coins, networks and signatures are
@@ -77,9 +77,10 @@
 //!   [given away](crate#three-uses-that-give-bids-away).
 //! * The shares of an entry are made from the same t coins for all n parties.
 //!   Shares from other coins do not fit: where that entry is probed, hearing
-//!   round 1 is all but surely [`Inconsistent`](Refusal::Inconsistent). An entry
-//!   that is written anew with other coins is written anew for every party,
-//!   before any shares are handed out.
+//!   round 1 is all but surely [`Inconsistent`](Refusal::Inconsistent) if more
+//!   than t + 1 parties are present, and with t + 1 it may pass. An entry that is
+//!   written anew with other coins is written anew for every party, before any
+//!   shares are handed out.
 //! * The same table is lent to all 2kn calls. Each judges the table that it is
 //!   lent and takes one amount of it: amounts of several tables make a bid that
 //!   nothing has judged.
@@ -106,9 +107,11 @@
 //!   splitting: shares of a table split anew do not fit those that other parties
 //!   have added. Compare the rolls ([`Record::roll`]) before the first message
 //!   is said; who is in is no secret among the parties. Where a bid is missing
-//!   at some of them, or split anew for some, hearing round 1 is all but surely
-//!   [`Inconsistent`](Refusal::Inconsistent), and by then no bid may be added:
-//!   start anew, with new sheets.
+//!   at some of those present, or split anew for some, hearing round 1 is all but
+//!   surely [`Inconsistent`](Refusal::Inconsistent) if they are more than t + 1,
+//!   and by then no bid may be added: start anew, with new sheets. If they are
+//!   t + 1 it is [`SumOutOfRange`](Refusal::SumOutOfRange) seven times in eight;
+//!   else the price may be wrong and nothing tells.
 //! * A bid that is in is not replaced: another bid of its bidder is
 //!   `AlreadyEntered` too, whoever sends it. A call does not know its sender, so
 //!   see that a bid comes from the bidder whose number it has, before it is
@@ -117,17 +120,65 @@
 //!   one. Where totals hold a bid that the roll does not mark, the bid sent
 //!   again counts double; where the roll marks a bid that the totals do not
 //!   hold, it is missing there, and is `AlreadyEntered` when sent again. Adding
-//!   cannot tell. Round 1 does, by `Inconsistent` as above, unless all parties
-//!   make the same slip: then the price is wrong and nothing tells.
+//!   cannot tell. Round 1 does, as above, unless all parties make the same slip:
+//!   then the price is wrong and nothing tells.
+//!
+//! # A party that drops off
+//!
+//! Any t + 1 of the n messages open a round, t being [`threshold`]`(n)`, so that
+//! the parties which are there go on without the others. [`Speaking::hear`] takes
+//! n messages and n marks of who was present, and goes by the marked messages
+//! alone: what stands in another place may be anything, and differ from party to
+//! party.
+//!
+//! * A party may be marked in a round once it has heard every round before. It
+//!   may hear the round itself later than the others do.
+//! * A party that is not marked may say its message or not; it is not used. It
+//!   may hear the round with the others, late, or never. Its own place is not
+//!   compared, and its totals are not used and so not judged.
+//! * A party that comes back hears every round that it has missed, in order, each
+//!   with the messages and the marks with which the others heard it. Then it
+//!   stands where they stand, and may be marked again. So somebody keeps the
+//!   messages and the marks of each round until all who may come back have heard
+//!   it; the dealer must not see them.
+//! * Every party opens, adds every bid and is dealt its sheets, whether it then
+//!   hears a round or not. The parties that have heard every round give the
+//!   answer, all the same one; t + 1 of them are enough to come to it.
+//!
+//! What the parties have to see to:
+//!
+//! * They agree on the marks of a round, and on the marked messages, before any
+//!   of them hears it. A call does not know what others hear. With t + 1 marked
+//!   any messages that are in range open, to one thing or another. So a party
+//!   that hears a round with other marks than the rest, a late one say, or with
+//!   another message in a marked place, may step to another sum, carry or verdict
+//!   without a refusal, and from there on what it says and answers is wrong. Only
+//!   where every message is right do any marks open to the same.
+//! * With t + 1 marked only the range of what the others said is checked
+//!   ([`Inconsistent`](Refusal::Inconsistent)). A wrong message that is in range,
+//!   one of a party which has not heard every round before say, opens to something
+//!   else, and is refused only if that is no sum
+//!   ([`SumOutOfRange`](Refusal::SumOutOfRange)) or no verdict
+//!   ([`VerdictNotBit`](Refusal::VerdictNotBit)). With more than t + 1 marked, one
+//!   wrong message of another party is always `Inconsistent`. So mark everybody
+//!   who is there.
+//! * A party hears a round once; a refused hearing is none. Heard anew by a
+//!   session that is resumed a second time, with other messages or marks, it
+//!   makes the party say other messages from the same sheet, and that
+//!   [gives bids away](crate#three-uses-that-give-bids-away).
+//! * A party that is away keeps its totals, sheets and session to itself, like
+//!   any other. With all that it was sent, it is one of the t parties that may
+//!   pool what they have.
 //!
 //! # What is secret
 //!
 //! With t being (n - 1) / 2 rounded down: what any t parties together receive
 //! fits any other bids of the same bidders, entered in the same order, that come
 //! to the same [i and the same j](crate#the-two-searches), or like them to none,
-//! for exactly one choice of the coins, but for masks that leave their range (at
-//! most 2^33 - 2 of 2^58 at each probe). Fewer than t parties see a part of that.
-//! It rests on this:
+//! for exactly one choice of the coins, with the same parties
+//! [present](crate#a-party-that-drops-off) in each round, but for masks that leave
+//! their range (at most 2^33 - 2 of 2^58 at each probe). Fewer than t parties see
+//! a part of that. It rests on this:
 //!
 //! * Coins are drawn uniformly, independently and used once.
 //! * The parties follow the protocol.
@@ -143,11 +194,11 @@
 //!   or time it closely, may learn of them: make these calls where nobody else's
 //!   code runs.
 //!
-//! Who bids, and in which order, is not hidden. Nor is what the parties open:
-//! every verdict of both searches, and with them i, j and the answer. That is
-//! more than the price alone: total demand is below total supply at every index
-//! above i, equals it from j to i, and is above it at every lower one; where
-//! there is no j, it is above it at every index up to i.
+//! Who bids, in which order, and who was present is not hidden. Nor is what the
+//! parties open: every verdict of both searches, and with them i, j and the
+//! answer. That is more than the price alone: total demand is below total supply
+//! at every index above i, equals it from j to i, and is above it at every lower
+//! one; where there is no j, it is above it at every index up to i.
 //!
 //! # Three uses that give bids away
 //!
@@ -163,8 +214,8 @@
 //!   it out: [`Collecting::speak`] takes the session that adds.
 //! * **Sheets used again**: by an older session, by one session resumed twice,
 //!   or by a session opened anew. Each passes every judgement and uses masks and
-//!   triples again. Where it then meets other totals, or hears other messages
-//!   than before, it says other messages. No type rules this out. Store a
+//!   triples again. Where it then meets other totals, or hears other messages or
+//!   marks than before, it says other messages. No type rules this out. Store a
 //!   session before its message leaves ([`Speaking::store`]), and resume only
 //!   the newest one, with the totals and the sheets that belong to it
 //!   ([`Speaking::resume`]). A session that starts anew gets new sheets from the
@@ -212,7 +263,8 @@
 //! while !parties[0].is_over() {
 //!     let messages = parties.iter().map(Speaking::say).collect::<Result<Vec<_>, _>>()?;
 //!     for party in &mut parties {
-//!         party.hear(&messages)?;
+//!         // All three are present.
+//!         party.hear(&messages, &[1; 3])?;
 //!     }
 //! }
 //! for party in &parties {

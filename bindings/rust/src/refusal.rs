@@ -9,9 +9,10 @@ use std::fmt;
 pub enum Refusal {
     /// 1: `n`, `own`, `k`, the entry's or the bidder's number is outside its
     /// range, or a field of the record is, or the first word of a stored
-    /// session; `bids` is not the number of marks on the roll, or the roll marks
-    /// a number outside 1 to 1,000; the numbers of the two searches do not fit,
-    /// as where the first has ended and the second has not begun.
+    /// session, or a mark of who was present is above 1; `bids` is not the number
+    /// of marks on the roll, or the roll marks a number outside 1 to 1,000; the
+    /// numbers of the two searches do not fit, as where the first has ended and
+    /// the second has not begun.
     OutOfRange = 1,
     /// 2: a slice has not the length that the call states.
     WrongLength = 2,
@@ -28,10 +29,11 @@ pub enum Refusal {
     /// 8: a share of an amount is not below the prime, or one of a bit is
     /// above 255.
     ShareOutOfRange = 8,
-    /// 9: the message in the party's own place is not what the party says.
+    /// 9: the message in the party's own place is not what the party says, and
+    /// the party is marked as present.
     OwnMessageDiffers = 9,
-    /// 10: a message is out of range, or no polynomial of degree at most t
-    /// passes through all of them.
+    /// 10: a message of those who were present is out of range, or no polynomial
+    /// of degree at most t passes through all of theirs.
     Inconsistent = 10,
     /// 11: the opened sum of round 1 is outside its range.
     SumOutOfRange = 11,
@@ -39,11 +41,13 @@ pub enum Refusal {
     VerdictNotBit = 12,
     /// 14: a bid of this bidder has been added already.
     AlreadyEntered = 14,
+    /// 15: fewer than t + 1 parties are marked as present.
+    TooFewPresent = 15,
 }
 
 impl Refusal {
     /// Every refusal, in the order of the numbers.
-    pub const ALL: [Refusal; 12] = [
+    pub const ALL: [Refusal; 13] = [
         Refusal::OutOfRange,
         Refusal::WrongLength,
         Refusal::OutOfTurn,
@@ -56,9 +60,10 @@ impl Refusal {
         Refusal::SumOutOfRange,
         Refusal::VerdictNotBit,
         Refusal::AlreadyEntered,
+        Refusal::TooFewPresent,
     ];
 
-    /// The refusal's number, 1 to 14. The calls give neither 4 nor 13.
+    /// The refusal's number, 1 to 15. The calls give neither 4 nor 13.
     pub fn number(self) -> u64 {
         self as u64
     }
@@ -74,7 +79,7 @@ impl Refusal {
 impl fmt::Display for Refusal {
     fn fmt(&self, f: &mut fmt::Formatter<'_>) -> fmt::Result {
         let text = match self {
-            Refusal::OutOfRange => "a number or a field of the record is out of range",
+            Refusal::OutOfRange => "a number, a mark or a field of the record is out of range",
             Refusal::WrongLength => "a slice has the wrong length",
             Refusal::OutOfTurn => "the call is out of turn",
             Refusal::CoinOutOfRange => "a coin is out of range",
@@ -86,6 +91,7 @@ impl fmt::Display for Refusal {
             Refusal::SumOutOfRange => "the opened sum is out of range",
             Refusal::VerdictNotBit => "the opened verdict is not a bit",
             Refusal::AlreadyEntered => "a bid of this bidder has been added already",
+            Refusal::TooFewPresent => "too few parties were present",
         };
         write!(f, "refusal {}: {text}", self.number())
     }

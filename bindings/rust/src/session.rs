@@ -161,7 +161,8 @@ impl Collecting {
 /// # Ok::<(), clockivy::Refusal>(())
 /// ```
 ///
-/// Nor does a copy of the session, which could hear other messages:
+/// Nor does a copy of the session, which could hear other messages, or the same
+/// with other marks:
 ///
 /// ```compile_fail,E0599
 /// # use clockivy::Collecting;
@@ -205,22 +206,65 @@ impl<'a> Speaking<'a> {
         Ok(message)
     }
 
-    /// Takes all parties' messages of the current round, party 1's first, and
+    /// Takes the messages of the current round, of those who were present, and
     /// goes on to the next round. Round 33 opens the verdict, moves `lo` or
     /// `hi` and ends the probe; where that ends the first search, the second
     /// [begins](crate#the-two-searches).
     ///
-    /// Refused: [`OutOfRange`](Refusal::OutOfRange),
+    /// Both slices have a place for each of the n parties, party 1's first. In
+    /// `present` it is 1 for a party that was present, else 0; what stands in
+    /// `messages` for one that was not may be anything. Any t + 1 messages open the
+    /// round. All parties hear it with the same marks, and a marked party has
+    /// heard every round before: see [a party that drops
+    /// off](crate#a-party-that-drops-off).
+    ///
+    /// ```
+    /// # use clockivy::{deal, split, Collecting, Refusal, Speaking};
+    /// # fn main() -> Result<(), Refusal> {
+    /// # let mut kept = [([0; 2], [0; 2 * 127]); 3];
+    /// # let mut parties = Vec::new();
+    /// # for (own, (totals, sheets)) in (1..).zip(&mut kept) {
+    /// #     let mut session = Collecting::open(3, own, 1, totals)?;
+    /// #     let mut shares = [0; 2];
+    /// #     split(3, own, 1, &[5, 3], &[11, 12], &mut shares)?;
+    /// #     session.add(totals, 640, &shares)?;
+    /// #     deal(3, own, &[7, 13], &[14; 126 + 62], &mut sheets[..127])?;
+    /// #     parties.push(session.speak(totals, sheets));
+    /// # }
+    /// // Of three parties the second has dropped off.
+    /// let messages = [parties[0].say()?, 0, parties[2].say()?];
+    /// let present = [1, 0, 1];
+    /// parties[0].hear(&messages, &present)?;
+    /// parties[2].hear(&messages, &present)?;
+    ///
+    /// // One is too few.
+    /// let alone = [parties[0].say()?, 0, 0];
+    /// let refused = parties[0].hear(&alone, &[1, 0, 0]);
+    /// assert_eq!(refused, Err(Refusal::TooFewPresent));
+    ///
+    /// // It comes back and hears the round that it missed, with the same messages
+    /// // and the same marks. From the next round on it may be marked.
+    /// parties[1].hear(&messages, &present)?;
+    /// assert_eq!(parties[1].record().sum, parties[0].record().sum);
+    /// let messages = parties.iter().map(Speaking::say).collect::<Result<Vec<_>, _>>()?;
+    /// parties[1].hear(&messages, &[1, 1, 1])?;
+    /// # Ok(())
+    /// # }
+    /// ```
+    ///
+    /// Refused: [`OutOfRange`](Refusal::OutOfRange), where a mark is above 1 too,
     /// [`WrongLength`](Refusal::WrongLength),
     /// [`OutOfTurn`](Refusal::OutOfTurn),
-    /// [`ShareOutOfRange`](Refusal::ShareOutOfRange),
-    /// [`OwnMessageDiffers`](Refusal::OwnMessageDiffers),
+    /// [`TooFewPresent`](Refusal::TooFewPresent),
+    /// [`ShareOutOfRange`](Refusal::ShareOutOfRange), for the totals only where
+    /// this party is marked,
+    /// [`OwnMessageDiffers`](Refusal::OwnMessageDiffers) where it is,
     /// [`Inconsistent`](Refusal::Inconsistent),
     /// [`SumOutOfRange`](Refusal::SumOutOfRange),
     /// [`VerdictNotBit`](Refusal::VerdictNotBit).
-    pub fn hear(&mut self, messages: &[u64]) -> Result<(), Refusal> {
+    pub fn hear(&mut self, messages: &[u64], present: &[u8]) -> Result<(), Refusal> {
         self.record
-            .step(|record| words::hear(record, self.totals, self.sheets, messages))
+            .step(|record| words::hear(record, self.totals, self.sheets, messages, present))
     }
 
     /// The index of the price, once the auction is over.
@@ -264,7 +308,7 @@ impl<'a> Speaking<'a> {
     ///
     /// Resume only the newest session stored, and let only one go on from it.
     /// An older one, or a second one, is not refused, but uses masks and triples
-    /// again. With other totals or messages than before that
+    /// again. With other totals, messages or marks than before that
     /// [gives bids away](crate#three-uses-that-give-bids-away).
     ///
     /// Refused: [`WrongLength`](Refusal::WrongLength),

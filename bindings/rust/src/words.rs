@@ -9,8 +9,9 @@
 //! it. This module serves those who keep records as words, and tests. Nothing
 //! here guards against the
 //! [three uses that give bids away](crate#three-uses-that-give-bids-away), or
-//! sees that a bid's entries [fit](crate#a-bid-entry-by-entry), or that a record
-//! and its totals [belong together](crate#a-bid-sent-again).
+//! sees that a bid's entries [fit](crate#a-bid-entry-by-entry), that a record and
+//! its totals [belong together](crate#a-bid-sent-again), or that all parties hear
+//! a round [with the same marks](crate#a-party-that-drops-off).
 //!
 //! It is the only module with `unsafe` in it. Each function passes every slice
 //! as its pointer and its length. The library asks nothing else of its caller:
@@ -90,6 +91,8 @@ extern "C" {
         sheets_len: usize,
         messages: *const u64,
         messages_len: usize,
+        present: *const u8,
+        present_len: usize,
     ) -> u64;
     fn clockivy_answer(
         record: *const u64,
@@ -206,8 +209,15 @@ pub fn say(record: &[u64], totals: &[u64], sheets: &[u64], message: &mut u64) ->
     }
 }
 
-/// Steps the record by all parties' messages. Refusals 1, 2, 3, 8 to 12.
-pub fn hear(record: &mut [u64], totals: &[u64], sheets: &[u64], messages: &[u64]) -> u64 {
+/// Steps the record by the messages of those whose mark in `present` is 1; the
+/// others may be anything. Refusals 1, 2, 3, 15, 8 to 12.
+pub fn hear(
+    record: &mut [u64],
+    totals: &[u64],
+    sheets: &[u64],
+    messages: &[u64],
+    present: &[u8],
+) -> u64 {
     unsafe {
         clockivy_hear(
             record.as_mut_ptr(),
@@ -218,6 +228,8 @@ pub fn hear(record: &mut [u64], totals: &[u64], sheets: &[u64], messages: &[u64]
             sheets.len(),
             messages.as_ptr(),
             messages.len(),
+            present.as_ptr(),
+            present.len(),
         )
     }
 }

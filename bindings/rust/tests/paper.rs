@@ -80,10 +80,16 @@ fn a_round_that_lies_on_no_polynomial() {
     let mut party = session.speak(&totals, &sheets);
     assert_eq!(party.say(), Ok(12));
     let before = party.store();
-    let mut hear = |last| party.hear(&[12, 21, 34, 51, last]);
-    assert_eq!(hear(73), Err(Refusal::Inconsistent));
+    let mut hear = |last, present: [u8; 5]| party.hear(&[12, 21, 34, 51, last], &present);
+    assert_eq!(hear(73, [1; 5]), Err(Refusal::Inconsistent));
     // These open to 7, which is consistent but no sum.
-    assert_eq!(hear(72), Err(Refusal::SumOutOfRange));
+    assert_eq!(hear(72, [1; 5]), Err(Refusal::SumOutOfRange));
+    // So they do without the last, whatever stands there, and by any three.
+    for last in [72, 73, u64::MAX] {
+        for present in [[1, 1, 1, 1, 0], [1, 0, 1, 1, 0], [0, 1, 1, 1, 0]] {
+            assert_eq!(hear(last, present), Err(Refusal::SumOutOfRange));
+        }
+    }
     assert_eq!((party.store(), party.say()), (before, Ok(12)));
 }
 
@@ -118,7 +124,7 @@ fn probe(search: u64, demand: u64, supply: u64, mask: u64) -> (u64, bool) {
     for round in 1..=ROUNDS {
         let messages: Vec<u64> = parties.iter().map(|party| party.say().unwrap()).collect();
         for party in &mut parties {
-            party.hear(&messages).unwrap();
+            party.hear(&messages, &[1; 3]).unwrap();
             if round == 1 {
                 sum = party.record().sum;
             }
@@ -298,7 +304,7 @@ fn answers_wait_for_the_end() {
 
 #[test]
 fn refusals_by_number() {
-    let numbers = [1, 2, 3, 5, 6, 7, 8, 9, 10, 11, 12, 14];
+    let numbers = [1, 2, 3, 5, 6, 7, 8, 9, 10, 11, 12, 14, 15];
     assert_eq!(Refusal::ALL.map(Refusal::number), numbers);
     for (number, refusal) in numbers.into_iter().zip(Refusal::ALL) {
         assert_eq!(Refusal::from_number(number), Some(refusal));
@@ -306,7 +312,7 @@ fn refusals_by_number() {
             .to_string()
             .starts_with(&format!("refusal {number}: ")));
     }
-    for number in [0, 4, 13, 15, u64::MAX] {
+    for number in [0, 4, 13, 16, u64::MAX] {
         assert_eq!(Refusal::from_number(number), None);
     }
 }

@@ -56,7 +56,7 @@ fn parties<T>(k: u64, bids: &[Vec<u64>], then: impl FnOnce(&mut [Speaking]) -> T
 fn round(parties: &mut [Speaking]) {
     let messages: Vec<u64> = parties.iter().map(|party| party.say().unwrap()).collect();
     for party in parties {
-        party.hear(&messages).unwrap();
+        party.hear(&messages, &[1; 3]).unwrap();
     }
 }
 
@@ -108,7 +108,7 @@ fn price(k: u64, bids: &[Vec<u64>]) -> (u64, u64) {
         for party in parties.iter_mut() {
             assert_eq!((party.answer(), party.record().first), (Ok(answer), first));
             assert_eq!(party.say(), Err(Refusal::OutOfTurn));
-            assert_eq!(party.hear(&[0; 3]), Err(Refusal::OutOfTurn));
+            assert_eq!(party.hear(&[0; 3], &[1; 3]), Err(Refusal::OutOfTurn));
         }
         (answer.index, first)
     })
@@ -189,7 +189,7 @@ fn sheets_are_lent_for_both_searches() {
             let (session, kept) = collected(1, k, &[], other);
             let mut party = session.speak(&kept.totals, &kept.sheets);
             assert_eq!(party.say(), Err(Refusal::WrongLength));
-            assert_eq!(party.hear(&[0; 3]), Err(Refusal::WrongLength));
+            assert_eq!(party.hear(&[0; 3], &[1; 3]), Err(Refusal::WrongLength));
         }
         let (session, kept) = collected(1, k, &[], length);
         assert!(session.speak(&kept.totals, &kept.sheets).say().is_ok());
@@ -264,7 +264,7 @@ fn replies(record: [u64; RECORD_LEN]) -> [Option<Refusal>; 4] {
     let mut party = Speaking::resume(&stored(1), &totals, &sheets).unwrap();
     let (said, asked) = (party.say().err(), party.answer().err());
     // A word that the party does not say, so that a hearing is refused too.
-    let heard = party.hear(&[u64::MAX; 3]).err();
+    let heard = party.hear(&[u64::MAX; 3], &[1; 3]).err();
     assert_eq!(party.store(), stored(1));
     [added, said, heard, asked]
 }

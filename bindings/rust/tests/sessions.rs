@@ -144,7 +144,7 @@ fn a_refused_call_leaves_the_session() {
         (&[own, own, PRIME], Refusal::Inconsistent),
         (&[own, own, own + 1], Refusal::Inconsistent),
     ] {
-        assert_eq!(party.hear(messages), Err(refusal));
+        assert_eq!(party.hear(messages, &[1; 3]), Err(refusal));
         assert_eq!((party.store(), party.say()), (before, Ok(own)));
     }
 }
@@ -163,7 +163,7 @@ fn a_session_resumed_after_every_call_comes_to_its_answer() {
     while !parties[0].is_over() {
         let messages = messages(&parties);
         for (party, Kept { totals, sheets }) in parties.iter_mut().zip(&kept) {
-            party.hear(&messages).unwrap();
+            party.hear(&messages, &[1; 3]).unwrap();
             let resumed = Speaking::resume(&party.store(), totals, sheets).unwrap();
             assert_eq!(resumed, *party);
             *party = resumed;
@@ -280,7 +280,7 @@ fn assert_unsound(record: [u64; RECORD_LEN]) {
     let (totals, sheets) = ([0; 4], vec![0; sheets_len(K)]);
     let mut party = Speaking::resume(&stored(1, record), &totals, &sheets).unwrap();
     assert_eq!(party.say().map(|_| ()), out_of_range);
-    assert_eq!(party.hear(&[0; 3]), out_of_range);
+    assert_eq!(party.hear(&[0; 3], &[1; 3]), out_of_range);
     assert_eq!(party.answer().map(|_| ()), out_of_range);
     assert_eq!(party.store(), stored(1, record));
 }
@@ -386,7 +386,7 @@ fn heard_with(second: impl Fn(u64) -> Option<[u64; 4]>) -> Vec<Result<(), Refusa
     let messages = messages(&parties);
     parties
         .iter_mut()
-        .map(|party| party.hear(&messages))
+        .map(|party| party.hear(&messages, &[1; 3]))
         .collect()
 }
 
@@ -484,7 +484,7 @@ fn a_resumed_record_is_judged_by_the_next_call() {
     let mut party = Speaking::resume(&stored(1, none), &[], &[]).unwrap();
     assert_eq!((party.is_over(), party.index()), (false, u64::MAX));
     assert_eq!(party.say(), Err(Refusal::OutOfRange));
-    assert_eq!(party.hear(&[0; 3]), Err(Refusal::OutOfRange));
+    assert_eq!(party.hear(&[0; 3], &[1; 3]), Err(Refusal::OutOfRange));
     assert_eq!(party.answer(), Err(Refusal::OutOfRange));
 }
 

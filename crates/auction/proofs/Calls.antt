@@ -1,5 +1,5 @@
 -- Lists of calls: what is read off a list made of parts, and off one call of each party. Assumes nothing.
-use mathlib.Core.Path.{_≡_, refl, ap, ap₂, _∙_}
+use mathlib.Core.Path.{_≡_, refl, sym, ap, ap₂, _∙_}
 use mathlib.Core.Bool.{Bool, true, false, cond, _&&_}
 use mathlib.Core.List.{List, [], _∷_, _++_, map, flatten, map-map}
 use mathlib.Core.Option.{Option, none, some}
@@ -16,7 +16,7 @@ use Rattle.comparison.specs.Probe.{Each}
 use Rattle.auction.specs.Auction.{Auction}
 use Rattle.auction.specs.Desk.{Way, whole, by-entries}
 use Rattle.auction.specs.Call.{Call, split-call, split-entry-call, accepted, whose, of-party, given}
-use Rattle.auction.specs.Canonical.{zeros, entry-calls, bundle-calls}
+use Rattle.auction.specs.Canonical.{zeros, entry-calls, bundle-calls, where-so}
 use Rattle.auction.specs.Run.{select, own}
 use Rattle.auction.specs.Received.{collect}
 use Rattle.auction.specs.Demands.{all-accepted}
@@ -45,6 +45,10 @@ module _ (test : Call → Bool) where
 pub own-append : (j : ℕ) (l m : List Call) → own j (l ++ m) ≡ own j l ++ own j m
 own-append j l m = select-append (λ c. accepted c && of-party j (whose c)) l m
 
+-- one more, as a reader takes it
+abbrev pub with-read : {B : Type 0} → Option B → List B → List B
+with-read o ys = elim o [ none ↦ ys | some y ↦ y ∷ ys ]
+
 module _ {A B : Type 0} (f : A → Option B) where
   pub collect-append : (l m : List A) → collect f (l ++ m) ≡ collect f l ++ collect f m
   unfolding collect
@@ -61,9 +65,9 @@ module _ {A B : Type 0} (f : A → Option B) where
   unfolding collect
   collect-none x l e = rw (e, collect)
 
-  pub collect-some : (x : A) (l : List A) (y : B) → f x ≡ some y → collect f (x ∷ l) ≡ y ∷ collect f l
-  unfolding collect
-  collect-some x l y e = rw (e, collect)
+-- what is read off party j's own calls, of a list made of two parts
+pub read-append : {B : Type 0} (f : Call → Option B) (j : ℕ) (l m : List Call) → collect f (own j (l ++ m)) ≡ collect f (own j l) ++ collect f (own j m)
+read-append f j l m = ap (collect f) (own-append j l m) ∙ collect-append f (own j l) (own j m)
 
 pub all-accepted-append : (l m : List Call) → all-accepted l ≡ true → all-accepted m ≡ true → all-accepted (l ++ m) ≡ true
 unfolding all-accepted
@@ -125,34 +129,72 @@ module _ (j : ℕ) where
   pub own-left : (i : ℕ) (c : Call) (l : List Call) → (i ≡ j → ⊥) → Own i c → own j (c ∷ l) ≡ own j l
   own-left i c l d h = select-left (λ c. accepted c && of-party j (whose c)) c l (ap₂ _&&_ (h .accepted) (h .whose j ∙ ne-eqb i j d))
 
-  module _ (f : ℕ → Call) where
-    own-later : (a m : ℕ) → j < a → ((i : ℕ) → a ≤ i → i < a + m → Own i (f i)) → own j (map f (from a m)) ≡ []
-    unfolding from select
-    own-later a zero l h = refl
-    own-later a (suc m) l h =
-        own-left a (f a) (map f (from (suc a) m)) (λ e. omega arith) (h a (omega arith) (omega arith))
-        ∙ own-later (suc a) m (omega arith) (λ i l k. h i (omega arith) (omega arith))
+-- ---- one call of each party who makes it
 
-    own-from : (a m : ℕ) → a ≤ j → j < a + m → ((i : ℕ) → a ≤ i → i < a + m → Own i (f i)) → own j (map f (from a m)) ≡ given (f j) ∷ []
-    unfolding from
-    own-from a zero l k h = absurd (omega arith)
-    own-from a (suc m) l k h =
-        elim (decLt a j) [
-          | yes lt ↦
-              own-left a (f a) (map f (from (suc a) m)) (λ e. omega arith) (h a (omega arith) (omega arith))
-              ∙ own-from (suc a) m (omega arith) (omega arith) (λ i l k. h i (omega arith) (omega arith))
-          | no ge ↦ here (omega arith)
-        ]
-      where
-        here : a ≡ j → own j (f a ∷ map f (from (suc a) m)) ≡ given (f j) ∷ []
-        here e =
-            ap (λ (i : ℕ). own j (f i ∷ map f (from (suc a) m))) e
-            ∙ own-taken (f j) (map f (from (suc a) m)) (h j l k)
-            ∙ ap (λ (z : List Call). given (f j) ∷ z) (own-later (suc a) m (omega arith) (λ i l k. h i (omega arith) (omega arith)))
+-- one for each, as a list of one for each
+pub flatten-ones : {A B : Type 0} (f : A → B) (xs : List A) → flatten (map (λ x. f x ∷ []) xs) ≡ map f xs
+unfolding flatten
+flatten-ones f [] = refl
+flatten-ones {B} f (x ∷ xs) = ap (λ (ys : List B). f x ∷ ys) (flatten-ones f xs)
 
--- of one call of each party, party j's own is its call
+pub all-accepted-made : (made : ℕ → Bool) (f : ℕ → Call) (n : ℕ) → ((i : ℕ) → 1 ≤ i → i ≤ n → Own i (f i))
+    → all-accepted (flatten (map (λ i. where-so (made i) (f i)) (points n))) ≡ true
+unfolding all-accepted
+all-accepted-made made f n h = all-accepted-flatten (λ i. where-so (made i) (f i)) n (λ i l k. one (made i) (f i) (h i l k .accepted))
+  where
+    one : (b : Bool) (c : Call) → accepted c ≡ true → all-accepted (where-so b c) ≡ true
+    one true c e = rw e
+    one false c e = refl
+
+module _ (j : ℕ) (made : ℕ → Bool) (f : ℕ → Call) where
+  abbrev calls-from : ℕ → ℕ → List Call
+  calls-from a m = flatten (map (λ i. where-so (made i) (f i)) (from a m))
+
+  -- another party's call, made or not
+  passed-over : (i : ℕ) (b : Bool) (l : List Call) → (i ≡ j → ⊥) → Own i (f i) → own j (where-so b (f i) ++ l) ≡ own j l
+  passed-over i true l d h = own-left j i (f i) l d h
+  passed-over i false l d h = refl
+
+  made-later : (a m : ℕ) → j < a → ((i : ℕ) → a ≤ i → i < a + m → Own i (f i)) → own j (calls-from a m) ≡ []
+  unfolding from flatten select
+  made-later a zero l h = refl
+  made-later a (suc m) l h =
+      passed-over a (made a) (calls-from (suc a) m) (λ e. omega arith) (h a (omega arith) (omega arith))
+      ∙ made-later (suc a) m (omega arith) (λ i l k. h i (omega arith) (omega arith))
+
+  taken-here : (b : Bool) (l : List Call) → own j l ≡ [] → Own j (f j) → own j (where-so b (f j) ++ l) ≡ where-so b (given (f j))
+  taken-here true l e h = own-taken j (f j) l h ∙ ap (λ (z : List Call). given (f j) ∷ z) e
+  taken-here false l e h = e
+
+  made-from : (a m : ℕ) → a ≤ j → j < a + m → ((i : ℕ) → a ≤ i → i < a + m → Own i (f i)) → own j (calls-from a m) ≡ where-so (made j) (given (f j))
+  unfolding from flatten
+  made-from a zero l k h = absurd (omega arith)
+  made-from a (suc m) l k h =
+      elim (decLt a j) [
+        | yes lt ↦
+            passed-over a (made a) (calls-from (suc a) m) (λ e. omega arith) (h a (omega arith) (omega arith))
+            ∙ made-from (suc a) m (omega arith) (omega arith) (λ i l k. h i (omega arith) (omega arith))
+        | no ge ↦ here (omega arith)
+      ]
+    where
+      here : a ≡ j → own j (where-so (made a) (f a) ++ calls-from (suc a) m) ≡ where-so (made j) (given (f j))
+      here e =
+          ap (λ (i : ℕ). own j (where-so (made i) (f i) ++ calls-from (suc a) m)) e
+          ∙ taken-here (made j) (calls-from (suc a) m) (made-later (suc a) m (omega arith) (λ i l k. h i (omega arith) (omega arith))) (h j l k)
+
+-- of one call of each party who makes it, party j's own is its call, if it makes it
+pub own-made : (j n : ℕ) (made : ℕ → Bool) (f : ℕ → Call) → 1 ≤ j → j ≤ n → ((i : ℕ) → 1 ≤ i → i ≤ n → Own i (f i))
+    → own j (flatten (map (λ i. where-so (made i) (f i)) (points n))) ≡ where-so (made j) (given (f j))
+own-made j n made f l k h = made-from j made f 1 n l (omega arith) (λ i l k. h i l (omega arith))
+
+-- and where all make it, its call
 pub own-points : (j n : ℕ) (f : ℕ → Call) → 1 ≤ j → j ≤ n → ((i : ℕ) → 1 ≤ i → i ≤ n → Own i (f i)) → own j (map f (points n)) ≡ given (f j) ∷ []
-own-points j n f l k h = own-from j f 1 n l (omega arith) (λ i l k. h i l (omega arith))
+own-points j n f l k h = ap (own j) (sym (flatten-ones f (points n))) ∙ own-made j n (λ i. true) f l k h
+
+pub collect-made : {B : Type 0} (f : Call → Option B) (made : Bool) (c : Call) → collect f (where-so made c) ≡ cond made (collect f (c ∷ [])) []
+unfolding collect
+collect-made f true c = refl
+collect-made f false c = refl
 
 -- ---- calls of no party
 

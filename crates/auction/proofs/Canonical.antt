@@ -1,57 +1,79 @@
 -- What is read off the canonical list of an auction, in closed form. Assumes nothing.
-use mathlib.Core.Path.{_≡_, refl, ap, _∙_}
-use mathlib.Core.Bool.{true}
-use mathlib.Core.List.{List, [], _∷_, _++_, map, append-nil}
+use mathlib.Core.Path.{_≡_, refl, sym, ap, subst, _∙_}
+use mathlib.Core.Bool.{true, cond}
+use mathlib.Core.List.{List, [], _∷_, _++_, map, append-nil, List·Memᴰ}
 use mathlib.Core.Option.{Option}
-use Prim.Native.Nat.{ℕ, _*_, _≤_}
-use lib.ListN.{length, replicate, length-map}
+use Prim.Native.Nat.{ℕ, _/_, _≤_, _<_, min}
+use lib.Dec.{leb}
+use lib.ListN.{length, take}
 use Rattle.ranges.specs.Sizes.{probe-rounds}
-use Rattle.auction.specs.Auction.{Auction, IsAuction}
+use Rattle.presence.specs.Presence.{is-present}
+use Rattle.auction.specs.Auction.{Auction, IsAuction, rounds}
 use Rattle.auction.specs.Coins.{Coins, InRange}
 use Rattle.auction.specs.Desk.{Desk, Complete}
+use Rattle.auction.specs.Attendance.{Marks, EnoughPresent, Attendance}
 use Rattle.auction.specs.Call.{Call}
 use Rattle.auction.specs.Canonical.{canonical}
 use Rattle.auction.specs.Run.{own}
-use Rattle.auction.specs.Received.{collect, bid-in, hearing-in, asking-in, received-bids, hearings, askings, messages, sheets, decisions, verdicts}
+use Rattle.auction.specs.Received.{collect, bid-in, Saying, saying-in, hearing-in, asking-in, received-bids, sayings, hearings, askings, messages, decisions}
 use Rattle.auction.specs.Demands.{all-accepted}
-use Rattle.auction.proofs.Closed.{bid-words, decision, all-spoken, record-at, sheets-at, probes}
-use Rattle.auction.proofs.Calls.{own-append, collect-append, all-accepted-append}
-use Rattle.auction.proofs.Setup.{setup-calls, canonical-setup, setup-accepted, setup-bids, setup-hearings, setup-askings}
-use Rattle.auction.proofs.Rounds.{end, round-calls, rounds-accepted, rounds-messages, rounds-sheets, rounds-decisions, rounds-bids, rounds-askings}
+use Rattle.comparison.specs.Probe.{Each}
+use Rattle.record.specs.declared.Party.{Party}
+use Rattle.auction.proofs.Closed.{bid-words, decision, all-spoken, Stage, record-at, probes}
+use Rattle.auction.proofs.Calls.{read-append, all-accepted-append}
+use Rattle.auction.proofs.Setup.{setup-calls, round-calls, canonical-setup, setup-accepted, setup-bids, setup-none}
+use Rattle.auction.proofs.Rounds.{end, present-of, Says, rounds-accepted, rounds-rolled, rounds-heard, rounds-messages, rounds-decisions, rounds-bids, rounds-askings, rounds-sayings, rounds-says}
 
-module _ (a : Auction) (c : Coins) (A : IsAuction a) (C : InRange a c) (desk : Desk) (D : Complete (a .k) desk) where
-  pub canonical-accepted : all-accepted (canonical a c desk) ≡ true
+module _ (a : Auction) (c : Coins) (A : IsAuction a) (C : InRange a c) (marks : Marks) (M : EnoughPresent a marks) (desk : Desk) (D : Complete (a .k) desk)
+    (att : Attendance) where
+  pub canonical-accepted : all-accepted (canonical a c marks desk att) ≡ true
   canonical-accepted =
-      ap all-accepted (canonical-setup A C desk D) ∙ all-accepted-append (setup-calls a c desk) (round-calls a c) (setup-accepted A C desk D) (rounds-accepted a c A C)
+      ap all-accepted (canonical-setup A C marks desk D att)
+      ∙ all-accepted-append (setup-calls a c desk) (round-calls a c marks att) (setup-accepted A C desk D) (rounds-accepted a c A C marks M att)
 
   module _ (j : ℕ) (j1 : 1 ≤ j) (jn : j ≤ a .n) where
     -- the setup, then the rounds
-    reads : {B : Type 0} (f : Call → Option B) (xs ys : List B) → collect f (own j (setup-calls a c desk)) ≡ xs
-        → collect f (own j (round-calls a c)) ≡ ys → collect f (own j (canonical a c desk)) ≡ xs ++ ys
-    reads f xs ys e g =
-        ap (λ (l : List Call). collect f (own j l)) (canonical-setup A C desk D)
-        ∙ ap (collect f) (own-append j (setup-calls a c desk) (round-calls a c))
-        ∙ collect-append f (own j (setup-calls a c desk)) (own j (round-calls a c))
-        ∙ ap (λ l. l ++ collect f (own j (round-calls a c))) e
-        ∙ ap (λ l. xs ++ l) g
+    reads : {B : Type 0} (f : Call → Option B) (xs : List B) → collect f (own j (setup-calls a c desk)) ≡ xs
+        → collect f (own j (canonical a c marks desk att)) ≡ xs ++ collect f (own j (round-calls a c marks att))
+    reads f xs e =
+        ap (λ (l : List Call). collect f (own j l)) (canonical-setup A C marks desk D att)
+        ∙ read-append f j (setup-calls a c desk) (round-calls a c marks att)
+        ∙ ap (λ l. l ++ collect f (own j (round-calls a c marks att))) e
 
-    pub canonical-bids : received-bids j (canonical a c desk) ≡ bid-words j (a .bids) (c .bids)
-    canonical-bids = reads bid-in _ [] (setup-bids A C desk j j1 jn) (rounds-bids a c A C j j1 jn) ∙ append-nil _
+    pub canonical-bids : received-bids j (canonical a c marks desk att) ≡ bid-words j (a .bids) (c .bids)
+    canonical-bids =
+        reads bid-in _ (setup-bids A C desk j j1 jn)
+        ∙ ap (λ l. bid-words j (a .bids) (c .bids) ++ l) (rounds-bids a c A C marks M att j j1 jn) ∙ append-nil _
 
-    canonical-hearings : hearings j (canonical a c desk) ≡ collect hearing-in (own j (round-calls a c))
-    canonical-hearings = reads hearing-in [] _ (setup-hearings A C desk j j1 jn) refl
+    canonical-hearings : hearings j (canonical a c marks desk att) ≡ collect hearing-in (own j (round-calls a c marks att))
+    unfolding hearing-in
+    canonical-hearings = reads hearing-in [] (setup-none A C desk j j1 jn hearing-in (λ n i k t. refl) (λ q t b s. refl))
 
-    pub canonical-messages : messages j (canonical a c desk) ≡ all-spoken (a .n) (probes a c)
-    canonical-messages = ap (map (λ h. h .messages)) canonical-hearings ∙ rounds-messages a c A C j j1 jn
+    pub canonical-heard : length (hearings j (canonical a c marks desk att)) ≡ min (att .hears j) (rounds a)
+    canonical-heard = ap length canonical-hearings ∙ rounds-heard a c A C marks M att j j1 jn
 
-    pub canonical-sheets : sheets j (canonical a c desk) ≡ replicate (probe-rounds * length (probes a c)) (sheets-at a c j)
-    canonical-sheets = ap (map (λ h. h .sheets)) canonical-hearings ∙ rounds-sheets a c A C j j1 jn
+    pub canonical-rolled : (Q : Party → Type 0) → ((σ : Stage) → Q (record-at a c σ j)) → Each (λ h. Q (h .party)) (hearings j (canonical a c marks desk att))
+    canonical-rolled Q q = subst (Each (λ h. Q (h .party))) (sym canonical-hearings) (rounds-rolled a c A C marks M att j j1 jn Q q)
 
-    pub canonical-decisions : decisions j (canonical a c desk) ≡ map decision (probes a c)
-    canonical-decisions = ap (collect _) canonical-hearings ∙ rounds-decisions a c A C j j1 jn
+    pub canonical-messages : messages j (canonical a c marks desk att) ≡ take (att .hears j) (present-of marks 0 (all-spoken (a .n) (probes a c)))
+    canonical-messages = ap (map _) canonical-hearings ∙ rounds-messages a c A C marks M att j j1 jn
 
-    pub canonical-many : length (verdicts j (canonical a c desk)) ≡ length (probes a c)
-    canonical-many = length-map (decisions j (canonical a c desk)) (λ d. d .verdict) ∙ ap length canonical-decisions ∙ length-map (probes a c) decision
+    pub canonical-decisions : decisions j (canonical a c marks desk att) ≡ take (att .hears j / probe-rounds) (map decision (probes a c))
+    canonical-decisions = ap (collect _) canonical-hearings ∙ rounds-decisions a c A C marks M att j j1 jn
 
-    pub canonical-askings : askings j (canonical a c desk) ≡ record-at a c (end a c A C) j ∷ []
-    canonical-askings = reads asking-in [] _ (setup-askings A C desk j j1 jn) (rounds-askings a c A C j j1 jn)
+    pub canonical-askings : askings j (canonical a c marks desk att) ≡ cond (leb (rounds a) (att .hears j)) (record-at a c (end a c A C) j ∷ []) []
+    unfolding asking-in
+    canonical-askings = reads asking-in [] (setup-none A C desk j j1 jn asking-in (λ n i k t. refl) (λ q t b s. refl)) ∙ rounds-askings a c A C marks M att j j1 jn
+
+    sayings-are : sayings j (canonical a c marks desk att) ≡ collect saying-in (own j (round-calls a c marks att))
+    unfolding saying-in
+    sayings-are = reads saying-in [] (setup-none A C desk j j1 jn saying-in (λ n i k t. refl) (λ q t b s. refl))
+
+    pub canonical-sayings : (x : Saying) → List·Memᴰ x (sayings j (canonical a c marks desk att)) → (i : ℕ) × Says a c i j x
+    canonical-sayings x m = rounds-sayings a c A C marks M att j j1 jn x (subst (List·Memᴰ x) sayings-are m)
+
+    pub canonical-says : (i : ℕ) → i < rounds a → is-present (marks i) j ≡ true → i ≤ att .hears j
+        → (x : Saying) × Says a c i j x × List·Memᴰ x (sayings j (canonical a c marks desk att))
+    canonical-says i h p l =
+        let r = rounds-says a c A C marks M att j j1 jn i h p l in
+        (r .0, r .1, subst (List·Memᴰ (r .0)) (sym sayings-are) (r .2))

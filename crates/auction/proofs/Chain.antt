@@ -1,47 +1,119 @@
--- Rounds one after another: the calls that they are, and what is read off them. Assumes nothing.
-use mathlib.Core.Path.{_≡_, refl, sym, ap, ap₂, _∙_}
-use mathlib.Core.Bool.{true, false, _&&_}
-use mathlib.Core.List.{List, [], _∷_, _++_, map, map-map, append-assoc}
-use mathlib.Core.Option.{Option, none, some}
-use Prim.Native.Nat.{ℕ, zero, suc, _+_, _≤_}
-use native.Mathlib.Nat.{zero-add, suc-add}
+-- Rounds one after another, whoever is present: the calls that they are, and what is read off them. Assumes nothing.
+use mathlib.Core.Path.{_≡_, refl, sym, ap, ap₂, subst, _∙_}
+use mathlib.Core.Logic.{⊎-elim}
+use mathlib.Core.Bool.{Bool, true, false, cond, _&&_, _||_, true≢false}
+use mathlib.Core.List.{List, [], _∷_, _++_, map, map-map, flatten, append-nil, append-assoc, List·Memᴰ, List·Memᴰ·head, List·Memᴰ·tail, List·Memᴰ·cases-cons, List·Memᴰ·not-nil}
+use mathlib.Core.Option.{Option, none}
+use Prim.Native.Nat.{ℕ, zero, suc, _+_, _-_, _≤_, _<_}
+use native.Mathlib.Nat.{zero-add, add-zero, suc-add}
 use native.Mathlib.Omega.{arith}
-use lib.ListN.{length}
+use lib.Dec.{ltb}
+use lib.ListN.{length, take}
+use lib.Seq.{take-nil}
+use borrow.Author.Tests.{ltb-true, ltb-false, le-leb}
 use Rattle.ranges.specs.Lists.{from}
 use Rattle.sharing.specs.Scheme.{points}
+use Rattle.presence.specs.Presence.{is-present}
 use Rattle.search.specs.Searches.{finished}
-use Rattle.search.specs.Search.{Decision, decision-at}
-use Rattle.round.specs.Round.{heard}
+use Rattle.search.specs.Search.{Decision}
+use Rattle.record.specs.declared.Party.{Party}
+use Rattle.round.specs.declared.Heard.{Heard}
 use Rattle.auction.specs.Auction.{Auction}
 use Rattle.auction.specs.Coins.{Coins}
-use Rattle.auction.specs.Call.{Call, accepted, whose, of-party, given}
-use Rattle.auction.specs.Canonical.{Seat, all-over, say-by, word-by, hear-by, ask, from-rounds, after-hearing}
+use Rattle.auction.specs.Attendance.{Marks, Enough, Attendance}
+use Rattle.auction.specs.Call.{Call, say-call, hear-call, whose, of-party, given}
+use Rattle.auction.specs.Canonical.{Seat, all-over, say-by, word-by, hear-by, where-so, says-word, say-in, words-for, hear-round, hear-in, after-round, ask-in, from-rounds}
 use Rattle.auction.specs.Run.{select, own}
-use Rattle.auction.specs.Received.{collect, bid-in, Hearing, hearing-in, asking-in, verdict-in, decision-in}
+use Rattle.auction.specs.Received.{collect, Saying, round-of, saying-in, Hearing, hearing-in, decided-by, decision-in}
 use Rattle.auction.specs.Demands.{all-accepted}
-use Rattle.auction.proofs.Closed.{Stage, record-at, sheets-at, seat}
-use Rattle.auction.proofs.Calls.{own-append, collect-append, collect-none, collect-some, all-accepted-append, all-accepted-points, map-points, Own, own-points}
-use Rattle.auction.proofs.Step.{Step}
+use Rattle.auction.proofs.Closed.{Stage, record-at, seat}
+use Rattle.auction.proofs.Calls.{own-append, collect-append, collect-none, read-append, all-accepted-append, map-through, Own, all-accepted-made, own-made, collect-made, with-read}
+use Rattle.auction.proofs.Present.{present-words}
+use Rattle.auction.proofs.Step.{Hearable, Step}
 
--- a round: the stage before it, and the word of each party
+-- ---- lists
+
+nothing : {A : Type 0} (b : Bool) → _≡_ {A = List A} (cond b [] []) []
+nothing true = refl
+nothing false = refl
+
+pub no-more : {A : Type 0} (b : Bool) (xs : List A) → xs ++ cond b [] [] ≡ xs
+no-more b xs = ap (λ zs. xs ++ zs) (nothing b) ∙ append-nil xs
+
+-- one more of the first m - i
+take-more : {A : Type 0} (m i : ℕ) (x : A) (xs : List A) → cond (ltb i m) (x ∷ []) [] ++ take (m - suc i) xs ≡ take (m - i) (x ∷ xs)
+take-more {A} m i x xs = split (ltb i m) refl
+  where
+    split : (b : Bool) → ltb i m ≡ b → cond b (x ∷ []) [] ++ take (m - suc i) xs ≡ take (m - i) (x ∷ xs)
+    split true e =
+        let d : suc (m - suc i) ≡ m - i = omega (arith, ltb-true i m e) in
+        ap (λ (k : ℕ). take k (x ∷ xs)) d
+    split false e =
+        let h = ltb-false i m e in
+        let d : m - suc i ≡ 0 = omega arith in
+        let d′ : 0 ≡ m - i = omega arith in
+        ap (λ (k : ℕ). take k xs) d ∙ ap (λ (k : ℕ). take k (x ∷ xs)) d′
+
+-- x is what stands at i
+abbrev pub At : {A : Type 0} → List A → ℕ → A → Type 0
+At [] i x = ⊥
+At (y ∷ ys) zero x = x ≡ y
+At (y ∷ ys) (suc i) x = At ys i x
+
+module _ {A : Type 0} (y x : A) (ys zs : List A) where
+  found-at : (b : Bool) → List·Memᴰ x (cond b (y ∷ []) [] ++ ys) → (List·Memᴰ x ys → (i : ℕ) × At zs i x) → (i : ℕ) × At (y ∷ zs) i x
+  found-at true m f = ⊎-elim (λ e. (0, e)) (λ m′. let r = f m′ in (suc (r .0), r .1)) (List·Memᴰ·cases-cons m)
+  found-at false m f = let r = f m in (suc (r .0), r .1)
+
+  in-first : (b : Bool) → b ≡ true → x ≡ y → List·Memᴰ x (cond b (y ∷ []) [] ++ ys)
+  in-first true h e = List·Memᴰ·head e
+  in-first false h e = absurd (true≢false (sym h))
+
+  in-rest : (b : Bool) → List·Memᴰ x ys → List·Memᴰ x (cond b (y ∷ []) [] ++ ys)
+  in-rest true m = List·Memᴰ·tail m
+  in-rest false m = m
+
+-- ---- rounds
+
+-- a round: the stage before it, the word of each party, and what the words open to
 pub record Turn : Type 0 where
   pub stage : Stage
   pub words : ℕ → ℕ
+  pub opening : Heard
 
--- ---- when the rounds go on
+-- the verdict that is heard in it
+unfoldable pub decision-of : Turn → Option Decision
+decision-of r = decided-by (r .stage .search) (r .opening)
 
-module _ (a : Auction) (c : Coins) where
-  from-going : (fuel : ℕ) (ss : List Seat) → all-over ss ≡ false
-      → from-rounds a c (suc fuel) ss
-      ≡ map (say-by a c) ss
-      ++ (map (hear-by a c (map (word-by a c) ss)) ss ++ from-rounds a c fuel (map (after-hearing a c (map (word-by a c) ss)) ss))
+-- rounds that lead from one stage to another
+pub data Chain (a : Auction) (c : Coins) : Stage → List Turn → Stage → Type 0 where
+  done : {σ : Stage} → Chain a c σ [] σ
+  round-on : {σ ρ τ : Stage} {w : ℕ → ℕ} {o : Heard} {rs : List Turn} → Step a c σ ρ w o → Chain a c ρ rs τ
+      → Chain a c σ (record { stage = σ; words = w; opening = o } ∷ rs) τ
+
+module _ {a : Auction} {c : Coins} where
+  pub chain-append : {σ ρ τ : Stage} {rs rs′ : List Turn} → Chain a c σ rs ρ → Chain a c ρ rs′ τ → Chain a c σ (rs ++ rs′) τ
+  chain-append done d = d
+  chain-append (round-on s r) d = round-on s (chain-append r d)
+
+-- what party j says in a round
+abbrev pub saying-of : Auction → Coins → ℕ → Turn → Saying
+saying-of a c j r = record { round = round-of (record-at a c (r .stage) j); word = r .words j }
+
+module _ (a : Auction) (c : Coins) (marks : Marks) (att : Attendance) where
+  -- ---- when the rounds go on
+
+  from-going : (fuel round : ℕ) (ss : List Seat) → all-over ss ≡ false
+      → from-rounds marks att (suc fuel) round ss
+      ≡ flatten (map (say-in marks att round) ss)
+      ++ (flatten (map (hear-in marks att round ss) ss) ++ from-rounds marks att fuel (suc round) (map (after-round marks att round ss) ss))
   unfolding from-rounds
-  from-going fuel ss e = rw (e, from-rounds)
+  from-going fuel round ss e = rw (e, from-rounds)
 
-  pub from-ending : (fuel : ℕ) (ss : List Seat) → all-over ss ≡ true → from-rounds a c fuel ss ≡ map (ask a c) ss
+  pub from-ending : (fuel round : ℕ) (ss : List Seat) → all-over ss ≡ true → from-rounds marks att fuel round ss ≡ flatten (map (ask-in marks att round) ss)
   unfolding from-rounds
-  from-ending zero ss e = refl
-  from-ending (suc fuel) ss e = rw (e, from-rounds)
+  from-ending zero round ss e = refl
+  from-ending (suc fuel) round ss e = rw (e, from-rounds)
 
   module _ (σ : Stage) where
     going-on : finished (σ .search) ≡ false → (i m : ℕ) → 1 ≤ m → all-over (map (seat a c σ) (from i m)) ≡ false
@@ -57,171 +129,224 @@ module _ (a : Auction) (c : Coins) where
   abbrev pub seats : Stage → List Seat
   seats σ = map (seat a c σ) (points (a .n))
 
-  abbrev pub all-words : Turn → List ℕ
-  all-words r = map (r .words) (points (a .n))
+  -- the words of a round, as party j hears them
+  abbrev pub heard-words : (round j : ℕ) (w : ℕ → ℕ) → List ℕ
+  heard-words round j w = map (λ i. cond (is-present (marks round) i) (w i) (att .elsewhere j round i)) (points (a .n))
 
-  -- each says its word, then each hears all
-  unfoldable pub turn-calls : Turn → List Call
-  turn-calls r =
-      map (λ j. say-by a c (seat a c (r .stage) j)) (points (a .n)) ++ map (λ j. hear-by a c (all-words r) (seat a c (r .stage) j)) (points (a .n))
+  -- each says its word, then each hears
+  unfoldable pub turn-calls : ℕ → Turn → List Call
+  turn-calls round r =
+      flatten (map (λ j. say-in marks att round (seat a c (r .stage) j)) (points (a .n)))
+      ++ flatten (map (λ j. hear-in marks att round (seats (r .stage)) (seat a c (r .stage) j)) (points (a .n)))
 
-  unfoldable pub calls : List Turn → List Call
-  calls [] = []
-  calls (r ∷ rs) = turn-calls r ++ calls rs
+  unfoldable pub calls : ℕ → List Turn → List Call
+  calls round [] = []
+  calls round (r ∷ rs) = turn-calls round r ++ calls (suc round) rs
 
-  abbrev pub hearing-of : ℕ → Turn → Hearing
-  hearing-of j r = record { party = record-at a c (r .stage) j; sheets = sheets-at a c j; messages = all-words r }
+  -- what party j hears in a round
+  abbrev pub hearing-of : (j round : ℕ) → Turn → Hearing
+  hearing-of j round r = record { party = record-at a c (r .stage) j; messages = heard-words round j (r .words); present = marks round }
 
-  abbrev pub verdict-heard : Turn → Option ℕ
-  verdict-heard r = verdict-in (heard (a .n) (r .stage .round) (all-words r))
+  unfoldable pub hearings-from : (j round : ℕ) → List Turn → List Hearing
+  hearings-from j round [] = []
+  hearings-from j round (r ∷ rs) = hearing-of j round r ∷ hearings-from j (suc round) rs
 
--- rounds that lead from one stage to another, with the verdicts that are heard in them
-pub data Chain (a : Auction) (c : Coins) : Stage → List Turn → List Decision → Stage → Type 0 where
-  done : {σ : Stage} → Chain a c σ [] [] σ
-  quiet : {σ ρ τ : Stage} {w : ℕ → ℕ} {rs : List Turn} {ds : List Decision} → Step a c σ ρ w
-      → verdict-heard a c (record { stage = σ; words = w }) ≡ none → Chain a c ρ rs ds τ → Chain a c σ (record { stage = σ; words = w } ∷ rs) ds τ
-  decides : {σ ρ τ : Stage} {w : ℕ → ℕ} {v : ℕ} {rs : List Turn} {ds : List Decision} → Step a c σ ρ w
-      → verdict-heard a c (record { stage = σ; words = w }) ≡ some v → Chain a c ρ rs ds τ
-      → Chain a c σ (record { stage = σ; words = w } ∷ rs) (decision-at (σ .search) v ∷ ds) τ
-
-module _ {a : Auction} {c : Coins} where
-  pub chain-append : {σ ρ τ : Stage} {rs rs′ : List Turn} {ds ds′ : List Decision} → Chain a c σ rs ds ρ → Chain a c ρ rs′ ds′ τ
-      → Chain a c σ (rs ++ rs′) (ds ++ ds′) τ
-  chain-append done d = d
-  chain-append (quiet s e r) d = quiet s e (chain-append r d)
-  chain-append (decides s e r) d = decides s e (chain-append r d)
-
-module _ (a : Auction) (c : Coins) (many : 1 ≤ a .n) where
   -- ---- one round
 
-  module _ {σ τ : Stage} {w : ℕ → ℕ} (S : Step a c σ τ w) where
+  module _ (many : 1 ≤ a .n) (round : ℕ) (E : Enough (a .n) (marks round)) {σ τ : Stage} {w : ℕ → ℕ} {o : Heard} (S : Step a c σ τ w o) where
     abbrev this : Turn
-    this = record { stage = σ; words = w }
+    this = record { stage = σ; words = w; opening = o }
 
-    -- the words, the calls and the seats after
-    pub words-are : map (word-by a c) (seats a c σ) ≡ map w (points (a .n))
-    words-are = map-map (word-by a c) (seat a c σ) (points (a .n)) ∙ map-points (λ j. word-by a c (seat a c σ j)) w (a .n) (S .word)
+    -- whoever hears, hears the words of those who are present
+    words-are : (j : ℕ) → words-for marks att round j (seats σ) ≡ heard-words round j w
+    unfolding words-for seat record-at
+    words-are j =
+        map-through (λ s. cond (is-present (marks round) (s .party .own)) (word-by s) (att .elsewhere j round (s .party .own))) (seat a c σ)
+        (λ i. cond (is-present (marks round) i) (w i) (att .elsewhere j round i)) (a .n)
+        (λ i i1 im. ap (λ (x : ℕ). cond (is-present (marks round) i) x (att .elsewhere j round i)) (S .word i i1 im))
 
-    pub seats-are : map (after-hearing a c (map w (points (a .n)))) (seats a c σ) ≡ seats a c τ
+    pub hearable : (j : ℕ) → Hearable (a .n) w (heard-words round j w) (marks round)
+    hearable j = present-words (a .n) w (λ i. att .elsewhere j round i) (marks round) E
+
+    hears : (j : ℕ) → Hearable (a .n) w (words-for marks att round j (seats σ)) (marks round)
+    hears j = rw (words-are j) (hearable j)
+
+    seats-are : map (after-round marks att round (seats σ)) (seats σ) ≡ seats τ
+    unfolding after-round
     seats-are =
-        map-map (after-hearing a c (map w (points (a .n)))) (seat a c σ) (points (a .n))
-        ∙ map-points (λ j. after-hearing a c (map w (points (a .n))) (seat a c σ j)) (seat a c τ) (a .n) (S .next)
+        map-through (after-round marks att round (seats σ)) (seat a c σ) (seat a c τ) (a .n)
+        (λ j j1 jn. S .next _ (marks round) (hears (seat a c σ j .party .own)) j j1 jn)
 
-    pub turn-rounds : (fuel : ℕ) → from-rounds a c (suc fuel) (seats a c σ) ≡ turn-calls a c this ++ from-rounds a c fuel (seats a c τ)
+    turn-rounds : (fuel : ℕ) → from-rounds marks att (suc fuel) round (seats σ) ≡ turn-calls round this ++ from-rounds marks att fuel (suc round) (seats τ)
     unfolding turn-calls
     turn-rounds fuel =
-        from-going a c fuel (seats a c σ) (going-on a c σ (S .going) 1 (a .n) many)
+        from-going fuel round (seats σ) (going-on σ (S .going) 1 (a .n) many)
         ∙ rw (
-          words-are,
           seats-are,
-          map-map (say-by a c) (seat a c σ) (points (a .n)),
-          map-map (hear-by a c (map w (points (a .n)))) (seat a c σ) (points (a .n)),
+          map-map (say-in marks att round) (seat a c σ) (points (a .n)),
+          map-map (hear-in marks att round (seats σ)) (seat a c σ) (points (a .n)),
           append-assoc,
         )
 
-    pub turn-accepted : all-accepted (turn-calls a c this) ≡ true
-    unfolding turn-calls
+    say-own : (i : ℕ) → 1 ≤ i → i ≤ a .n → Own i (say-by (seat a c σ i))
+    unfolding say-by seat record-at whose of-party
+    say-own i i1 im = record { accepted = S .saying i i1 im; whose = λ j. refl }
+
+    hear-own : (i : ℕ) → 1 ≤ i → i ≤ a .n → Own i (hear-round marks att round (seats σ) (seat a c σ i))
+    unfolding hear-round hear-by seat record-at whose of-party
+    hear-own i i1 im = record { accepted = S .hearing _ (marks round) (hears i) i i1 im; whose = λ j. refl }
+
+    turn-accepted : all-accepted (turn-calls round this) ≡ true
+    unfolding turn-calls say-in hear-in seat record-at
     turn-accepted =
-        all-accepted-append _ _ (all-accepted-points (λ j. say-by a c (seat a c σ j)) (a .n) (S .saying))
-        (all-accepted-points (λ j. hear-by a c (map w (points (a .n))) (seat a c σ j)) (a .n) (S .hearing))
+        all-accepted-append _ _ (all-accepted-made (says-word marks att round) (λ j. say-by (seat a c σ j)) (a .n) say-own)
+        (all-accepted-made (λ j. ltb round (att .hears j)) (λ j. hear-round marks att round (seats σ) (seat a c σ j)) (a .n) hear-own)
 
     module _ (j : ℕ) (j1 : 1 ≤ j) (jn : j ≤ a .n) where
-      say-own : (i : ℕ) → 1 ≤ i → i ≤ a .n → Own i (say-by a c (seat a c σ i))
-      unfolding say-by seat record-at whose of-party
-      say-own i i1 im = record { accepted = S .saying i i1 im; whose = λ j. refl }
+      -- whether it says its word, and whether it hears
+      abbrev speaking : Bool
+      speaking = says-word marks att round j
 
-      hear-own : (i : ℕ) → 1 ≤ i → i ≤ a .n → Own i (hear-by a c (map w (points (a .n))) (seat a c σ i))
-      unfolding hear-by seat record-at whose of-party
-      hear-own i i1 im = record { accepted = S .hearing i i1 im; whose = λ j. refl }
+      abbrev listening : Bool
+      listening = ltb round (att .hears j)
 
-      pub own-turn : own j (turn-calls a c this) ≡ say-by a c (seat a c σ j) ∷ hear-by a c (map w (points (a .n))) (seat a c σ j) ∷ []
-      unfolding turn-calls say-by hear-by given
+      own-turn : own j (turn-calls round this)
+          ≡ where-so speaking (say-by (seat a c σ j)) ++ where-so listening (hear-round marks att round (seats σ) (seat a c σ j))
+      unfolding turn-calls say-in hear-in seat record-at say-by hear-round hear-by given
       own-turn =
-          own-append j (map (λ j. say-by a c (seat a c σ j)) (points (a .n))) (map (λ j. hear-by a c (map w (points (a .n))) (seat a c σ j)) (points (a .n)))
-          ∙ ap₂ _++_ (own-points j (a .n) (λ j. say-by a c (seat a c σ j)) j1 jn say-own)
-          (own-points j (a .n) (λ j. hear-by a c (map w (points (a .n))) (seat a c σ j)) j1 jn hear-own)
+          own-append j _ _
+          ∙ ap₂ _++_ (own-made j (a .n) (says-word marks att round) (λ i. say-by (seat a c σ i)) j1 jn say-own)
+          (own-made j (a .n) (λ i. ltb round (att .hears i)) (λ i. hear-round marks att round (seats σ) (seat a c σ i)) j1 jn hear-own)
 
-      turn-hearings : collect hearing-in (own j (turn-calls a c this)) ≡ hearing-of a c j this ∷ []
-      unfolding collect hearing-in say-by hear-by seat
-      turn-hearings = ap (collect hearing-in) own-turn
+      reads-turn : {B : Type 0} (f : Call → Option B) → collect f (own j (turn-calls round this))
+          ≡ cond speaking (collect f (say-by (seat a c σ j) ∷ [])) []
+          ++ cond listening (collect f (hear-round marks att round (seats σ) (seat a c σ j) ∷ [])) []
+      reads-turn f =
+          ap (collect f) own-turn ∙ collect-append f _ _ ∙ ap₂ _++_ (collect-made f speaking _) (collect-made f listening _)
 
-      turn-bids : collect bid-in (own j (turn-calls a c this)) ≡ []
-      unfolding collect bid-in say-by hear-by
-      turn-bids = ap (collect bid-in) own-turn
+      pub turn-hearings : collect hearing-in (own j (turn-calls round this)) ≡ cond listening (hearing-of j round this ∷ []) []
+      unfolding collect hearing-in say-by hear-round hear-by seat record-at
+      turn-hearings =
+          reads-turn hearing-in
+          ∙ ap₂ _++_ (nothing speaking) (ap (λ (ms : List ℕ). cond listening (record { party = record-at a c σ j; messages = ms; present = marks round } ∷ []) []) (words-are j))
 
-      turn-askings : collect asking-in (own j (turn-calls a c this)) ≡ []
-      unfolding collect asking-in say-by hear-by
-      turn-askings = ap (collect asking-in) own-turn
+      pub turn-sayings : collect saying-in (own j (turn-calls round this)) ≡ cond speaking (saying-of a c j this ∷ []) []
+      unfolding collect saying-in say-by hear-round hear-by seat word-by
+      turn-sayings =
+          reads-turn saying-in ∙ no-more listening _
+          ∙ ap (λ (x : ℕ). cond speaking (record { round = round-of (record-at a c σ j); word = x } ∷ []) []) (S .word j j1 jn)
+
+      -- a reader that passes over sayings and hearings
+      turn-none : {B : Type 0} (f : Call → Option B) → ((q : Party) (t s : List ℕ) → f (say-call q t s) ≡ none)
+          → ((q : Party) (t s m p : List ℕ) → f (hear-call q t s m p) ≡ none) → collect f (own j (turn-calls round this)) ≡ []
+      unfolding collect say-by hear-round hear-by
+      turn-none {B} f no-say no-hear =
+          reads-turn f
+          ∙ ap₂ (λ (xs ys : List B). cond speaking xs [] ++ cond listening ys []) (collect-none f _ [] (no-say _ _ _)) (collect-none f _ [] (no-hear _ _ _ _ _))
+          ∙ ap₂ _++_ (nothing speaking) (nothing listening)
 
   -- ---- a chain of rounds
 
-  one-more : {σ ρ : Stage} {w : ℕ → ℕ} (rs : List Turn) (last : List Seat) → Step a c σ ρ w → (fuel : ℕ)
-      → from-rounds a c (length rs + fuel) (seats a c ρ) ≡ calls a c rs ++ from-rounds a c fuel last
-      → from-rounds a c (suc (length rs + fuel)) (seats a c σ) ≡ (turn-calls a c (record { stage = σ; words = w }) ++ calls a c rs) ++ from-rounds a c fuel last
-  one-more {σ} {ρ} {w} rs last s fuel e =
-      turn-rounds s (length rs + fuel)
-      ∙ ap (λ (l : List Call). turn-calls a c (record { stage = σ; words = w }) ++ l) e
-      ∙ sym (append-assoc (turn-calls a c (record { stage = σ; words = w })) (calls a c rs) (from-rounds a c fuel last))
+  module _ (many : 1 ≤ a .n) where
+    -- t + 1 are present in each of these rounds
+    abbrev pub Enoughs : (round m : ℕ) → Type 0
+    Enoughs round m = (i : ℕ) → round ≤ i → i < round + m → Enough (a .n) (marks i)
 
-  pub chain-rounds : {σ τ : Stage} {rs : List Turn} {ds : List Decision} → Chain a c σ rs ds τ → (fuel : ℕ)
-      → from-rounds a c (length rs + fuel) (seats a c σ) ≡ calls a c rs ++ from-rounds a c fuel (seats a c τ)
-  unfolding calls
-  chain-rounds done fuel = rw zero-add
-  chain-rounds (quiet {τ} {rs} s e r) fuel =
-      rw suc-add (one-more rs (seats a c τ) s fuel (chain-rounds r fuel))
-  chain-rounds (decides {τ} {rs} s e r) fuel =
-      rw suc-add (one-more rs (seats a c τ) s fuel (chain-rounds r fuel))
+    first-of : (round m : ℕ) → Enoughs round (suc m) → Enough (a .n) (marks round)
+    first-of round m E = E round (omega arith) (omega arith)
 
-  pub chain-accepted : {σ τ : Stage} {rs : List Turn} {ds : List Decision} → Chain a c σ rs ds τ → all-accepted (calls a c rs) ≡ true
-  unfolding calls all-accepted
-  chain-accepted done = refl
-  chain-accepted (quiet {σ} {w} {rs} s e r) =
-      all-accepted-append (turn-calls a c (record { stage = σ; words = w })) (calls a c rs) (turn-accepted s) (chain-accepted r)
-  chain-accepted (decides {σ} {w} {rs} s e r) =
-      all-accepted-append (turn-calls a c (record { stage = σ; words = w })) (calls a c rs) (turn-accepted s) (chain-accepted r)
+    rest-of : (round m : ℕ) → Enoughs round (suc m) → Enoughs (suc round) m
+    rest-of round m E i l k = E i (omega arith) (omega arith)
 
-  module _ (j : ℕ) (j1 : 1 ≤ j) (jn : j ≤ a .n) where
-    -- what is read off a round and those after it
-    reads : {B : Type 0} (f : Call → Option B) (r : Turn) (rs : List Turn) (xs ys : List B)
-        → collect f (own j (turn-calls a c r)) ≡ xs → collect f (own j (calls a c rs)) ≡ ys → collect f (own j (calls a c (r ∷ rs))) ≡ xs ++ ys
+    pub chain-rounds : {σ τ : Stage} {rs : List Turn} → Chain a c σ rs τ → (fuel round : ℕ) → Enoughs round (length rs)
+        → from-rounds marks att (length rs + fuel) round (seats σ) ≡ calls round rs ++ from-rounds marks att fuel (round + length rs) (seats τ)
     unfolding calls
-    reads f r rs xs ys e g =
-        ap (collect f) (own-append j (turn-calls a c r) (calls a c rs)) ∙ collect-append f (own j (turn-calls a c r)) (own j (calls a c rs)) ∙ ap₂ _++_ e g
+    chain-rounds {σ} done fuel round E = ap₂ (λ (f r : ℕ). from-rounds marks att f r (seats σ)) (zero-add fuel) (sym (add-zero round))
+    chain-rounds {τ} (round-on {σ} {w} {o} {rs} s r) fuel round E =
+        let this : Turn = record { stage = σ; words = w; opening = o } in
+        let later : suc round + length rs ≡ round + suc (length rs) = omega arith in
+        ap (λ (f : ℕ). from-rounds marks att f round (seats σ)) (suc-add (length rs) fuel)
+        ∙ turn-rounds many round (first-of round (length rs) E) s (length rs + fuel)
+        ∙ ap (λ (l : List Call). turn-calls round this ++ l) (chain-rounds r fuel (suc round) (rest-of round (length rs) E))
+        ∙ sym (append-assoc (turn-calls round this) (calls (suc round) rs) _)
+        ∙ ap (λ (x : ℕ). (turn-calls round this ++ calls (suc round) rs) ++ from-rounds marks att fuel x (seats τ)) later
 
-    pub chain-hearings : {σ τ : Stage} {rs : List Turn} {ds : List Decision} → Chain a c σ rs ds τ
-        → collect hearing-in (own j (calls a c rs)) ≡ map (hearing-of a c j) rs
-    unfolding calls collect select
-    chain-hearings done = refl
-    chain-hearings (quiet {rs} s e r) = reads hearing-in _ rs _ (map (hearing-of a c j) rs) (turn-hearings s j j1 jn) (chain-hearings r)
-    chain-hearings (decides {rs} s e r) = reads hearing-in _ rs _ (map (hearing-of a c j) rs) (turn-hearings s j j1 jn) (chain-hearings r)
+    pub chain-accepted : {σ τ : Stage} {rs : List Turn} → Chain a c σ rs τ → (round : ℕ) → Enoughs round (length rs)
+        → all-accepted (calls round rs) ≡ true
+    unfolding calls all-accepted
+    chain-accepted done round E = refl
+    chain-accepted (round-on {σ} {w} {o} {rs} s r) round E =
+        all-accepted-append (turn-calls round (record { stage = σ; words = w; opening = o })) (calls (suc round) rs) (turn-accepted many round (first-of round (length rs) E) s)
+        (chain-accepted r (suc round) (rest-of round (length rs) E))
 
-    pub chain-bids : {σ τ : Stage} {rs : List Turn} {ds : List Decision} → Chain a c σ rs ds τ → collect bid-in (own j (calls a c rs)) ≡ []
-    unfolding calls collect select
-    chain-bids done = refl
-    chain-bids (quiet {rs} s e r) = reads bid-in _ rs [] [] (turn-bids s j j1 jn) (chain-bids r)
-    chain-bids (decides {rs} s e r) = reads bid-in _ rs [] [] (turn-bids s j j1 jn) (chain-bids r)
+    module _ (j : ℕ) (j1 : 1 ≤ j) (jn : j ≤ a .n) where
+      -- what is read off a round and those after it
+      reads : {B : Type 0} (f : Call → Option B) (round : ℕ) (r : Turn) (rs : List Turn) (xs ys : List B)
+          → collect f (own j (turn-calls round r)) ≡ xs → collect f (own j (calls (suc round) rs)) ≡ ys → collect f (own j (calls round (r ∷ rs))) ≡ xs ++ ys
+      unfolding calls
+      reads f round r rs xs ys e g = read-append f j (turn-calls round r) (calls (suc round) rs) ∙ ap₂ _++_ e g
 
-    pub chain-askings : {σ τ : Stage} {rs : List Turn} {ds : List Decision} → Chain a c σ rs ds τ → collect asking-in (own j (calls a c rs)) ≡ []
-    unfolding calls collect select
-    chain-askings done = refl
-    chain-askings (quiet {rs} s e r) = reads asking-in _ rs [] [] (turn-askings s j j1 jn) (chain-askings r)
-    chain-askings (decides {rs} s e r) = reads asking-in _ rs [] [] (turn-askings s j j1 jn) (chain-askings r)
+      -- it hears the first ones, as many as it does
+      pub chain-hearings : {σ τ : Stage} {rs : List Turn} → Chain a c σ rs τ → (round : ℕ) → Enoughs round (length rs)
+          → collect hearing-in (own j (calls round rs)) ≡ take (att .hears j - round) (hearings-from j round rs)
+      unfolding calls collect select hearings-from
+      chain-hearings done round E = sym (take-nil (att .hears j - round))
+      chain-hearings (round-on {rs} s r) round E =
+          reads hearing-in round _ rs _ (take (att .hears j - suc round) (hearings-from j (suc round) rs))
+          (turn-hearings many round (first-of round (length rs) E) s j j1 jn) (chain-hearings r (suc round) (rest-of round (length rs) E))
+          ∙ take-more (att .hears j) round _ (hearings-from j (suc round) rs)
 
-    -- the decisions are those that the chain tells
-    none-decided : (r : Turn) → verdict-heard a c r ≡ none → decision-in (hearing-of a c j r) ≡ none
-    unfolding decision-in record-at
-    none-decided r e = rw (e, decision-in)
+      module _ {B : Type 0} (f : Call → Option B) (no-say : (q : Party) (t s : List ℕ) → f (say-call q t s) ≡ none)
+          (no-hear : (q : Party) (t s m p : List ℕ) → f (hear-call q t s m p) ≡ none) where
+        pub chain-none : {σ τ : Stage} {rs : List Turn} → Chain a c σ rs τ → (round : ℕ) → Enoughs round (length rs)
+            → collect f (own j (calls round rs)) ≡ []
+        unfolding calls collect select
+        chain-none done round E = refl
+        chain-none (round-on {rs} s r) round E =
+            reads f round _ rs [] [] (turn-none many round (first-of round (length rs) E) s j j1 jn f no-say no-hear)
+            (chain-none r (suc round) (rest-of round (length rs) E))
 
-    one-decided : (r : Turn) (v : ℕ) → verdict-heard a c r ≡ some v → decision-in (hearing-of a c j r) ≡ some (decision-at (r .stage .search) v)
-    unfolding decision-in record-at
-    one-decided r v e = rw (e, decision-in)
+      -- the verdicts are those of the rounds that it hears
+      decided-as : {σ τ : Stage} {w : ℕ → ℕ} {o : Heard} → Step a c σ τ w o → (round : ℕ) → Enough (a .n) (marks round)
+          → decision-in (hearing-of j round (record { stage = σ; words = w; opening = o })) ≡ decision-of (record { stage = σ; words = w; opening = o })
+      unfolding decision-in decision-of record-at
+      decided-as {σ} {w} s round E =
+          ap (decided-by (σ .search)) (s .opens (heard-words round j w) (marks round) (hearable many round E s j))
 
-    pub chain-decisions : {σ τ : Stage} {rs : List Turn} {ds : List Decision} → Chain a c σ rs ds τ
-        → collect decision-in (map (hearing-of a c j) rs) ≡ ds
-    unfolding collect
-    chain-decisions done = refl
-    chain-decisions (quiet {σ} {w} {rs} s e r) =
-        collect-none decision-in (hearing-of a c j (record { stage = σ; words = w })) (map (hearing-of a c j) rs) (none-decided _ e) ∙ chain-decisions r
-    chain-decisions (decides {σ} {w} {v} {rs} s e r) =
-        collect-some decision-in (hearing-of a c j (record { stage = σ; words = w })) (map (hearing-of a c j) rs) (decision-at (σ .search) v) (one-decided _ v e)
-        ∙ ap (λ (l : List Decision). decision-at (σ .search) v ∷ l) (chain-decisions r)
+      pub chain-decisions : {σ τ : Stage} {rs : List Turn} → Chain a c σ rs τ → (round m : ℕ) → Enoughs round (length rs)
+          → collect decision-in (take m (hearings-from j round rs)) ≡ collect decision-of (take m rs)
+      unfolding collect hearings-from
+      chain-decisions r round zero E = refl
+      chain-decisions done round (suc m) E = refl
+      chain-decisions (round-on {rs} s r) round (suc m) E =
+          ap₂ with-read (decided-as s round (first-of round (length rs) E)) (chain-decisions r (suc round) m (rest-of round (length rs) E))
+
+      -- what it says, it says in one of the rounds
+      pub chain-sayings : {σ τ : Stage} {rs : List Turn} → Chain a c σ rs τ → (round : ℕ) → Enoughs round (length rs)
+          → (x : Saying) → List·Memᴰ x (collect saying-in (own j (calls round rs))) → (i : ℕ) × At (map (saying-of a c j) rs) i x
+      unfolding calls collect select
+      chain-sayings done round E x m = absurd (List·Memᴰ·not-nil m)
+      chain-sayings (round-on {σ} {w} {o} {rs} s r) round E x m =
+          let this : Turn = record { stage = σ; words = w; opening = o } in
+          found-at (saying-of a c j this) x _ (map (saying-of a c j) rs) (says-word marks att round j)
+          (subst (List·Memᴰ x) (reads saying-in round this rs _ _ (turn-sayings many round (first-of round (length rs) E) s j j1 jn) refl) m)
+          (λ m′. chain-sayings r (suc round) (rest-of round (length rs) E) x m′)
+
+      -- and it says its word where it is present
+      pub chain-says : {σ τ : Stage} {rs : List Turn} → Chain a c σ rs τ → (round : ℕ) → Enoughs round (length rs)
+          → (i : ℕ) (x : Saying) → At (map (saying-of a c j) rs) i x → is-present (marks (round + i)) j ≡ true → round + i ≤ att .hears j
+          → List·Memᴰ x (collect saying-in (own j (calls round rs)))
+      unfolding calls collect select
+      chain-says done round E i x h p l = absurd h
+      chain-says (round-on {σ} {w} {o} {rs} s r) round E zero x h p l =
+          let this : Turn = record { stage = σ; words = w; opening = o } in
+          let here : is-present (marks round) j ≡ true = ap (λ (k : ℕ). is-present (marks k) j) (sym (add-zero round)) ∙ p in
+          subst (List·Memᴰ x) (sym (reads saying-in round this rs _ _ (turn-sayings many round (first-of round (length rs) E) s j j1 jn) refl))
+          (in-first (saying-of a c j this) x _ (map (saying-of a c j) rs) (says-word marks att round j)
+          (ap₂ _&&_ (le-leb round (att .hears j) (omega arith)) (ap (λ (b : Bool). b || att .speaks j round) here)) h)
+      chain-says (round-on {σ} {w} {o} {rs} s r) round E (suc i) x h p l =
+          let this : Turn = record { stage = σ; words = w; opening = o } in
+          let k : round + suc i ≡ suc round + i = omega arith in
+          subst (List·Memᴰ x) (sym (reads saying-in round this rs _ _ (turn-sayings many round (first-of round (length rs) E) s j j1 jn) refl))
+          (in-rest (saying-of a c j this) x _ (map (saying-of a c j) rs) (says-word marks att round j)
+          (chain-says r (suc round) (rest-of round (length rs) E) i x h (ap (λ (z : ℕ). is-present (marks z) j) (sym k) ∙ p) (omega arith)))

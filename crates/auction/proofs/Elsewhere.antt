@@ -1,10 +1,10 @@
 -- Every party's call of the canonical list is for one of the parties 1 to n. Assumes nothing.
-use mathlib.Core.Path.{_≡_, refl, ap, _∙_}
+use mathlib.Core.Path.{_≡_, refl, sym, ap, _∙_}
 use mathlib.Core.Bool.{Bool, true, false, not, _&&_, true≢false}
 use mathlib.Core.List.{List, [], _∷_, _++_, map, flatten, zip}
 use Prim.Native.Nat.{ℕ, zero, suc, _+_, _≤_}
 use native.Mathlib.Omega.{arith}
-use lib.Dec.{eqb}
+use lib.Dec.{leb, ltb, eqb}
 use borrow.Author.Tests.{ne-eqb}
 use Rattle.refusal.specs.Judging.{kept}
 use Rattle.refusal.proofs.Judging.{refuses}
@@ -21,17 +21,20 @@ use Rattle.session.specs.Open.{open-judgement}
 use Rattle.session.specs.Add.{add-judgement}
 use Rattle.session.specs.Answer.{answer-judgement}
 use Rattle.record.proofs.Updates.{blank-unsound, entered-same}
-use Rattle.saying.specs.Say.{current, turn-judgement, say-judgement}
-use Rattle.hearing.proofs.Next.{after-same}
-use Rattle.hearing.specs.Hear.{hear-judgement, after}
+use Rattle.saying.specs.Say.{current, say-judgement}
+use Rattle.presence.specs.Presence.{are-marks}
+use Rattle.stepping.proofs.Next.{after-same}
+use Rattle.hearing.specs.Hear.{hear-judgement}
+use Rattle.stepping.specs.After.{after}
 use Rattle.round.specs.Round.{heard}
 use Rattle.auction.specs.Auction.{Auction}
 use Rattle.auction.specs.Coins.{Coins, DrawnBid, flat}
 use Rattle.auction.specs.Desk.{Desk}
+use Rattle.auction.specs.Attendance.{Marks, Attendance}
 use Rattle.auction.specs.Call.{Call, open-call, judgement, is-accepted, accepted, whose, of-party}
-use Rattle.auction.specs.Canonical.{Seat, all-over, zeros, seated, shares-for, splits-for, add-by, after-adding, deal-for, after-dealing, say-by, word-by, hear-by, after-hearing, ask, enough-rounds, from-rounds, deals, from-bids, canonical}
+use Rattle.auction.specs.Canonical.{Seat, all-over, zeros, seated, shares-for, splits-for, add-by, after-adding, deal-for, after-dealing, say-by, hear-by, after-hearing, ask, where-so, says-word, say-in, words-for, hear-round, hear-in, after-round, ask-in, enough-rounds, from-rounds, deals, from-bids, canonical}
 use Rattle.auction.specs.Run.{select, own}
-use Rattle.auction.proofs.Calls.{select-append, own-none, own-flatten, own-bundle}
+use Rattle.auction.proofs.Calls.{select-append, flatten-ones, own-none, own-flatten, own-bundle}
 
 -- ---- on a record that is not sound every call is refused
 
@@ -41,12 +44,12 @@ module _ (q : Party) (unsound : sound q ≡ false) where
   no-add totals bidder shares = ap is-accepted (refuses _ _ _ (rw unsound))
 
   no-say : (totals sheets : List ℕ) → is-accepted (say-judgement q totals sheets) ≡ false
-  unfolding turn-judgement is-accepted
+  unfolding say-judgement is-accepted
   no-say totals sheets = ap is-accepted (refuses _ _ _ (ap not unsound))
 
-  no-hear : (totals sheets messages : List ℕ) → is-accepted (hear-judgement q totals sheets messages) ≡ false
+  no-hear : (totals sheets messages present : List ℕ) → is-accepted (hear-judgement q totals sheets messages present) ≡ false
   unfolding hear-judgement is-accepted
-  no-hear totals sheets messages = ap is-accepted (refuses _ _ _ (ap not unsound))
+  no-hear totals sheets messages present = ap is-accepted (refuses _ _ _ (ap (λ (b : Bool). not (b && are-marks present)) unsound))
 
   no-answer : is-accepted (answer-judgement q) ≡ false
   unfolding answer-judgement is-accepted
@@ -91,17 +94,27 @@ module _ (j : ℕ) where
   none-append : (l m : List Call) → own j l ≡ [] → own j m ≡ [] → own j (l ++ m) ≡ []
   none-append l m p q = select-append _ l m ∙ rw (p, q)
 
-  none-map : {A : Type 0} (P : A → Type 0) (f : A → Call) → ((x : A) → P x → accepted (f x) && of-party j (whose (f x)) ≡ false)
-      → (xs : List A) → Each P xs → own j (map f xs) ≡ []
-  unfolding select
-  none-map P f g [] h = refl
-  none-map P f g (x ∷ xs) h = rw (g x (h .0), none-map P f g xs (h .1))
-
   away-map : {A : Type 0} (P : A → Type 0) (f : A → Seat) → ((x : A) → P x → Away (f x)) → (xs : List A) → Each P xs → Each Away (map f xs)
   away-map P f g [] h = tt
   away-map P f g (x ∷ xs) h = (g x (h .0), away-map P f g xs (h .1))
 
-  module _ (a : Auction) (c : Coins) (desk : Desk) where
+  none-each : {A : Type 0} (P : A → Type 0) (f : A → List Call) → ((x : A) → P x → own j (f x) ≡ []) → (xs : List A) → Each P xs
+      → own j (flatten (map f xs)) ≡ []
+  unfolding flatten
+  none-each P f g [] h = none-nil
+  none-each P f g (x ∷ xs) h = none-append (f x) (flatten (map f xs)) (g x (h .0)) (none-each P f g xs (h .1))
+
+  -- a call that is made or not
+  none-one : (made : Bool) (c : Call) → accepted c && of-party j (whose c) ≡ false → own j (where-so made c) ≡ []
+  unfolding select
+  none-one true c e = rw e
+  none-one false c e = refl
+
+  none-map : {A : Type 0} (P : A → Type 0) (f : A → Call) → ((x : A) → P x → accepted (f x) && of-party j (whose (f x)) ≡ false)
+      → (xs : List A) → Each P xs → own j (map f xs) ≡ []
+  none-map P f g xs h = ap (own j) (sym (flatten-ones f xs)) ∙ none-each P (λ x. f x ∷ []) (λ x p. none-one true (f x) (g x p)) xs h
+
+  module _ (a : Auction) (c : Coins) (marks : Marks) (desk : Desk) (att : Attendance) where
     away-seated : (i : ℕ) → eqb i j ≡ false → Away (seated a i)
     unfolding seated replied kept fresh
     away-seated i h = split (open-judgement (a .n) i (a .k) (zeros a))
@@ -116,25 +129,31 @@ module _ (j : ℕ) where
         left-away (s .party) (entered (s .party) (b .0 .bidder)) (add-judgement (s .party) (s .totals) (b .0 .bidder) (shares-for a desk b s))
         (λ e. no-add (s .party) e (s .totals) (b .0 .bidder) (shares-for a desk b s)) (entered-same (s .party) (b .0 .bidder) .own) h
 
-    away-heard : (words : List ℕ) (s : Seat) → Away s → Away (after-hearing a c words s)
-    unfolding after-hearing
-    away-heard words s h =
+    away-heard : (round : ℕ) (ss : List Seat) (s : Seat) → Away s → Away (after-round marks att round ss s)
+    unfolding after-round after-hearing
+    away-heard round ss s h =
+        let words = words-for marks att round (s .party .own) ss in
         let sheet = current (s .party) (s .sheets) in
-        let opening = heard (s .party .n) (s .party .round) words in
-        left-away (s .party) (after (s .party) sheet opening) (hear-judgement (s .party) (s .totals) (s .sheets) words)
-        (λ e. no-hear (s .party) e (s .totals) (s .sheets) words) (after-same (s .party) sheet opening .own) h
+        let opening = heard (s .party .n) (s .party .round) (marks round) words in
+        left-away (s .party) (after (s .party) sheet opening) (hear-judgement (s .party) (s .totals) (s .sheets) words (marks round))
+        (λ e. no-hear (s .party) e (s .totals) (s .sheets) words (marks round)) (after-same (s .party) sheet opening .own) h
 
-    none-asks : (ss : List Seat) → Each Away ss → own j (map (ask a c) ss) ≡ []
-    unfolding ask judgement whose of-party
-    none-asks ss h = none-map Away (ask a c) (λ s e. none-by (s .party) _ (no-answer (s .party)) e) ss h
+    none-asks : (round : ℕ) (ss : List Seat) → Each Away ss → own j (flatten (map (ask-in marks att round) ss)) ≡ []
+    unfolding ask-in ask judgement whose of-party
+    none-asks round ss h =
+        none-each Away (ask-in marks att round) (λ s e. none-one (leb round (att .hears (s .party .own))) (ask s) (none-by (s .party) _ (no-answer (s .party)) e)) ss h
 
-    none-says : (ss : List Seat) → Each Away ss → own j (map (say-by a c) ss) ≡ []
-    unfolding say-by judgement whose of-party
-    none-says ss h = none-map Away (say-by a c) (λ s e. none-by (s .party) _ (λ u. no-say (s .party) u (s .totals) (s .sheets)) e) ss h
+    none-says : (round : ℕ) (ss : List Seat) → Each Away ss → own j (flatten (map (say-in marks att round) ss)) ≡ []
+    unfolding say-in say-by judgement whose of-party
+    none-says round ss h =
+        none-each Away (say-in marks att round)
+        (λ s e. none-one (says-word marks att round (s .party .own)) (say-by s) (none-by (s .party) _ (λ u. no-say (s .party) u (s .totals) (s .sheets)) e)) ss h
 
-    none-hears : (words : List ℕ) (ss : List Seat) → Each Away ss → own j (map (hear-by a c words) ss) ≡ []
-    unfolding hear-by judgement whose of-party
-    none-hears words ss h = none-map Away (hear-by a c words) (λ s e. none-by (s .party) _ (λ u. no-hear (s .party) u (s .totals) (s .sheets) words) e) ss h
+    none-hears : (round : ℕ) (all ss : List Seat) → Each Away ss → own j (flatten (map (hear-in marks att round all) ss)) ≡ []
+    unfolding hear-in hear-round hear-by judgement whose of-party
+    none-hears round all ss h =
+        none-each Away (hear-in marks att round all)
+        (λ s e. none-one (ltb round (att .hears (s .party .own))) (hear-round marks att round all s) (none-by (s .party) _ (λ u. no-hear (s .party) u (s .totals) (s .sheets) _ _) e)) ss h
 
     none-adds : (b : DrawnBid) (ss : List Seat) → Each Away ss → own j (map (add-by a desk b) ss) ≡ []
     unfolding add-by judgement whose of-party
@@ -150,18 +169,17 @@ module _ (j : ℕ) where
     none-deals [] = none-nil
     none-deals (s ∷ ss) = none-append _ _ (own-none j (deal-for a c s) (c .sheets) (λ k. refl)) (none-deals ss)
 
-    none-rounds : (fuel : ℕ) (ss : List Seat) → Each Away ss → own j (from-rounds a c fuel ss) ≡ []
+    none-rounds : (fuel round : ℕ) (ss : List Seat) → Each Away ss → own j (from-rounds marks att fuel round ss) ≡ []
     unfolding from-rounds
-    none-rounds zero ss h = none-asks ss h
-    none-rounds (suc fuel) ss h =
-        let words = map (word-by a c) ss in
-        let rest = none-rounds fuel (map (after-hearing a c words) ss) (away-map Away (after-hearing a c words) (away-heard words) ss h) in
-        either (own j) (all-over ss) _ _ [] (none-asks ss h) (none-append _ _ (none-says ss h) (none-append _ _ (none-hears words ss h) rest))
+    none-rounds zero round ss h = none-asks round ss h
+    none-rounds (suc fuel) round ss h =
+        let rest = none-rounds fuel (suc round) (map (after-round marks att round ss) ss) (away-map Away (after-round marks att round ss) (away-heard round ss) ss h) in
+        either (own j) (all-over ss) _ _ [] (none-asks round ss h) (none-append _ _ (none-says round ss h) (none-append _ _ (none-hears round ss ss h) rest))
 
-    none-bids : (bs : List DrawnBid) (ss : List Seat) → Each Away ss → own j (from-bids a c desk bs ss) ≡ []
+    none-bids : (bs : List DrawnBid) (ss : List Seat) → Each Away ss → own j (from-bids a c marks desk att bs ss) ≡ []
     unfolding from-bids after-dealing
     none-bids [] ss h =
-        none-append _ _ (none-deals ss) (none-rounds (enough-rounds a) (map (after-dealing a c) ss) (away-map Away (after-dealing a c) (λ s e. e) ss h))
+        none-append _ _ (none-deals ss) (none-rounds (enough-rounds a) 0 (map (after-dealing a c) ss) (away-map Away (after-dealing a c) (λ s e. e) ss h))
     none-bids (b ∷ bs) ss h =
         let rest = none-bids bs (map (after-adding a desk b) ss) (away-map Away (after-adding a desk b) (away-added b) ss h) in
         none-append _ _ (none-splits b ss) (none-append _ _ (none-adds b ss h) rest)
@@ -181,7 +199,7 @@ module _ (j : ℕ) where
       none-opens = none-map (λ x. eqb x j ≡ false) _ (λ x e. and-false (accepted (open-call (a .n) x (a .k) (zeros a))) (eqb x j) e) (points (a .n)) away-points
 
       -- no call of the canonical list is party j's own
-      pub none-told : own j (canonical a c desk) ≡ []
+      pub none-told : own j (canonical a c marks desk att) ≡ []
       unfolding canonical
       none-told =
           none-append _ _ none-opens

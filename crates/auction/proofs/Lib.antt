@@ -1,4 +1,4 @@
--- Runs, and demands 2 and 3. The demands are proved in Proved; what it stands on is listed from the bottom up.
+-- Runs, and demands 2 and 3. The demands are proved in Proved; what it stands on is listed from the bottom up, and Alone stands on it.
 pub mod Closed
 pub mod Calls
 pub mod Totals
@@ -9,6 +9,7 @@ pub mod Sheets
 pub mod Carry
 pub mod Comparing
 pub mod Step
+pub mod Present
 pub mod Round
 pub mod Chain
 pub mod Probed
@@ -23,7 +24,9 @@ pub mod Plain
 pub mod Matched
 pub mod SameBids
 pub mod SameSheets
+pub mod Fixed
 pub mod SameProbes
 pub mod Match
 pub mod Canonical
 pub mod Proved
+pub mod Alone

@@ -4,7 +4,7 @@ use mathlib.Core.Path.{_≡_, refl, sym, ap, subst, _∙_}
 use mathlib.Core.Bool.{true}
 use mathlib.Core.List.{List, [], _∷_, map, zip, flatten, List·Memᴰ, List·Memᴰ·not-nil, List·Memᴰ·cases-cons}
 use mathlib.Core.Logic.{_⊎_, inl, inr}
-use Prim.Native.Nat.{ℕ, _-_, _*_, _≤_, _<_}
+use Prim.Native.Nat.{ℕ, _*_, _≤_, _<_}
 use native.Mathlib.Omega.{arith}
 use lib.ListN.{length, drop, getD, length-map}
 use Rattle.ranges.specs.Sizes.{sheet-size}
@@ -18,9 +18,9 @@ use Rattle.search.proofs.Balance.{same-promises}
 use Rattle.search.proofs.Bounds.{roomy-start}
 use Rattle.comparison.specs.Probe.{probe-messages, Each}
 use Rattle.comparison.proofs.Agreement.{In}
-use Rattle.auction.specs.Auction.{Auction, Bid, IsAuction, demand, supply}
+use Rattle.auction.specs.Auction.{Auction, Bid, IsAuction, demand, supply, probed}
 use Rattle.auction.specs.Coins.{Coins, InRange, flat}
-use Rattle.auction.specs.Demands.{Alike, Pool, probed, stays, Stay}
+use Rattle.auction.specs.Demands.{Alike, Pool, stays, Stay}
 use Rattle.auction.proofs.Matched.{matched-bids, matched-sheets, match-coins}
 use Rattle.auction.proofs.Closed.{totals-after, no-totals, at-party, bid-words, polynomials, decision, made, spoken, sheets-at, probes}
 use Rattle.auction.proofs.Totals.{all-good, no-totals-held, totals-monotone}

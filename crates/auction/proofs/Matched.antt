@@ -7,9 +7,8 @@ use Rattle.sharing.proofs.Laws.{recolour}
 use Rattle.search.specs.Search.{Decision}
 use Rattle.comparison.specs.Probe.{SheetCoins}
 use Rattle.comparison.proofs.Matched.{moved, matched}
-use Rattle.auction.specs.Auction.{Auction, Bid, left-side, right-side}
+use Rattle.auction.specs.Auction.{Auction, Bid, left-side, right-side, probed}
 use Rattle.auction.specs.Coins.{Coins}
-use Rattle.auction.specs.Demands.{probed}
 
 -- what a probe opens: T = 2^59 + 2^32 - mask + demand - supply
 abbrev pub opening : (demand supply mask : ℕ) → ℕ

@@ -1,8 +1,8 @@
 -- What is read off any run is what is read off the canonical list; and which changes of a list keep it a run. Assumes nothing.
 use mathlib.Core.Path.{_≡_, refl, sym, ap, ap₂, _∙_}
-use mathlib.Core.Logic.{_↔_}
+use mathlib.Core.Logic.{_↔_, ⊎-elim}
 use mathlib.Core.Bool.{Bool, true, false, _&&_, true≢false}
-use mathlib.Core.List.{List, [], _∷_, _++_, head-eq-of-cons-eq, tail-eq-of-cons-eq, cons≢nil}
+use mathlib.Core.List.{List, [], _∷_, _++_, head-eq-of-cons-eq, tail-eq-of-cons-eq, cons≢nil, List·Memᴰ, List·Memᴰ·head, List·Memᴰ·tail, List·Memᴰ·cases-cons}
 use mathlib.Core.Option.{Option, none, some}
 use Prim.Native.Nat.{ℕ, suc, _*_, _≤_}
 use native.Mathlib.Omega.{arith}
@@ -18,24 +18,28 @@ use Rattle.sharing.specs.Scheme.{threshold}
 use Rattle.auction.specs.Auction.{Auction}
 use Rattle.auction.specs.Coins.{Coins}
 use Rattle.auction.specs.Desk.{by-entries, Desk, Complete}
+use Rattle.auction.specs.Attendance.{Marks, Attendance, Attends}
 use Rattle.auction.specs.Call.{Call, split-entry-call, say-call, answer-call, accepted, Whose, party, service, whose, of-party, of-service, given}
 use Rattle.auction.specs.Canonical.{entry-calls, canonical}
 use Rattle.auction.specs.Run.{Run, Repeats, select, own, services}
-use Rattle.auction.specs.Received.{collect, bid-in, hearing-in, asking-in, received-bids, hearings, askings, messages, sheets, decisions, verdicts}
+use Rattle.auction.specs.Received.{collect, bid-in, Saying, saying-in, hearing-in, asking-in, received-bids, sayings, hearings, askings}
 use Rattle.auction.proofs.Selected.{with-call, select-cons, select-skip}
-use Rattle.auction.proofs.Calls.{select-append}
+use Rattle.auction.proofs.Calls.{select-append, with-read}
 use Rattle.auction.proofs.Repeats.{repeats-refl, repeats-say, repeats-ask, repeats-none}
 use Rattle.auction.proofs.Elsewhere.{none-told}
 
 -- ---- the canonical list is a run
 
-pub canonical-run : (a : Auction) (c : Coins) (desk : Desk) → Complete (a .k) desk → Run a c (canonical a c desk)
-canonical-run a c desk D =
+unfoldable pub canonical-run : (a : Auction) (c : Coins) (marks : Marks) (desk : Desk) → Complete (a .k) desk → (att : Attendance) → Attends a marks att
+    → Run a c marks (canonical a c marks desk att)
+canonical-run a c marks desk D att T =
     record {
       desk = desk;
       complete = D;
-      parties = λ j. repeats-refl (own j (canonical a c desk));
-      others = shuffle-refl (services (canonical a c desk));
+      attendance = att;
+      attends = T;
+      parties = λ j. repeats-refl (own j (canonical a c marks desk att));
+      others = shuffle-refl (services (canonical a c marks desk att));
     }
 
 -- each of its entries in turn, or in any order, on any slice: so is a bundle written in some run
@@ -57,10 +61,6 @@ lent-in-turn a own table coins (e ∷ before) after lent =
 
 -- ---- what is read off a run
 
--- one call more, as a reader takes it
-abbrev with-read : {B : Type 0} → Option B → List B → List B
-with-read o ys = elim o [ none ↦ ys | some y ↦ y ∷ ys ]
-
 -- a reader that passes over sayings and askings
 module _ {B : Type 0} (f : Call → Option B) (no-say : (q : Party) (t s : List ℕ) → f (say-call q t s) ≡ none)
     (no-ask : (q : Party) → f (answer-call q) ≡ none) where
@@ -71,26 +71,57 @@ module _ {B : Type 0} (f : Call → Option B) (no-say : (q : Party) (t s : List 
   same-reading (Repeats.say-again {q} {totals = t} {sheets = s} {ds} h) = ap (λ o. with-read o (collect f ds)) (no-say q t s) ∙ same-reading h
   same-reading (Repeats.ask-again {q} {ds} h) = ap (λ o. with-read o (collect f ds)) (no-ask q) ∙ same-reading h
 
-module _ (a : Auction) (c : Coins) (l : List Call) (run : Run a c l) (j : ℕ) where
-  pub run-bids : received-bids j l ≡ received-bids j (canonical a c (run .desk))
+-- the canonical list of a run
+abbrev pub told : {a : Auction} {c : Coins} {marks : Marks} {l : List Call} → Run a c marks l → List Call
+told {a} {c} {marks} run = canonical a c marks (run .desk) (run .attendance)
+
+module _ (a : Auction) (c : Coins) (marks : Marks) (l : List Call) (run : Run a c marks l) (j : ℕ) where
+  pub run-bids : received-bids j l ≡ received-bids j (told run)
   unfolding bid-in
   run-bids = same-reading bid-in (λ q t s. refl) (λ q. refl) (run .parties j)
 
-  pub run-hearings : hearings j l ≡ hearings j (canonical a c (run .desk))
+  pub run-hearings : hearings j l ≡ hearings j (told run)
   unfolding hearing-in
   run-hearings = same-reading hearing-in (λ q t s. refl) (λ q. refl) (run .parties j)
 
-  pub run-messages : messages j l ≡ messages j (canonical a c (run .desk))
-  run-messages = rw run-hearings
+-- ---- sayings repeated
 
-  pub run-sheets : sheets j l ≡ sheets j (canonical a c (run .desk))
-  run-sheets = rw run-hearings
+-- what is said is said in the canonical list, and what is said there is said
+module _ {B : Type 0} (f : Call → Option B) (x : B) where
+  read-in : (o : Option B) (xs ys : List B) → (List·Memᴰ x ys → List·Memᴰ x xs) → List·Memᴰ x (with-read o ys) → List·Memᴰ x (with-read o xs)
+  read-in none xs ys g m = g m
+  read-in (some y) xs ys g m = ⊎-elim (λ e. List·Memᴰ·head e) (λ m′. List·Memᴰ·tail (g m′)) (List·Memᴰ·cases-cons m)
 
-  pub run-decisions : decisions j l ≡ decisions j (canonical a c (run .desk))
-  run-decisions = rw run-hearings
+  -- of a call that is repeated
+  read-once : (o : Option B) (xs ys : List B) → (List·Memᴰ x ys → List·Memᴰ x (with-read o xs)) → List·Memᴰ x (with-read o ys) → List·Memᴰ x (with-read o xs)
+  read-once none xs ys g m = g m
+  read-once (some y) xs ys g m = ⊎-elim (λ e. List·Memᴰ·head e) g (List·Memᴰ·cases-cons m)
 
-  pub run-verdicts : verdicts j l ≡ verdicts j (canonical a c (run .desk))
-  run-verdicts = rw run-hearings
+  read-more : (o : Option B) (ys : List B) → List·Memᴰ x ys → List·Memᴰ x (with-read o ys)
+  read-more none ys m = m
+  read-more (some y) ys m = List·Memᴰ·tail m
+
+  only-said : {cs ds : List Call} → Repeats cs ds → List·Memᴰ x (collect f ds) → List·Memᴰ x (collect f cs)
+  unfolding collect
+  only-said Repeats.end m = m
+  only-said (Repeats.next {c} {cs} {ds} h) m = read-in (f c) (collect f cs) (collect f ds) (λ m′. only-said h m′) m
+  only-said (Repeats.say-again {q} {totals} {sheets} {cs} {ds} h) m =
+      read-once (f (say-call q totals sheets)) (collect f cs) (collect f ds) (λ m′. only-said h m′) m
+  only-said (Repeats.ask-again {q} {cs} {ds} h) m = read-once (f (answer-call q)) (collect f cs) (collect f ds) (λ m′. only-said h m′) m
+
+  all-said : {cs ds : List Call} → Repeats cs ds → List·Memᴰ x (collect f cs) → List·Memᴰ x (collect f ds)
+  unfolding collect
+  all-said Repeats.end m = m
+  all-said (Repeats.next {c} {cs} {ds} h) m = read-in (f c) (collect f ds) (collect f cs) (λ m′. all-said h m′) m
+  all-said (Repeats.say-again {q} {totals} {sheets} {ds} h) m = read-more (f (say-call q totals sheets)) (collect f ds) (all-said h m)
+  all-said (Repeats.ask-again {q} {ds} h) m = read-more (f (answer-call q)) (collect f ds) (all-said h m)
+
+module _ (a : Auction) (c : Coins) (marks : Marks) (l : List Call) (run : Run a c marks l) (j : ℕ) (x : Saying) where
+  pub run-sayings : List·Memᴰ x (sayings j l) → List·Memᴰ x (sayings j (told run))
+  run-sayings = only-said saying-in x (run .parties j)
+
+  pub run-says : List·Memᴰ x (sayings j (told run)) → List·Memᴰ x (sayings j l)
+  run-says = all-said saying-in x (run .parties j)
 
 -- ---- askings repeated
 
@@ -125,20 +156,31 @@ more-askings (Repeats.ask-again h) x e =
     let w = more-askings h x e in
     (suc (w .0), ap₂ (λ y ys. y ∷ ys) (head-eq-of-cons-eq e) (w .1))
 
--- a party that asks once in the canonical list asks once or more with the same record
-pub run-askings : (a : Auction) (c : Coins) (l : List Call) (run : Run a c l) (j : ℕ) (x : Party)
-    → askings j (canonical a c (run .desk)) ≡ x ∷ [] → (m : ℕ) × (askings j l ≡ replicate (suc m) x)
-run-askings a c l run j x e = more-askings (run .parties j) x e
+-- a party that asks once in the canonical list asks once or more with the same record, and one that does not asks never
+module _ (a : Auction) (c : Coins) (marks : Marks) (l : List Call) (run : Run a c marks l) (j : ℕ) where
+  pub run-askings : (x : Party) → askings j (told run) ≡ x ∷ [] → (m : ℕ) × (askings j l ≡ replicate (suc m) x)
+  run-askings x e = more-askings (run .parties j) x e
+
+  pub run-asks-not : askings j (told run) ≡ [] → askings j l ≡ []
+  run-asks-not e = no-askings (run .parties j) e
 
 -- ---- parties that there are not
 
-pub run-none-else : (a : Auction) (c : Coins) (l : List Call) → Run a c l → (j : ℕ) → (1 ≤ j → j ≤ a .n → ⊥) → own j l ≡ []
-run-none-else a c l run j outside = repeats-none (rw (none-told j a c (run .desk) outside) at (run .parties j))
+pub run-none-else : (a : Auction) (c : Coins) (marks : Marks) (l : List Call) → Run a c marks l → (j : ℕ) → (1 ≤ j → j ≤ a .n → ⊥) → own j l ≡ []
+run-none-else a c marks l run j outside = repeats-none (rw (none-told j a c marks (run .desk) (run .attendance) outside) at (run .parties j))
 
--- another list is a run too, with the bundles written in the same ways
-with-calls : {a : Auction} {c : Coins} {l m : List Call} (r : Run a c l) → ((j : ℕ) → Repeats (own j (canonical a c (r .desk))) (own j m))
-    → Shuffle (services (canonical a c (r .desk))) (services m) → Run a c m
-with-calls r parties others = record { desk = r .desk; complete = r .complete; parties = parties; others = others }
+-- another list is a run too, with the bundles written in the same ways and the same attendance
+with-calls : {a : Auction} {c : Coins} {marks : Marks} {l m : List Call} (r : Run a c marks l) → ((j : ℕ) → Repeats (own j (told r)) (own j m))
+    → Shuffle (services (told r)) (services m) → Run a c marks m
+with-calls r parties others =
+    record {
+      desk = r .desk;
+      complete = r .complete;
+      attendance = r .attendance;
+      attends = r .attends;
+      parties = parties;
+      others = others;
+    }
 
 -- the tests that tell whose calls are taken
 abbrev owned : ℕ → Call → Bool
@@ -156,9 +198,9 @@ module _ (x : Call) (refused : accepted x ≡ false) (l m : List Call) where
   services-skip : services (l ++ m) ≡ services (l ++ (x ∷ m))
   services-skip = select-skip served x (ap (λ b. b && of-service (whose x)) refused) l m
 
-pub refusals-anywhere : (a : Auction) (c : Coins) (x : Call) → accepted x ≡ false → (l m : List Call)
-    → Run a c (l ++ m) ↔ Run a c (l ++ (x ∷ m))
-refusals-anywhere a c x e l m = (
+pub refusals-anywhere : (a : Auction) (c : Coins) (marks : Marks) (x : Call) → accepted x ≡ false → (l m : List Call)
+    → Run a c marks (l ++ m) ↔ Run a c marks (l ++ (x ∷ m))
+refusals-anywhere a c marks x e l m = (
   (λ r. with-calls r (λ j. rw (own-skip x e l m j) at (r .parties j)) (rw (services-skip x e l m) at (r .others))),
   (λ r. with-calls r (λ j. rw (own-skip x e l m j) (r .parties j)) (rw (services-skip x e l m) (r .others))),
 )
@@ -206,15 +248,15 @@ module _ (x y : Call) (l m : List Call) where
       rw (select-two served l m y x) (with-both (served x) (served y) x y cs (services l) (services m) (rw (select-two served l m x y) at h))
 
 -- two neighbours that are no calls of the same party
-pub swap-parties : (a : Auction) (c : Coins) (x y : Call) (l m : List Call) → ((j : ℕ) → whose x ≡ party j → whose y ≡ party j → ⊥)
-    → Run a c (l ++ (x ∷ y ∷ m)) → Run a c (l ++ (y ∷ x ∷ m))
-swap-parties a c x y l m apart r =
-    with-calls r (λ j. rw (own-swap x y l m j (apart j)) at (r .parties j)) (services-swap x y l m (services (canonical a c (r .desk))) (r .others))
+pub swap-parties : (a : Auction) (c : Coins) (marks : Marks) (x y : Call) (l m : List Call) → ((j : ℕ) → whose x ≡ party j → whose y ≡ party j → ⊥)
+    → Run a c marks (l ++ (x ∷ y ∷ m)) → Run a c marks (l ++ (y ∷ x ∷ m))
+swap-parties a c marks x y l m apart r =
+    with-calls r (λ j. rw (own-swap x y l m j (apart j)) at (r .parties j)) (services-swap x y l m (services (told r)) (r .others))
 
 -- two neighbours of the bidders and the dealer
-pub swap-services : (a : Auction) (c : Coins) (x y : Call) (l m : List Call) → whose x ≡ service → whose y ≡ service
-    → Run a c (l ++ (x ∷ y ∷ m)) → Run a c (l ++ (y ∷ x ∷ m))
-swap-services a c x y l m p q r = swap-parties a c x y l m (λ j e f. let z : _≡_ {A = ℕ} 0 1 = cc in omega arith) r
+pub swap-services : (a : Auction) (c : Coins) (marks : Marks) (x y : Call) (l m : List Call) → whose x ≡ service → whose y ≡ service
+    → Run a c marks (l ++ (x ∷ y ∷ m)) → Run a c marks (l ++ (y ∷ x ∷ m))
+swap-services a c marks x y l m p q r = swap-parties a c marks x y l m (λ j e f. let z : _≡_ {A = ℕ} 0 1 = cc in omega arith) r
 
 -- ---- a saying or an asking twice
 
@@ -223,27 +265,27 @@ not-served : (i : ℕ) (w : Whose) (b : Bool) → w ≡ party i → b && of-serv
 unfolding of-service
 not-served i w b e = and-false b (of-service w) (ap of-service e)
 
-module _ (a : Auction) (c : Coins) (x : Call) (l m : List Call)
+module _ (a : Auction) (c : Coins) (marks : Marks) (x : Call) (l m : List Call)
     (doubles : (cs ds es : List Call) → Repeats cs (ds ++ (given x ∷ es)) → Repeats cs (ds ++ (given x ∷ given x ∷ es))) where
   with-twice : (b : Bool) (cs ds es : List Call) → Repeats cs (ds ++ with-call b x es) → Repeats cs (ds ++ with-call b x (with-call b x es))
   with-twice true cs ds es h = doubles cs ds es h
   with-twice false cs ds es h = h
 
-  twice : (i : ℕ) → whose x ≡ party i → Run a c (l ++ (x ∷ m)) → Run a c (l ++ (x ∷ x ∷ m))
+  twice : (i : ℕ) → whose x ≡ party i → Run a c marks (l ++ (x ∷ m)) → Run a c marks (l ++ (x ∷ x ∷ m))
   twice i e r =
       with-calls r
       (λ j.
       rw (select-two (owned j) l m x x)
-      (with-twice (owned j x) (own j (canonical a c (r .desk))) (own j l) (own j m) (rw (select-one (owned j) l m x) at (r .parties j))))
+      (with-twice (owned j x) (own j (told r)) (own j l) (own j m) (rw (select-one (owned j) l m x) at (r .parties j))))
       (rw (select-skip served x (not-served i (whose x) (accepted x) e) l (x ∷ m)) at (r .others))
 
 -- accepted or not
-pub say-twice : (a : Auction) (c : Coins) (q : Party) (t s : List ℕ) (l m : List Call)
-    → Run a c (l ++ (say-call q t s ∷ m)) → Run a c (l ++ (say-call q t s ∷ say-call q t s ∷ m))
+pub say-twice : (a : Auction) (c : Coins) (marks : Marks) (q : Party) (t s : List ℕ) (l m : List Call)
+    → Run a c marks (l ++ (say-call q t s ∷ m)) → Run a c marks (l ++ (say-call q t s ∷ say-call q t s ∷ m))
 unfolding whose given
-say-twice a c q t s l m r = twice a c (say-call q t s) l m (λ cs ds es. repeats-say cs q t s ds es) (q .own) refl r
+say-twice a c marks q t s l m r = twice a c marks (say-call q t s) l m (λ cs ds es. repeats-say cs q t s ds es) (q .own) refl r
 
-pub ask-twice : (a : Auction) (c : Coins) (q : Party) (l m : List Call)
-    → Run a c (l ++ (answer-call q ∷ m)) → Run a c (l ++ (answer-call q ∷ answer-call q ∷ m))
+pub ask-twice : (a : Auction) (c : Coins) (marks : Marks) (q : Party) (l m : List Call)
+    → Run a c marks (l ++ (answer-call q ∷ m)) → Run a c marks (l ++ (answer-call q ∷ answer-call q ∷ m))
 unfolding whose given
-ask-twice a c q l m r = twice a c (answer-call q) l m (λ cs ds es. repeats-ask cs q ds es) (q .own) refl r
+ask-twice a c marks q l m r = twice a c marks (answer-call q) l m (λ cs ds es. repeats-ask cs q ds es) (q .own) refl r

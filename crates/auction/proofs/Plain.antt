@@ -14,9 +14,9 @@ use Rattle.search.specs.Limit.{most-probes}
 use Rattle.search.specs.Search.{Decision}
 use Rattle.comparison.specs.Probe.{SheetCoins, SheetInRange, Group, Each}
 use Rattle.comparison.proofs.Plain.{each-replicate, zeros-group, plain-coins, plain-mask, plain-ranged}
-use Rattle.auction.specs.Auction.{Auction, IsAuction, left-side, right-side}
+use Rattle.auction.specs.Auction.{Auction, IsAuction, left-side, right-side, probed}
 use Rattle.auction.specs.Coins.{Coins, InRange}
-use Rattle.auction.specs.Demands.{probed, stays, Stay}
+use Rattle.auction.specs.Demands.{stays, Stay}
 use Rattle.auction.proofs.Totals.{left-small, right-small}
 
 module _ (a : Auction) where

@@ -1,38 +1,54 @@
 -- DEMANDS 2 AND 3, of every run of every auction. Assumes nothing.
 use mathlib.Core.Path.{_≡_, refl, sym, ap, ap₂, subst, _∙_}
+use mathlib.Core.Bool.{Bool, true, false, cond}
 use mathlib.Core.List.{List, [], _∷_, map, flatten, List·Memᴰ, List·Memᴰ·cases-cons, List·Memᴰ·not-nil}
-use mathlib.Core.Logic.{⊎-elim}
-use Prim.Native.Nat.{ℕ, zero, suc, _+_, _*_, _/_, _≤_, _<_}
+use mathlib.Core.Logic.{_↔_, ⊎-elim}
+use Prim.Native.Nat.{ℕ, zero, suc, _+_, _-_, _*_, _/_, _≤_, _<_, min}
+use native.Mathlib.Nat.{zero-add}
+use native.Mathlib.Decide.{decLe}
 use native.Mathlib.Omega.{arith}
-use lib.ListN.{length, drop, getD, replicate, getD-replicate}
+use lib.Dec.{leb}
+use lib.ListN.{length, take, drop, getD, replicate, length-map, length-take}
+use lib.Seq.{take-all, take-length}
+use borrow.Author.Tests.{leb-true, leb-false}
 use Rattle.ranges.specs.Sizes.{sheet-size, probe-rounds}
 use Rattle.ranges.specs.Distinct.{Distinct}
+use Rattle.presence.specs.Presence.{is-present}
 use Rattle.search.specs.Limit.{most-probes}
 use Rattle.search.specs.Searches.{first-search}
-use Rattle.search.specs.Search.{promise, made-in}
+use Rattle.search.specs.Clearing.{price-index}
+use Rattle.search.specs.Search.{promise, Decision, made-in}
 use Rattle.search.proofs.Balance.{equal-between, equal-nowhere-else, all-equal}
 use Rattle.search.proofs.Trails.{trail-given}
 use Rattle.ranges.specs.Lists.{member}
+use Rattle.ranges.proofs.Loops.{map-take}
 use Rattle.roll.specs.Marks.{marked}
 use Rattle.roll.proofs.Entry.{entered-marked}
 use Rattle.record.specs.declared.Party.{Party}
 use Rattle.session.specs.declared.reply.Answer.the-variants.{Cleared}
 use Rattle.session.specs.Answer.{answer-reply}
-use Rattle.auction.specs.Auction.{Auction, bidders, IsAuction, sum, demand, supply, clearing-answer, balanced-answer, price-answer}
+use Rattle.auction.specs.Auction.{Auction, bidders, IsAuction, sum, demand, supply, clearing-answer, balanced-answer, price-answer, probed, rounds}
 use Rattle.auction.specs.Coins.{Coins, InRange}
+use Rattle.auction.specs.Attendance.{Marks, EnoughPresent}
+use Rattle.auction.specs.Canonical.{sheets-for}
 use Rattle.auction.specs.Call.{Call}
 use Rattle.auction.specs.Run.{Run}
-use Rattle.auction.specs.Received.{received-bids, sheets, messages, decisions, verdicts, unused}
-use Rattle.auction.specs.Demands.{probed, Found, Outcome, Demand2, Alike, Pool, Same, Matched, Demand3}
+use Rattle.auction.specs.Received.{collect, decision-in, Saying, received-bids, sayings, hearings, askings, answers, messages, decisions, verdicts}
+use Rattle.auction.specs.Demands.{Found, Outcome, Demand2, Alike, Pool, AsFar, SaidAlike, unused, Same, Matched, Demand3}
 use Rattle.auction.proofs.Matched.{match-coins}
-use Rattle.auction.proofs.Closed.{bid-words, full-roll, decision, all-spoken, record-at, sheets-at, probes}
-use Rattle.auction.proofs.Orders.{canonical-run, run-bids, run-messages, run-sheets, run-decisions, run-verdicts, run-askings}
-use Rattle.auction.proofs.Canonical.{canonical-accepted, canonical-bids, canonical-messages, canonical-sheets, canonical-decisions, canonical-many, canonical-askings}
+use Rattle.auction.proofs.Closed.{bid-words, full-roll, all-spoken, record-at, sheets-at, probes}
+use Rattle.auction.proofs.Setup.{sheets-dealt}
+use Rattle.auction.proofs.Orders.{canonical-run, told, run-bids, run-hearings, run-sayings, run-says, run-askings, run-asks-not}
+use Rattle.auction.proofs.Canonical.{canonical-accepted, canonical-bids, canonical-heard, canonical-rolled, canonical-messages, canonical-decisions, canonical-askings, canonical-sayings, canonical-says}
 use Rattle.auction.proofs.Totals.{totals-monotone}
-use Rattle.auction.proofs.Search.{probes-trail, probes-few, probes-some, highest-found, lowest-found, none-found, spent-found}
+use Rattle.auction.proofs.Search.{whole, probes-trail, probes-many, probes-few, highest-found, lowest-found, none-found, spent-found}
+use Rattle.sharing.specs.Scheme.{threshold}
+use Rattle.comparison.specs.Probe.{Each}
+use Rattle.comparison.proofs.Dealt.{ProbeShared}
 use Rattle.comparison.proofs.Plain.{each-replicate}
-use Rattle.auction.proofs.Rounds.{end, end-answer}
+use Rattle.auction.proofs.Rounds.{end, end-answer, present-of, spoken-word, Says}
 use Rattle.auction.proofs.Falling.{few-fall}
+use Rattle.auction.proofs.Fixed.{all-fixed}
 use Rattle.auction.proofs.Match.{Match, matching}
 
 -- ---- lists
@@ -41,9 +57,43 @@ map-replicate : {A B : Type 0} (f : A → B) (m : ℕ) (x : A) → map f (replic
 map-replicate f zero x = refl
 map-replicate {B} f (suc m) x = ap (λ (l : List B). f x ∷ l) (map-replicate f m x)
 
--- what is repeated at least once is known
-once : {A : Type 0} (m m′ : ℕ) (x y : A) → 0 < m → 0 < m′ → replicate m x ≡ replicate m′ y → x ≡ y
-once {A} m m′ x y h h′ e = sym (getD-replicate m 0 x x h) ∙ ap (λ (l : List A). getD l 0 x) e ∙ getD-replicate m′ 0 y x h′
+times-same : {A : Type 0} (m : ℕ) {x y : A} → (0 < m → x ≡ y) → replicate m x ≡ replicate m y
+times-same zero h = refl
+times-same {A} (suc m) h = ap (replicate (suc m)) (h (omega arith))
+
+each-times : {A : Type 0} (Q : A → Type 0) (m : ℕ) (x : A) → (0 < m → Q x) → Each Q (replicate m x)
+each-times Q zero x h = tt
+each-times Q (suc m) x h = each-replicate Q (suc m) x (h (omega arith))
+
+repeated : {A : Type 0} (m k : ℕ) (x : A) → AsFar (replicate m x) (replicate k x)
+repeated zero k x = tt
+repeated (suc m) zero x = tt
+repeated (suc m) (suc k) x = (refl, repeated m k x)
+
+-- two beginnings of a list are the same as far as both go
+as-far : {A : Type 0} (m k : ℕ) (xs : List A) → AsFar (take m xs) (take k xs)
+as-far zero k xs = tt
+as-far (suc m) k [] = tt
+as-far (suc m) zero (x ∷ xs) = tt
+as-far (suc m) (suc k) (x ∷ xs) = (refl, as-far m k xs)
+
+as-often : {A : Type 0} (m k : ℕ) (x : A) {ys zs : List A} → ys ≡ replicate m x → zs ≡ replicate k x → AsFar ys zs
+as-often m k x e f = rw (e, f) (repeated m k x)
+
+far-as : {A : Type 0} (m k : ℕ) (xs : List A) {ys zs : List A} → ys ≡ take m xs → zs ≡ take k xs → AsFar ys zs
+far-as m k xs e f = rw (e, f) (as-far m k xs)
+
+-- the probes of as many rounds as there are, and of more
+probes-in : {A : Type 0} (m : ℕ) (xs : List A) → take (m / probe-rounds) xs ≡ take (min m (probe-rounds * length xs) / probe-rounds) xs
+probes-in {A} m xs =
+    elim (decLe m (probe-rounds * length xs)) [
+      | yes le ↦
+          let e : m ≡ min m (probe-rounds * length xs) = omega arith in
+          ap (λ (k : ℕ). take (k / probe-rounds) xs) e
+      | no gt ↦
+          let e : length xs ≡ min m (probe-rounds * length xs) / probe-rounds = omega arith in
+          take-all (m / probe-rounds) xs (omega arith) ∙ sym (take-length xs) ∙ ap (λ (k : ℕ). take k xs) e
+    ]
 
 -- a pooled party is one of the n
 pooled : (n j : ℕ) (xs : List ℕ) → Distinct n xs → List·Memᴰ j xs → (1 ≤ j) × (j ≤ n)
@@ -53,29 +103,37 @@ pooled n j (x ∷ xs) P m =
 
 -- ---- what every run has, in closed form
 
-module _ (a : Auction) (c : Coins) (A : IsAuction a) (C : InRange a c) (l : List Call) (run : Run a c l) (j : ℕ) (j1 : 1 ≤ j) (jn : j ≤ a .n) where
+module _ (a : Auction) (c : Coins) (A : IsAuction a) (C : InRange a c) (marks : Marks) (M : EnoughPresent a marks)
+    (l : List Call) (run : Run a c marks l) (j : ℕ) (j1 : 1 ≤ j) (jn : j ≤ a .n) where
+  -- how many rounds the party hears, if there are so many
+  abbrev most : ℕ
+  most = run .attendance .hears j
+
   bids-are : received-bids j l ≡ bid-words j (a .bids) (c .bids)
-  bids-are = run-bids a c l run j ∙ canonical-bids a c A C (run .desk) (run .complete) j j1 jn
+  bids-are = run-bids a c marks l run j ∙ canonical-bids a c A C marks M (run .desk) (run .complete) (run .attendance) j j1 jn
 
-  messages-are : messages j l ≡ all-spoken (a .n) (probes a c)
-  messages-are = run-messages a c l run j ∙ canonical-messages a c A C (run .desk) (run .complete) j j1 jn
+  heard-are : length (hearings j l) ≡ min most (rounds a)
+  heard-are = ap length (run-hearings a c marks l run j) ∙ canonical-heard a c A C marks M (run .desk) (run .complete) (run .attendance) j j1 jn
 
-  sheets-are : sheets j l ≡ replicate (probe-rounds * length (probes a c)) (sheets-at a c j)
-  sheets-are = run-sheets a c l run j ∙ canonical-sheets a c A C (run .desk) (run .complete) j j1 jn
+  messages-are : messages j l ≡ take most (present-of marks 0 (all-spoken (a .n) (probes a c)))
+  messages-are = ap (map _) (run-hearings a c marks l run j) ∙ canonical-messages a c A C marks M (run .desk) (run .complete) (run .attendance) j j1 jn
 
-  decisions-are : decisions j l ≡ map decision (probes a c)
-  decisions-are = run-decisions a c l run j ∙ canonical-decisions a c A C (run .desk) (run .complete) j j1 jn
+  decisions-are : decisions j l ≡ take (most / probe-rounds) (probed a)
+  decisions-are =
+      ap (collect decision-in) (run-hearings a c marks l run j) ∙ canonical-decisions a c A C marks M (run .desk) (run .complete) (run .attendance) j j1 jn
+      ∙ ap (take (most / probe-rounds)) (probes-trail a c A C)
 
-  verdicts-are : verdicts j l ≡ map (λ d. d .verdict) (map decision (probes a c))
-  verdicts-are = ap (map (λ d. d .verdict)) decisions-are
+  verdicts-are : verdicts j l ≡ take (most / probe-rounds) (map (λ d. d .verdict) (probed a))
+  verdicts-are = ap (map (λ d. d .verdict)) decisions-are ∙ map-take (λ d. d .verdict) (most / probe-rounds) (probed a)
 
-  many : length (verdicts j l) ≡ length (probes a c)
-  many = ap length (run-verdicts a c l run j) ∙ canonical-many a c A C (run .desk) (run .complete) j j1 jn
+  sayings-are : (x : Saying) → List·Memᴰ x (sayings j l) → (i : ℕ) × Says a c i j x
+  sayings-are x m =
+      canonical-sayings a c A C marks M (run .desk) (run .complete) (run .attendance) j j1 jn x (run-sayings a c marks l run j x m)
 
-  unused-are : unused j l ≡ replicate (probe-rounds * length (probes a c)) (drop (sheet-size * length (probes a c)) (sheets-at a c j))
-  unused-are =
-      ap₂ (λ (m : ℕ) (xs : List (List ℕ)). map (drop (sheet-size * m)) xs) many sheets-are
-      ∙ map-replicate (drop (sheet-size * length (probes a c))) (probe-rounds * length (probes a c)) (sheets-at a c j)
+  says-are : (i : ℕ) → i < rounds a → is-present (marks i) j ≡ true → (x : Saying) × Says a c i j x × List·Memᴰ x (sayings j l)
+  says-are i h p =
+      let r = canonical-says a c A C marks M (run .desk) (run .complete) (run .attendance) j j1 jn i h p (run .attends i j h j1 p) in
+      (r .0, r .1, run-says a c marks l run j (r .0) (r .2))
 
   -- ---- demand 2
 
@@ -84,41 +142,106 @@ module _ (a : Auction) (c : Coins) (A : IsAuction a) (C : InRange a c) (l : List
   unfolding record-at full-roll
   marked-are = entered-marked (bidders a) (A .bidders)
 
-  -- what the searches found, at the end
-  found-are : Found a (decisions j l) (record-at a c (end a c A C) j)
-  unfolding record-at
-  found-are =
-      record {
-        highest = highest-found a c A C;
-        its-probes = spent-found a c A C ∙ ap (made-in 1) (sym (decisions-are ∙ probes-trail a c A C));
-        lowest = lowest-found a c A C;
-        none = none-found a c A C;
-      }
+  -- a party that hears all the rounds
+  module _ (all : rounds a ≤ most) where
+    abbrev q : Party
+    q = record-at a c (end a c A C) j
 
-  outcome : Outcome a l j
+    decided-all : decisions j l ≡ probed a
+    decided-all = decisions-are ∙ take-all (most / probe-rounds) (probed a) (omega arith)
+
+    many-all : length (verdicts j l) ≡ length (probed a)
+    many-all = length-map (decisions j l) (λ d. d .verdict) ∙ ap length decided-all
+
+    -- what the searches found, at the end
+    found-are : Found a (decisions j l) q
+    unfolding record-at
+    found-are =
+        record {
+          highest = highest-found a c A C;
+          its-probes = spent-found a c A C ∙ ap (made-in 1) (sym decided-all);
+          lowest = lowest-found a c A C;
+          none = none-found a c A C;
+        }
+
+  -- it asks with the last record where it has heard all, else not at all
+  record Asks : Type 0 where
+    times : ℕ
+    once-over : (length (hearings j l) ≡ rounds a) ↔ (0 < times)
+    asked-with : askings j l ≡ replicate times (record-at a c (end a c A C) j)
+
+  asks : Asks
+  asks = split (leb (rounds a) most) refl (canonical-askings a c A C marks M (run .desk) (run .complete) (run .attendance) j j1 jn)
+    where
+      split : (b : Bool) → leb (rounds a) most ≡ b → askings j (told run) ≡ cond b (record-at a c (end a c A C) j ∷ []) [] → Asks
+      split true e f =
+          let r = run-askings a c marks l run j (record-at a c (end a c A C) j) f in
+          let h = leb-true (rounds a) most e in
+          record {
+            times = suc (r .0);
+            once-over = ((λ g. omega arith), (λ g. heard-are ∙ omega arith));
+            asked-with = r .1;
+          }
+      split false e f =
+          let h = leb-false (rounds a) most e in
+          record {
+            times = 0;
+            once-over = ((λ g. absurd (omega (arith, heard-are))), (λ g. absurd (omega arith)));
+            asked-with = run-asks-not a c marks l run j f;
+          }
+
+  -- each answer that it is given
+  answers-are : answers j l ≡ replicate (asks .times) (Cleared (price-answer a) (length (probed a)))
+  answers-are =
+      ap (map answer-reply) (asks .asked-with) ∙ map-replicate answer-reply (asks .times) (record-at a c (end a c A C) j)
+      ∙ ap (replicate (asks .times)) (end-answer a c A C j j1 jn ∙ ap (Cleared (price-answer a)) (probes-many a c A C))
+
+  rolled-are : Each (λ h. (b : ℕ) → marked (h .party .roll) b ≡ member b (bidders a)) (hearings j l)
+  unfolding record-at full-roll
+  rolled-are =
+      subst (Each (λ h. (b : ℕ) → marked (h .party .roll) b ≡ member b (bidders a))) (sym (run-hearings a c marks l run j))
+      (canonical-rolled a c A C marks M (run .desk) (run .complete) (run .attendance) j j1 jn
+      (λ q. (b : ℕ) → marked (q .roll) b ≡ member b (bidders a)) (λ σ. entered-marked (bidders a) (A .bidders)))
+
+  outcome : Outcome a most l j
   outcome =
       let given : (which i : ℕ) → ℕ = promise (demand a) (supply a) in
-      let e : decisions j l ≡ probed a = decisions-are ∙ probes-trail a c A C in
       let q : Party = record-at a c (end a c A C) j in
-      let r = run-askings a c l run j q (canonical-askings a c A C (run .desk) (run .complete) j j1 jn) in
+      let all : 0 < asks .times → rounds a ≤ most = λ h. omega (arith, asks .once-over .1 h, heard-are) in
       record {
+        heard = heard-are;
         promised =
-            ap (map (λ d. d .verdict)) e ∙ trail-given given (most-probes (a .k)) (first-search (a .k))
-            ∙ ap (map (λ d. given (d .which) (d .index))) (sym e);
-        searched = e;
-        asked = r .0;
+            verdicts-are ∙ ap (take (most / probe-rounds)) (trail-given given (most-probes (a .k)) (first-search (a .k)))
+            ∙ sym (map-take (λ d. given (d .which) (d .index)) (most / probe-rounds) (probed a))
+            ∙ ap (map (λ d. given (d .which) (d .index))) (sym decisions-are);
+        searched = decisions-are ∙ probes-in most (probed a) ∙ ap (λ (k : ℕ). take (k / probe-rounds) (probed a)) (sym heard-are);
+        asked = asks .times;
+        once-over = asks .once-over;
         cleared =
-            ap (map answer-reply) (r .1) ∙ map-replicate answer-reply (suc (r .0)) q
-            ∙ ap (replicate (suc (r .0))) (end-answer a c A C j j1 jn ∙ ap (Cleared (price-answer a)) (sym many));
-        found = rw (r .1) (each-replicate _ (suc (r .0)) q found-are);
-        few = subst (λ (m : ℕ). m ≤ most-probes (a .k)) (sym many) (probes-few a c A C);
-        rolled = rw (r .1) (each-replicate _ (suc (r .0)) q marked-are);
+            answers-are ∙ times-same (asks .times) (λ h. ap (Cleared (price-answer a)) (sym (many-all (all h))));
+        found = rw (asks .asked-with) (each-times _ (asks .times) q (λ h. found-are (all h)));
+        few =
+            omega (
+              arith,
+              length-map (decisions j l) (λ d. d .verdict),
+              ap length decisions-are,
+              length-take (most / probe-rounds) (probed a),
+              probes-few a c A C,
+              probes-many a c A C,
+            );
+        rolled = rw (asks .asked-with) (each-replicate _ (asks .times) q marked-are);
+        rolled-before = rolled-are;
       }
 
--- DEMAND 2: no call of a run is refused but those that stand between; each verdict is the promise at the true totals; each answer is
--- the price index, with as many probes as verdicts, at most 2P; the record has what the searches found; and the roll marks the bidders.
-pub demand-2 : (a : Auction) → IsAuction a → (c : Coins) → InRange a c → Demand2 a c
-demand-2 a A c C = record { none-refused = canonical-accepted a c A C; outcome = λ l run j j1 jn. outcome a c A C l run j j1 jn }
+-- DEMAND 2: no call of a run is refused but those that stand between; each verdict that a party hears is the promise at the true totals;
+-- whoever has heard all the rounds is asked, and each answer is the price index, with as many probes as verdicts, at most 2P; the record has
+-- what the searches found; and the roll marks the bidders.
+pub demand-2 : (a : Auction) → IsAuction a → (c : Coins) → InRange a c → (marks : Marks) → EnoughPresent a marks → Demand2 a c marks
+demand-2 a A c C marks M =
+    record {
+      none-refused = λ desk D att T. canonical-accepted a c A C marks M desk D att;
+      outcome = λ l run j j1 jn. outcome a c A C marks M l run j j1 jn;
+    }
 
 -- "where demand equals supply at several neighbouring prices": in every auction these are the indices from j to i, and no others
 module _ {a : Auction} (A : IsAuction a) where
@@ -139,84 +262,137 @@ no-bids n k some =
 -- ---- demand 3
 
 module _ (a b : Auction) (A : IsAuction a) (B : IsAuction b) (alike : Alike a b) (pool : List ℕ) (P : Pool (a .n) pool)
-    (c : Coins) (C : InRange a c) (M : Match a b pool c) where
+    (c : Coins) (C : InRange a c) (N : Match a b pool c) where
   -- a party of the first is one of the second
   jb : (j : ℕ) → j ≤ a .n → j ≤ b .n
   jb j h = subst (λ (n : ℕ). j ≤ n) (sym (alike .parties)) h
 
-  -- every pair of runs, with any coins of the second
-  module _ (o : Coins) (R : InRange b o) (l m : List Call) (runL : Run a c l) (runM : Run b o m) where
+  same-probes : probed b ≡ probed a
+  same-probes =
+      sym (probes-trail b (match-coins a b pool c) B (N .ranged)) ∙ N .same-decisions ∙ probes-trail a c A C
+
+  same-rounds : rounds b ≡ rounds a
+  same-rounds = ap (λ (ds : List Decision). probe-rounds * length ds) same-probes
+
+  same-answer : Cleared (price-answer b) (length (probed b)) ≡ Cleared (price-answer a) (length (probed a))
+  same-answer = ap₂ Cleared (ap₂ price-index (alike .highest) (alike .lowest)) (ap length same-probes)
+
+  -- the marks serve both
+  both-enough : {marks : Marks} → EnoughPresent a marks → EnoughPresent b marks
+  both-enough M i h = rw (alike .parties) (M i (omega (arith, same-rounds)))
+
+  -- every pair of runs, with any marks and any coins of the second
+  module _ (marks : Marks) (M : EnoughPresent a marks) (o : Coins) (R : InRange b o) (l m : List Call) (runL : Run a c marks l) (runM : Run b o marks m) where
     abbrev L : ℕ
     L = length (probes a c)
+
+    sheets-a : (j : ℕ) → 1 ≤ j → j ≤ a .n → sheets-for a c j ≡ sheets-at a c j
+    sheets-a j j1 jn = sheets-dealt A C j j1 jn
+
+    sheets-b : (j : ℕ) → 1 ≤ j → j ≤ a .n → sheets-for b o j ≡ sheets-at b o j
+    sheets-b j j1 jn = sheets-dealt B R j j1 (jb j jn)
+
+    unused-a : (j : ℕ) → 1 ≤ j → j ≤ a .n → unused a c j ≡ drop (sheet-size * L) (sheets-at a c j)
+    unused-a j j1 jn = ap₂ (λ (k : ℕ) (xs : List ℕ). drop (sheet-size * k) xs) (sym (probes-many a c A C)) (sheets-a j j1 jn)
+
+    unused-b : (j : ℕ) → 1 ≤ j → j ≤ a .n → unused b o j ≡ drop (sheet-size * L) (sheets-at b o j)
+    unused-b j j1 jn =
+        ap₂ (λ (k : ℕ) (xs : List ℕ). drop (sheet-size * k) xs) (ap length same-probes ∙ sym (probes-many a c A C)) (sheets-b j j1 jn)
+
+    -- whoever says a word, present or not
+    said-from : all-spoken (b .n) (probes b o) ≡ all-spoken (a .n) (probes a c) → (round j : ℕ) → 1 ≤ j → j ≤ a .n → SaidAlike round j l m
+    said-from spoken round j j1 jn x y mx my ex ey =
+        let X = sayings-are a c A C marks M l runL j j1 jn x mx in
+        let Y = sayings-are b o B R marks (both-enough M) m runM j j1 (jb j jn) y my in
+        Y .1 .word
+        ∙ ap₂ (λ (wss : List (List ℕ)) (i : ℕ). getD (getD wss i []) (j - 1) 0) spoken (sym (Y .1 .in-round) ∙ ey ∙ sym ex ∙ X .1 .in-round)
+        ∙ sym (X .1 .word)
 
     same-from : ((j : ℕ) → List·Memᴰ j pool → bid-words j (b .bids) (o .bids) ≡ bid-words j (a .bids) (c .bids))
         → ((j : ℕ) → List·Memᴰ j pool → sheets-at b o j ≡ sheets-at a c j)
         → ((j : ℕ) → drop (sheet-size * L) (sheets-at b o j) ≡ drop (sheet-size * L) (sheets-at a c j))
-        → all-spoken (b .n) (probes b o) ≡ all-spoken (a .n) (probes a c)
-        → map decision (probes b o) ≡ map decision (probes a c) → length (probes b o) ≡ L → Same (a .n) pool l m
-    same-from bids sheets-same left spoken decided count =
+        → all-spoken (b .n) (probes b o) ≡ all-spoken (a .n) (probes a c) → Same a b pool c o marks l m
+    same-from bids sheets-same left spoken =
         record {
           pool-bids = λ j h.
               let (j1, jn) = pooled (a .n) j pool (P .parties) h in
-              bids-are b o B R m runM j j1 (jb j jn) ∙ bids j h ∙ sym (bids-are a c A C l runL j j1 jn);
+              bids-are b o B R marks (both-enough M) m runM j j1 (jb j jn) ∙ bids j h ∙ sym (bids-are a c A C marks M l runL j j1 jn);
           pool-sheets = λ j h.
               let (j1, jn) = pooled (a .n) j pool (P .parties) h in
-              sheets-are b o B R m runM j j1 (jb j jn) ∙ ap₂ (λ (k : ℕ) (x : List ℕ). replicate (probe-rounds * k) x) count (sheets-same j h)
-              ∙ sym (sheets-are a c A C l runL j j1 jn);
-          left = λ j j1 jn.
-              unused-are b o B R m runM j j1 (jb j jn) ∙ ap (λ (k : ℕ). replicate (probe-rounds * k) (drop (sheet-size * k) (sheets-at b o j))) count
-              ∙ ap (replicate (probe-rounds * L)) (left j) ∙ sym (unused-are a c A C l runL j j1 jn);
-          words = λ j j1 jn. messages-are b o B R m runM j j1 (jb j jn) ∙ spoken ∙ sym (messages-are a c A C l runL j j1 jn);
-          verdicts-heard = λ j j1 jn. verdicts-are b o B R m runM j j1 (jb j jn) ∙ ap (map (λ d. d .verdict)) decided ∙ sym (verdicts-are a c A C l runL j j1 jn);
-          probes = λ j j1 jn. many b o B R m runM j j1 (jb j jn) ∙ count ∙ sym (many a c A C l runL j j1 jn);
+              sheets-b j j1 jn ∙ sheets-same j h ∙ sym (sheets-a j j1 jn);
+          left = λ j j1 jn. unused-b j j1 jn ∙ left j ∙ sym (unused-a j j1 jn);
+          words = λ round j j1 jn p. said-from spoken round j j1 jn;
+          words-heard = λ j j1 jn.
+              far-as (runL .attendance .hears j) (runM .attendance .hears j) _ (messages-are a c A C marks M l runL j j1 jn)
+              (messages-are b o B R marks (both-enough M) m runM j j1 (jb j jn) ∙ ap (λ (wss : List (List ℕ)). take (runM .attendance .hears j) (present-of marks 0 wss)) spoken);
+          verdicts-heard = λ j j1 jn.
+              far-as (runL .attendance .hears j / probe-rounds) (runM .attendance .hears j / probe-rounds) _ (verdicts-are a c A C marks M l runL j j1 jn)
+              (verdicts-are b o B R marks (both-enough M) m runM j j1 (jb j jn)
+              ∙ ap (λ (ds : List Decision). take (runM .attendance .hears j / probe-rounds) (map (λ d. d .verdict) ds)) same-probes);
+          answered = λ j j1 jn.
+              let asksL = asks a c A C marks M l runL j j1 jn in
+              let asksM = asks b o B R marks (both-enough M) m runM j j1 (jb j jn) in
+              as-often (asksL .times) (asksM .times) (Cleared (price-answer a) (length (probed a))) (answers-are a c A C marks M l runL j j1 jn)
+              (answers-are b o B R marks (both-enough M) m runM j j1 (jb j jn) ∙ ap (replicate (asksM .times)) same-answer);
+          probes = same-probes;
         }
 
     -- and what two runs that are the same say of the coins
-    module _ (S : Same (a .n) pool l m) where
-      one-n : 1 ≤ a .n
-      one-n = omega (arith, A .n-least)
+    module _ (S : Same a b pool c o marks l m) where
+      -- whoever is present says the same
+      present-same : (i : ℕ) → i < rounds a → (j : ℕ) → 1 ≤ j → j ≤ a .n → is-present (marks i) j ≡ true → spoken-word b o i j ≡ spoken-word a c i j
+      present-same i h j j1 jn p =
+          let X = says-are a c A C marks M l runL j j1 jn i h p in
+          let Y = says-are b o B R marks (both-enough M) m runM j j1 (jb j jn) i (omega (arith, same-rounds)) p in
+          sym (Y .1 .word) ∙ S .words i j j1 jn p (X .0) (Y .0) (X .2) (Y .2) (X .1 .in-round) (Y .1 .in-round) ∙ X .1 .word
 
-      count-is : length (probes b o) ≡ L
-      count-is = sym (many b o B R m runM 1 (omega arith) (jb 1 one-n)) ∙ S .probes 1 (omega arith) one-n ∙ many a c A C l runL 1 (omega arith) one-n
+      -- in the terms of the first
+      present-word : (i : ℕ) → i < rounds a → (j : ℕ) → 1 ≤ j → j ≤ a .n → is-present (marks i) j ≡ true
+          → getD (getD (all-spoken (a .n) (probes b o)) i []) (j - 1) 0 ≡ spoken-word a c i j
+      present-word i h j j1 jn p = ap (λ (n : ℕ). getD (getD (all-spoken n (probes b o)) i []) (j - 1) 0) (sym (alike .parties)) ∙ present-same i h j j1 jn p
 
-      some : 0 < probe-rounds * L
-      some = omega (arith, probes-some a c A C)
+      shared-b : Each (λ d. ProbeShared (threshold (a .n)) (d .probe)) (probes b o)
+      shared-b = subst (λ (n : ℕ). Each (λ d. ProbeShared (threshold n) (d .probe)) (probes b o)) (alike .parties) (whole b o B R .shared)
 
-      some-b : 0 < probe-rounds * length (probes b o)
-      some-b = omega (arith, probes-some b o B R)
+      same-spoken : all-spoken (b .n) (probes b o) ≡ all-spoken (a .n) (probes a c)
+      same-spoken =
+          subst (λ (n : ℕ). all-spoken n (probes b o) ≡ all-spoken (a .n) (probes a c)) (sym (alike .parties))
+          (all-fixed (a .n) (A .n-least) (A .n-most) marks (probes a c) (probes b o) 0
+          (probes-many b o B R ∙ ap length same-probes ∙ sym (probes-many a c A C))
+          (whole a c A C .shared) shared-b
+          (λ i h. rw (zero-add i) (M i (omega (arith, probes-many a c A C))))
+          (λ i h j j1 jn p. present-word i (omega (arith, probes-many a c A C)) j j1 jn (ap (λ (k : ℕ). is-present (marks k) j) (sym (zero-add i)) ∙ p)))
 
       same-coins : o ≡ match-coins a b pool c
       same-coins =
-          M .only o R
+          N .only o R
           (λ j h.
           let (j1, jn) = pooled (a .n) j pool (P .parties) h in
-          sym (bids-are b o B R m runM j j1 (jb j jn)) ∙ S .pool-bids j h ∙ bids-are a c A C l runL j j1 jn)
+          sym (bids-are b o B R marks (both-enough M) m runM j j1 (jb j jn)) ∙ S .pool-bids j h ∙ bids-are a c A C marks M l runL j j1 jn)
           (λ j h.
           let (j1, jn) = pooled (a .n) j pool (P .parties) h in
-          once (probe-rounds * length (probes b o)) (probe-rounds * L) (sheets-at b o j) (sheets-at a c j) some-b some
-          (sym (sheets-are b o B R m runM j j1 (jb j jn)) ∙ S .pool-sheets j h ∙ sheets-are a c A C l runL j j1 jn))
-          (λ j j1 jn.
-          ap (λ (k : ℕ). drop (sheet-size * k) (sheets-at b o j)) (sym count-is)
-          ∙ once (probe-rounds * length (probes b o)) (probe-rounds * L) (drop (sheet-size * length (probes b o)) (sheets-at b o j)) (drop (sheet-size * L) (sheets-at a c j)) some-b some
-          (sym (unused-are b o B R m runM j j1 (jb j jn)) ∙ S .left j j1 jn ∙ unused-are a c A C l runL j j1 jn))
-          (sym (messages-are b o B R m runM 1 (omega arith) (jb 1 one-n)) ∙ S .words 1 (omega arith) one-n ∙ messages-are a c A C l runL 1 (omega arith) one-n)
+          sym (sheets-b j j1 jn) ∙ S .pool-sheets j h ∙ sheets-a j j1 jn)
+          (λ j j1 jn. sym (unused-b j j1 jn) ∙ S .left j j1 jn ∙ unused-a j j1 jn)
+          same-spoken
 
   matched : Matched a b pool c
   matched =
+      let o : Coins = match-coins a b pool c in
       record {
-        coins = match-coins a b pool c;
-        ranged = M .ranged;
-        same = λ l m runL runM.
-            same-from (match-coins a b pool c) (M .ranged) l m runL runM (M .same-bids) (M .same-sheets) (M .same-unused)
-            (ap flatten (M .same-spoken)) (M .same-decisions) (M .same-many);
-        only = λ o R l m runL runM S. same-coins o R l m runL runM S;
+        coins = o;
+        ranged = N .ranged;
+        same = λ marks M l m runL runM.
+            same-from marks M o (N .ranged) l m runL runM (N .same-bids) (N .same-sheets) (N .same-unused) (ap flatten (N .same-spoken));
+        said = λ marks M l m runL runM. said-from marks M o (N .ranged) l m runL runM (ap flatten (N .same-spoken));
+        only = λ o R marks M l m runL runM S. same-coins marks M o R l m runL runM S;
       }
 
--- DEMAND 3: any t parties together learn nothing but who bids, in which order, and i and j.
+-- DEMAND 3: any t parties together learn nothing but who bids, in which order, and i and j; whoever is present, and though some of the
+-- t hear no round.
 pub demand-3 : Demand3
 demand-3 =
     record {
       matched = λ a b A B alike pool P c C stay. matched a b A B alike pool P c C (matching a b A B alike pool P c C stay);
       few-fall = λ a b A B alike which i. few-fall a b which i A B;
-      runs = λ a A c C desk D. canonical-run a c desk D;
+      runs = λ a A c C marks M desk D att T. canonical-run a c marks desk D att T;
     }

@@ -1,20 +1,22 @@
 -- The rounds of a probe: round 1, rounds 2 to 32 and round 33, each for all parties at once. Assumes nothing.
 use mathlib.Core.Path.{_≡_, refl, sym, ap, ap₂, _∙_}
 use mathlib.Core.Bool.{Bool, true, false, cond}
-use mathlib.Core.List.{List, [], _∷_, map, map-map}
+use mathlib.Core.List.{List, [], _∷_, map}
 use Prim.Native.Nat.{ℕ, zero, suc, _+_, _-_, _*_, _/_, _%_, _^_, _≤_, _<_}
 use native.Mathlib.Omega.{arith}
-use lib.Dec.{leb}
+use lib.Dec.{leb, ltb}
 use lib.ListN.{drop, getD}
-use borrow.Author.Tests.{le-leb, le-ltb}
-use Rattle.fields.specs.Amount.{p, amounts}
+use borrow.Author.Tests.{le-leb, le-ltb, lt-ltb}
+use Rattle.fields.specs.Field.{Field}
+use Rattle.fields.specs.Amount.{amounts}
 use Rattle.fields.specs.Byte.{bytes}
 use Rattle.sharing.specs.Polynomial.{value}
 use Rattle.sharing.specs.Scheme.{threshold, points}
-use Rattle.weights.specs.Rows.{amount-scheme, byte-scheme}
-use Rattle.openings.specs.Opening.{opened}
+use Rattle.weights.specs.Rows.{Scheme, byte-scheme}
 use Rattle.openings.specs.declared.opening.Opening.the-variants.{Secret}
-use Rattle.openings.proofs.Laws.{opens, amount-fits, byte-fits}
+use Rattle.openings.proofs.Laws.{Fits, amount-fits, byte-fits}
+use Rattle.present_openings.specs.Present.{opened-by}
+use Rattle.present_openings.proofs.Laws.{opens-by}
 use Rattle.verdict.specs.Verdict.{verdict}
 use Rattle.search.specs.declared.searches.Search.{Search}
 use Rattle.search.specs.Bracket.{middle}
@@ -27,17 +29,19 @@ use Rattle.comparison.specs.Probe.{SheetCoins, SheetInRange, sheet-polynomials,
 use Rattle.comparison.proofs.Values.{Shared, secret-value, masked-value, first-carry-value, left-value, right-value, next-carry-value, last-value}
 use Rattle.comparison.proofs.Dealt.{ProbeShared, SheetShared, bit-at, sum-shared, last-polynomial-shared}
 use Rattle.comparison.proofs.Promise.{Compares, probe-shared, sum-least, sum-most, promised}
+use Rattle.round.specs.declared.Heard.{Heard}
 use Rattle.round.specs.declared.Heard.the-variants.{Sum, Factors, Verdict}
 use Rattle.saying.specs.Say.{demand-share, supply-share, message}
-use Rattle.round.specs.Round.{heard, sum-of, factors-of, verdict-of, sum-outside, verdict-outside}
+use Rattle.round.specs.Round.{heard, sum-outside, verdict-outside}
 use Rattle.record.specs.Updates.{in-round, decided}
-use Rattle.hearing.specs.Hear.{after}
+use Rattle.stepping.specs.After.{after}
 use Rattle.saying.proofs.Messages.{first-message, product-message, last-message}
-use Rattle.round.proofs.Opened.{heard-sum, heard-factors, heard-verdict}
+use Rattle.round.proofs.Opened.{sum-heard, factors-heard, verdict-heard}
 use Rattle.auction.specs.Auction.{Auction, IsAuction, left-side, right-side}
 use Rattle.auction.specs.Coins.{Coins, InRange}
+use Rattle.auction.specs.Attendance.{Enough}
 use Rattle.auction.proofs.Closed.{at-party, polynomials, demand-at, supply-at, probe-at, probe-of, carry-at, Stage, fresh-stage, inner-stage, record-at}
-use Rattle.auction.proofs.Calls.{map-points}
+use Rattle.auction.proofs.Calls.{map-points, map-through}
 use Rattle.auction.proofs.Sheets.{no-triple, mask-word, bit-word, alpha-word, beta-word, gamma-word, byte-below}
 use Rattle.auction.proofs.Carry.{round-at, carry-next, carry-first, last-carry, triple-at, carry-shared, round-at-shared, product-said, last-said}
 use Rattle.auction.proofs.Comparing.{compares}
@@ -45,15 +49,11 @@ use Rattle.auction.proofs.Step.{Step, Placed, fresh-sane, coins-ranged,
 
 -- ---- what is shared opens
 
-pub amount-opens : (n : ℕ) (cs : List ℕ) → 3 ≤ n → n ≤ 9 → Shared p (threshold n) cs
-    → opened amount-scheme n (map (value amounts cs) (points n)) ≡ Secret (secret cs)
-amount-opens n [] h3 h9 h = absurd (omega arith)
-amount-opens n (s ∷ cs) h3 h9 h = opens amount-fits n s cs h3 h9 (h .1 .0) (h .1 .1) (omega arith)
-
-pub byte-opens : (n : ℕ) (cs : List ℕ) → 3 ≤ n → n ≤ 9 → Shared 256 (threshold n) cs
-    → opened byte-scheme n (map (value bytes cs) (points n)) ≡ Secret (secret cs)
-byte-opens n [] h3 h9 h = absurd (omega arith)
-byte-opens n (s ∷ cs) h3 h9 h = opens byte-fits n s cs h3 h9 (h .1 .0) (h .1 .1) (omega arith)
+module _ {S : Scheme} {F : Field} (fits : Fits S F) where
+  shared-opens : (n : ℕ) (cs present : List ℕ) → 3 ≤ n → n ≤ 9 → Shared (F .size) (threshold n) cs → Enough n present
+      → opened-by S n present (map (value (F .ops) cs) (points n)) ≡ Secret (secret cs)
+  shared-opens n [] present h3 h9 h E = absurd (omega arith)
+  shared-opens n (s ∷ cs) present h3 h9 h E = opens-by fits n s cs present h3 h9 (h .1 .0) (h .1 .1) (omega arith) (E .long) (E .many)
 
 -- ---- the same words, the same message
 
@@ -64,10 +64,10 @@ next-same : (T i D E : ℕ) {a a′ b b′ g g′ : ℕ} → a ≡ a′ → b �
     → next-carry (on-shares bytes) T i D E a b g ≡ next-carry (on-shares bytes) T i D E a′ b′ g′
 next-same T i D E e f h = cc
 
-low-part : (d e : ℕ) → d < 256 → both d e % 256 ≡ d
+pub low-part : (d e : ℕ) → d < 256 → both d e % 256 ≡ d
 low-part d e h = omega arith
 
-high-part : (d e : ℕ) → d < 256 → both d e / 256 ≡ e
+pub high-part : (d e : ℕ) → d < 256 → both d e / 256 ≡ e
 high-part d e h = omega arith
 
 verdict-most : (d s : ℕ) → verdict d s ≤ 1
@@ -88,6 +88,15 @@ stage-of here q (suc i) = inner-stage here q i
 -- party j's word in round i + 1
 abbrev pub words-at : Probe → ℕ → ℕ → ℕ
 words-at q i j = getD (probe-messages q j) i 0
+
+-- and what all words open to
+unfoldable pub opening-at : Probe → ℕ → Heard
+opening-at q zero = Sum (opened-sum q)
+opening-at q (suc i) = cond (ltb i 31) (Factors (secret (round-at q i .left)) (secret (round-at q i .right))) (Verdict (secret (last-polynomial q)))
+
+opening-product : (q : Probe) (i : ℕ) → i < 31 → opening-at q (suc i) ≡ Factors (secret (round-at q i .left)) (secret (round-at q i .right))
+unfolding opening-at
+opening-product q i l = rw (lt-ltb i 31 l)
 
 -- a probe is to be made with the sheet s
 pub record Ready (a : Auction) (c : Coins) (here : Search) (s : SheetCoins) (ss : List SheetCoins) : Type 0 where
@@ -138,7 +147,7 @@ module _ (a : Auction) (c : Coins) (A : IsAuction a) (C : InRange a c) (here : S
       let F = searches.probing (a .k) here (R .sound) (R .going) in
       compares a c A C index (F .index-least) (F .index-most) which s ranged
 
-  shared : ProbeShared t q
+  pub shared : ProbeShared t q
   shared = probe-shared t d e s q comparing
 
   sheet-shared : SheetShared t (sheet-polynomials s)
@@ -188,11 +197,11 @@ module _ (a : Auction) (c : Coins) (A : IsAuction a) (C : InRange a c) (here : S
       sided : {x y : ℕ} (f g : List ℕ) → x ≡ value amounts f j → y ≡ value amounts g j → side which x y ≡ value amounts (side which f g) j
       sided f g p r = ap₂ (side which) p r ∙ side-map (λ h. value amounts h j) which f g
 
-  pub first-opens : heard (a .n) 1 (map (words-at q 0) (points (a .n))) ≡ Sum T
+  first-opens : (present : List ℕ) → Enough (a .n) present → heard (a .n) 1 present (map (words-at q 0) (points (a .n))) ≡ Sum T
   unfolding probe-messages
-  first-opens =
-      heard-sum (a .n) 1 (map (words-at q 0) (points (a .n))) refl
-      ∙ ap sum-of (amount-opens (a .n) (sum-polynomial q) (A .n-least) (A .n-most) (sum-shared t q shared))
+  first-opens present E =
+      sum-heard (a .n) present (map (words-at q 0) (points (a .n))) T
+      (shared-opens amount-fits (a .n) (sum-polynomial q) present (A .n-least) (A .n-most) (sum-shared t q shared) E)
 
   first-carry-is : (j : ℕ) → 1 ≤ j → j ≤ a .n
       → value bytes (carry-at q 0) j ≡ first-carry (on-shares bytes) T (getD (sheet-shares j (sheet-polynomials s)) 1 0)
@@ -210,7 +219,8 @@ module _ (a : Auction) (c : Coins) (A : IsAuction a) (C : InRange a c) (here : S
   tame : sum-outside (Sum T) ≡ false
   tame = rw (le-leb (2 ^ 58 + 2) T least-sum, le-leb T (2 ^ 59 + 2 ^ 33 - 1) most-sum)
 
-  pub first-step : Step a c (fresh-stage here) (inner-stage here q 0) (words-at q 0)
+  pub first-step : Step a c (fresh-stage here) (inner-stage here q 0) (words-at q 0) (opening-at q 0)
+  unfolding opening-at
   first-step =
       step-of a c A C (fresh-stage here) s ss fresh-placed (inner-stage here q 0) (words-at q 0) (Sum T) first-says first-opens refl tame refl first-turns
 
@@ -277,38 +287,37 @@ module _ (a : Auction) (c : Coins) (A : IsAuction a) (C : InRange a c) (here : S
           let e : suc i + 2 ≡ i + 2 + 1 = omega arith in
           rw (product-carry-is, e)
 
+    left-below : (j : ℕ) → 1 ≤ j → j ≤ a .n → value bytes (r .left) j < 256
+    left-below j j1 jn = byte-below j (omega (arith, A .n-most)) (r .left) (round-at-shared t q shared i l .left .1)
+
     low-is : (j : ℕ) → 1 ≤ j → j ≤ a .n → words-at q (suc i) j % 256 ≡ value bytes (r .left) j
     low-is j j1 jn =
-        ap (λ (x : ℕ). x % 256) (product-said t q shared j i l)
-        ∙ low-part (value bytes (r .left) j) (value bytes (r .right) j)
-        (byte-below j (omega (arith, A .n-most)) (r .left) (round-at-shared t q shared i l .left .1))
+        ap (λ (x : ℕ). x % 256) (product-said t q shared j i l) ∙ low-part (value bytes (r .left) j) (value bytes (r .right) j) (left-below j j1 jn)
 
     high-is : (j : ℕ) → 1 ≤ j → j ≤ a .n → words-at q (suc i) j / 256 ≡ value bytes (r .right) j
     high-is j j1 jn =
-        ap (λ (x : ℕ). x / 256) (product-said t q shared j i l)
-        ∙ high-part (value bytes (r .left) j) (value bytes (r .right) j)
-        (byte-below j (omega (arith, A .n-most)) (r .left) (round-at-shared t q shared i l .left .1))
+        ap (λ (x : ℕ). x / 256) (product-said t q shared j i l) ∙ high-part (value bytes (r .left) j) (value bytes (r .right) j) (left-below j j1 jn)
 
-    low-opens : opened byte-scheme (a .n) (map (λ w. w % 256) (map (words-at q (suc i)) (points (a .n)))) ≡ Secret (secret (r .left))
-    low-opens =
-        ap (opened byte-scheme (a .n))
-        (map-map (λ w. w % 256) (words-at q (suc i)) (points (a .n)) ∙ map-points (λ j. words-at q (suc i) j % 256) (value bytes (r .left)) (a .n) low-is)
-        ∙ byte-opens (a .n) (r .left) (A .n-least) (A .n-most) (round-at-shared t q shared i l .left)
+    -- a part of the words, which is what the parties have of cs
+    part-opens : (part : ℕ → ℕ) (cs : List ℕ) → ((j : ℕ) → 1 ≤ j → j ≤ a .n → part (words-at q (suc i) j) ≡ value bytes cs j) → Shared 256 t cs
+        → (present : List ℕ) → Enough (a .n) present
+        → opened-by byte-scheme (a .n) present (map part (map (words-at q (suc i)) (points (a .n)))) ≡ Secret (secret cs)
+    part-opens part cs is h present E =
+        ap (opened-by byte-scheme (a .n) present) (map-through part (words-at q (suc i)) (value bytes cs) (a .n) is)
+        ∙ shared-opens byte-fits (a .n) cs present (A .n-least) (A .n-most) h E
 
-    high-opens : opened byte-scheme (a .n) (map (λ w. w / 256) (map (words-at q (suc i)) (points (a .n)))) ≡ Secret (secret (r .right))
-    high-opens =
-        ap (opened byte-scheme (a .n))
-        (map-map (λ w. w / 256) (words-at q (suc i)) (points (a .n)) ∙ map-points (λ j. words-at q (suc i) j / 256) (value bytes (r .right)) (a .n) high-is)
-        ∙ byte-opens (a .n) (r .right) (A .n-least) (A .n-most) (round-at-shared t q shared i l .right)
+    product-opens : (present : List ℕ) → Enough (a .n) present
+        → heard (a .n) (i + 2) present (map (words-at q (suc i)) (points (a .n))) ≡ Factors (secret (r .left)) (secret (r .right))
+    product-opens present E =
+        factors-heard (a .n) present (map (words-at q (suc i)) (points (a .n))) (i + 2) (secret (r .left)) (secret (r .right)) (omega arith) (omega arith)
+        (part-opens (λ w. w % 256) (r .left) low-is (round-at-shared t q shared i l .left) present E)
+        (part-opens (λ w. w / 256) (r .right) high-is (round-at-shared t q shared i l .right) present E)
 
-    pub product-opens : heard (a .n) (i + 2) (map (words-at q (suc i)) (points (a .n))) ≡ Factors (secret (r .left)) (secret (r .right))
-    product-opens =
-        heard-factors (a .n) (i + 2) (map (words-at q (suc i)) (points (a .n))) (λ e. omega arith) (omega arith) ∙ ap₂ factors-of low-opens high-opens
-
-    pub product-step : Step a c now (inner-stage here q (suc i)) (words-at q (suc i))
+    pub product-step : Step a c now (inner-stage here q (suc i)) (words-at q (suc i)) (opening-at q (suc i))
     product-step =
-        step-of a c A C now s ss (inner-placed i (omega arith)) (inner-stage here q (suc i)) (words-at q (suc i))
-        (Factors (secret (r .left)) (secret (r .right))) product-says product-opens refl refl refl product-turns
+        rw (opening-product q i l)
+        (step-of a c A C now s ss (inner-placed i (omega arith)) (inner-stage here q (suc i)) (words-at q (suc i))
+        (Factors (secret (r .left)) (secret (r .right))) product-says product-opens refl refl refl product-turns)
 
   -- ---- round 33
 
@@ -329,12 +338,13 @@ module _ (a : Auction) (c : Coins) (A : IsAuction a) (C : InRange a c) (here : S
     unfolding record-at after value in-round decided
     last-turns = refl
 
-  pub last-opens : heard (a .n) 33 (map (words-at q 32) (points (a .n))) ≡ Verdict (secret (last-polynomial q))
-  last-opens =
-      heard-verdict (a .n) 33 (map (words-at q 32) (points (a .n))) (omega arith)
-      ∙ ap verdict-of
-      (ap (opened byte-scheme (a .n)) (map-points (words-at q 32) (value bytes (last-polynomial q)) (a .n) (λ j j1 jn. last-said t q shared j))
-      ∙ byte-opens (a .n) (last-polynomial q) (A .n-least) (A .n-most) (last-polynomial-shared t q shared))
+  last-opens : (present : List ℕ) → Enough (a .n) present
+      → heard (a .n) 33 present (map (words-at q 32) (points (a .n))) ≡ Verdict (secret (last-polynomial q))
+  last-opens present E =
+      verdict-heard (a .n) present (map (words-at q 32) (points (a .n))) (secret (last-polynomial q))
+      (ap (opened-by byte-scheme (a .n) present)
+      (map-points (words-at q 32) (value bytes (last-polynomial q)) (a .n) (λ j j1 jn. last-said t q shared j))
+      ∙ shared-opens byte-fits (a .n) (last-polynomial q) present (A .n-least) (A .n-most) (last-polynomial-shared t q shared) E)
 
   pub verdict-is : secret (last-polynomial q) ≡ verdict d e
   verdict-is = promised t d e s q comparing
@@ -342,7 +352,8 @@ module _ (a : Auction) (c : Coins) (A : IsAuction a) (C : InRange a c) (here : S
   a-bit : verdict-outside (Verdict (secret (last-polynomial q))) ≡ false
   a-bit = le-ltb 1 (secret (last-polynomial q)) (rw verdict-is (verdict-most d e))
 
-  pub last-step : Step a c (inner-stage here q 31) (fresh-stage (next here (secret (last-polynomial q)))) (words-at q 32)
+  pub last-step : Step a c (inner-stage here q 31) (fresh-stage (next here (secret (last-polynomial q)))) (words-at q 32) (opening-at q 32)
+  unfolding opening-at
   last-step =
       step-of a c A C (inner-stage here q 31) s ss (inner-placed 31 (omega arith)) (fresh-stage (next here (secret (last-polynomial q))))
       (words-at q 32) (Verdict (secret (last-polynomial q))) last-says last-opens refl refl a-bit last-turns

@@ -1,56 +1,61 @@
 -- All rounds of an auction, from the first word to the answer: every call is accepted, and what is read off them. Assumes nothing.
-use mathlib.Core.Path.{_≡_, refl, ap, ap₂, _∙_}
-use mathlib.Core.Bool.{true}
-use mathlib.Core.List.{List, [], _∷_, _++_, map, map-map, append-nil, flatten}
+use mathlib.Core.Path.{_≡_, refl, sym, ap, ap₂, subst, _∙_}
+use mathlib.Core.Bool.{Bool, true, cond}
+use mathlib.Core.List.{List, [], _∷_, _++_, map, map-map, map-append, flatten, List·Memᴰ}
 use mathlib.Core.Option.{Option}
-use Prim.Native.Nat.{ℕ, _+_, _-_, _*_, _≤_}
+use Prim.Native.Nat.{ℕ, zero, suc, _+_, _-_, _/_, _≤_, _<_, min}
+use native.Mathlib.Nat.{zero-add}
 use native.Mathlib.Omega.{arith}
-use lib.ListN.{length, replicate}
+use lib.Dec.{leb}
+use lib.ListN.{length, take, getD, length-take}
 use Rattle.ranges.specs.Sizes.{probe-rounds}
 use Rattle.refusal.specs.Judging.{judged}
 use Rattle.refusal.specs.declared.Judgement.the-variants.{Accepted}
 use Rattle.ranges.specs.Lists.{from}
+use Rattle.ranges.proofs.Loops.{map-from, map-take}
 use Rattle.sharing.specs.Scheme.{points}
+use Rattle.presence.specs.Presence.{of-present, is-present}
 use Rattle.search.specs.Searches.{first-search, finished, price}
+use Rattle.comparison.specs.Probe.{Each}
 use Rattle.search.proofs.Bounds.{roomy-sound}
 use Rattle.record.specs.declared.Party.{Party}
 use Rattle.session.specs.declared.reply.Answer.the-variants.{Cleared}
 use Rattle.record.specs.Record.{sound}
 use Rattle.session.specs.Answer.{answer-judgement, answered, answer-reply}
-use Rattle.auction.specs.Auction.{Auction, IsAuction, price-answer}
+use Rattle.auction.specs.Auction.{Auction, IsAuction, price-answer, rounds}
 use Rattle.auction.specs.Coins.{Coins, InRange}
+use Rattle.auction.specs.Attendance.{Marks, EnoughPresent, Attendance}
 use Rattle.auction.specs.Call.{Call, accepted, is-accepted, judgement, whose, of-party, given}
-use Rattle.auction.specs.Canonical.{enough-rounds, ask, from-rounds}
+use Rattle.auction.specs.Canonical.{enough-rounds, ask, where-so, ask-in, from-rounds}
 use Rattle.auction.specs.Run.{own}
-use Rattle.auction.specs.Received.{collect, bid-in, hearing-in, asking-in, decision-in}
+use Rattle.auction.specs.Received.{collect, bid-in, Saying, saying-in, round-of, Hearing, hearing-in, asking-in, decision-in}
 use Rattle.auction.specs.Demands.{all-accepted}
-use Rattle.auction.proofs.Closed.{Made, spoken, Stage, fresh-stage, record-at, sheets-at, seat, probes, all-spoken, decision}
-use Rattle.auction.proofs.Calls.{own-append, collect-append, all-accepted-append, all-accepted-points, Own, own-points}
+use Rattle.auction.proofs.Closed.{Made, spoken, Stage, fresh-stage, record-at, seat, probes, all-spoken, decision}
+use Rattle.auction.proofs.Calls.{read-append, all-accepted-append, Own, all-accepted-made, own-made, collect-made}
+use Rattle.auction.proofs.Setup.{round-calls}
 use Rattle.auction.proofs.Step.{fresh-sane, sound-at}
-use Rattle.auction.proofs.Chain.{Turn, from-ending, all-done, seats, all-words, calls, hearing-of, chain-rounds, chain-accepted, chain-hearings, chain-bids, chain-askings, chain-decisions}
+use Rattle.auction.proofs.Present.{present-words}
+use Rattle.auction.proofs.Chain.{no-more, Turn, At, from-ending, all-done, seats, calls, saying-of, hearings-from, Enoughs, chain-rounds, chain-accepted, chain-hearings, chain-none, chain-decisions, chain-sayings, chain-says}
 use Rattle.auction.proofs.Probed.{turn-of}
-use Rattle.auction.proofs.Search.{turns-of, turns-length, after-probes, Leads, whole, probes-counted, probes-few, price-found}
+use Rattle.auction.proofs.Search.{turns-in, turns-of, turns-length, turns-decide, Counted, made-counted, after-probes, Leads, whole, probes-counted, probes-few, rounds-are, price-found}
 
--- all calls from the first saying on
-abbrev pub round-calls : Auction → Coins → List Call
-round-calls a c = from-rounds a c (enough-rounds a) (map (seat a c (fresh-stage (first-search (a .k)))) (points (a .n)))
+-- ---- words, round by round
 
--- ---- lists
+-- the words of all parties in a round
+abbrev all-words : Auction → Turn → List ℕ
+all-words a r = map (r .words) (points (a .n))
 
-map-append : {A B : Type 0} (f : A → B) (xs ys : List A) → map f (xs ++ ys) ≡ map f xs ++ map f ys
-map-append f [] ys = refl
-map-append {B} f (x ∷ xs) ys = ap (λ (l : List B). f x ∷ l) (map-append f xs ys)
-
-map-same : {A B : Type 0} (y : B) (xs : List A) → map (λ x. y) xs ≡ replicate (length xs) y
-map-same y [] = refl
-map-same {B} y (x ∷ xs) = ap (λ (l : List B). y ∷ l) (map-same y xs)
-
-turns-spoken : (a : Auction) (c : Coins) (ds : List Made) → map (all-words a c) (turns-of ds) ≡ all-spoken (a .n) ds
+turns-spoken : (a : Auction) (ds : List Made) → map (all-words a) (turns-of ds) ≡ all-spoken (a .n) ds
 unfolding turns-of flatten spoken
-turns-spoken a c [] = refl
-turns-spoken a c (d ∷ ds) =
-    map-append (all-words a c) (map (turn-of (d .here) (d .probe)) (from 0 probe-rounds)) (turns-of ds)
-    ∙ ap₂ _++_ (map-map (all-words a c) (turn-of (d .here) (d .probe)) (from 0 probe-rounds)) (turns-spoken a c ds)
+turns-spoken a [] = refl
+turns-spoken a (d ∷ ds) =
+    map-append (all-words a) (turns-in d) (turns-of ds)
+    ∙ ap₂ _++_ (map-map (all-words a) (turn-of (d .here) (d .probe)) (from 0 probe-rounds)) (turns-spoken a ds)
+
+-- of the words of each round those of who is present
+unfoldable pub present-of : Marks → (round : ℕ) → List (List ℕ) → List (List ℕ)
+present-of marks round [] = []
+present-of marks round (ws ∷ wss) = of-present (marks round) ws ∷ present-of marks (suc round) wss
 
 -- ---- asking for the answer
 
@@ -61,6 +66,43 @@ ask-accepted q s o = rw (s, o)
 ask-cleared : (q : Party) → answer-judgement q ≡ Accepted → answer-reply q ≡ Cleared (price (q .search)) (q .search .probes)
 unfolding answered
 ask-cleared q e = rw e
+
+-- ---- words said in a round
+
+module _ (a : Auction) (c : Coins) (j : ℕ) where
+  -- what stands at i among the sayings is of the round i, and its word is the party's there
+  said-round : (rs : List Turn) (k i : ℕ) (x : Saying) → Counted k rs → At (map (saying-of a c j) rs) i x → x .round ≡ k + i
+  unfolding record-at round-of
+  said-round [] k i x C h = absurd h
+  said-round (r ∷ rs) k zero x C h = ap (λ (s : Saying). s .round) h ∙ C .0 ∙ omega arith
+  said-round (r ∷ rs) k (suc i) x C h = said-round rs (suc k) i x (C .1) h ∙ omega arith
+
+  said-word : (rs : List Turn) (i : ℕ) (x : Saying) → 1 ≤ j → j ≤ a .n → At (map (saying-of a c j) rs) i x
+      → x .word ≡ getD (getD (map (all-words a) rs) i []) (j - 1) 0
+  said-word [] i x j1 jn h = absurd h
+  said-word (r ∷ rs) zero x j1 jn h =
+      let at : 1 + (j - 1) ≡ j = omega arith in
+      ap (λ (s : Saying). s .word) h ∙ sym (map-from (r .words) 0 1 (a .n) (j - 1) (omega arith) ∙ ap (r .words) at)
+  said-word (r ∷ rs) (suc i) x j1 jn h = said-word rs i x j1 jn h
+
+  some-saying : (rs : List Turn) (i : ℕ) → i < length rs → (x : Saying) × At (map (saying-of a c j) rs) i x
+  some-saying [] i h = absurd (omega arith)
+  some-saying (r ∷ rs) zero h = (saying-of a c j r, refl)
+  some-saying (r ∷ rs) (suc i) h = some-saying rs i (omega arith)
+
+  said-below : (rs : List Turn) (i : ℕ) (x : Saying) → At (map (saying-of a c j) rs) i x → i < length rs
+  said-below [] i x h = absurd h
+  said-below (r ∷ rs) zero x h = omega arith
+  said-below (r ∷ rs) (suc i) x h = omega (arith, said-below rs i x h)
+
+-- party j's word in the round i, and a saying of it
+abbrev pub spoken-word : Auction → Coins → (i j : ℕ) → ℕ
+spoken-word a c i j = getD (getD (all-spoken (a .n) (probes a c)) i []) (j - 1) 0
+
+pub record Says (a : Auction) (c : Coins) (i j : ℕ) (x : Saying) : Type 0 where
+  pub in-round : x .round ≡ i
+  pub below : i < rounds a
+  pub word : x .word ≡ spoken-word a c i j
 
 module _ (a : Auction) (c : Coins) (A : IsAuction a) (C : InRange a c) where
   abbrev rs : List Turn
@@ -76,6 +118,10 @@ module _ (a : Auction) (c : Coins) (A : IsAuction a) (C : InRange a c) where
   many : 1 ≤ a .n
   many = omega (arith, A .n-least)
 
+  counted : Counted 0 rs
+  unfolding first-search
+  counted = made-counted a _ (first-search (a .k)) (c .sheets)
+
   module _ (j : ℕ) (j1 : 1 ≤ j) (jn : j ≤ a .n) where
     end-sound : sound (record-at a c end j) ≡ true
     end-sound =
@@ -87,7 +133,7 @@ module _ (a : Auction) (c : Coins) (A : IsAuction a) (C : InRange a c) where
     unfolding record-at
     end-judged = ask-accepted (record-at a c end j) end-sound (L .ended)
 
-    asked : accepted (ask a c (seat a c end j)) ≡ true
+    asked : accepted (ask (seat a c end j)) ≡ true
     unfolding ask seat judgement is-accepted
     asked = rw end-judged
 
@@ -95,65 +141,146 @@ module _ (a : Auction) (c : Coins) (A : IsAuction a) (C : InRange a c) where
     unfolding record-at
     end-answer = ask-cleared (record-at a c end j) end-judged ∙ ap₂ Cleared (price-found a c A C) (probes-counted a c A C)
 
-    ask-own : Own j (ask a c (seat a c end j))
+    ask-own : Own j (ask (seat a c end j))
     unfolding ask seat record-at whose of-party
     ask-own = record { accepted = asked; whose = λ i. refl }
 
-  -- ---- the calls
+    -- what stands at i among the sayings
+    says-at : (i : ℕ) (x : Saying) → At (map (saying-of a c j) rs) i x → Says a c i j x
+    says-at i x h =
+        record {
+          in-round = said-round a c j rs 0 i x counted h ∙ zero-add i;
+          below = omega (arith, said-below a c j rs i x h, rounds-are a c A C);
+          word = said-word a c j rs i x j1 jn h ∙ ap (λ (wss : List (List ℕ)). getD (getD wss i []) (j - 1) 0) (turns-spoken a (probes a c));
+        }
 
-  -- the rounds of the probes, then n askings
-  pub calls-are : round-calls a c ≡ calls a c rs ++ map (λ j. ask a c (seat a c end j)) (points (a .n))
-  calls-are =
-      let left : enough-rounds a ≡ length rs + (enough-rounds a - length rs) = omega (arith, turns-length (probes a c), probes-few a c A C) in
-      ap (λ (x : ℕ). from-rounds a c x (seats a c (fresh-stage (first-search (a .k))))) left
-      ∙ chain-rounds a c many (L .chain) (enough-rounds a - length rs)
-      ∙ ap (λ (l : List Call). calls a c rs ++ l)
-      (from-ending a c (enough-rounds a - length rs) (seats a c end) (all-done a c end (L .ended) (points (a .n)))
-      ∙ map-map (ask a c) (seat a c end) (points (a .n)))
+  module _ (marks : Marks) (M : EnoughPresent a marks) (att : Attendance) where
+    enoughs : Enoughs a c marks att many 0 (length rs)
+    enoughs i l h = M i (omega (arith, rounds-are a c A C))
 
-  pub rounds-accepted : all-accepted (round-calls a c) ≡ true
-  rounds-accepted =
-      ap all-accepted calls-are
-      ∙ all-accepted-append (calls a c rs) (map (λ j. ask a c (seat a c end j)) (points (a .n))) (chain-accepted a c many (L .chain))
-      (all-accepted-points (λ j. ask a c (seat a c end j)) (a .n) asked)
+    -- ---- the calls
 
-  module _ (j : ℕ) (j1 : 1 ≤ j) (jn : j ≤ a .n) where
-    own-asks : own j (map (λ j. ask a c (seat a c end j)) (points (a .n))) ≡ ask a c (seat a c end j) ∷ []
-    unfolding ask given
-    own-asks = own-points j (a .n) (λ j. ask a c (seat a c end j)) j1 jn ask-own
+    -- who has heard all the rounds is asked
+    abbrev is-over : ℕ → Bool
+    is-over j = leb (rounds a) (att .hears j)
 
-    reads : {B : Type 0} (f : Call → Option B) (xs ys : List B) → collect f (own j (calls a c rs)) ≡ xs
-        → collect f (ask a c (seat a c end j) ∷ []) ≡ ys → collect f (own j (round-calls a c)) ≡ xs ++ ys
-    reads f xs ys e g =
-        ap (λ (l : List Call). collect f (own j l)) calls-are
-        ∙ ap (collect f) (own-append j (calls a c rs) (map (λ j. ask a c (seat a c end j)) (points (a .n))))
-        ∙ collect-append f (own j (calls a c rs)) (own j (map (λ j. ask a c (seat a c end j)) (points (a .n))))
-        ∙ ap₂ _++_ e (ap (collect f) own-asks ∙ g)
+    asks : List Call
+    asks = flatten (map (λ j. where-so (is-over j) (ask (seat a c end j))) (points (a .n)))
 
-    -- ---- what party j hears
+    -- the rounds of the probes, then the askings
+    calls-are : round-calls a c marks att ≡ calls a c marks att 0 rs ++ asks
+    unfolding asks ask-in seat record-at
+    calls-are =
+        let left : enough-rounds a ≡ length rs + (enough-rounds a - length rs) = omega (arith, turns-length (probes a c), probes-few a c A C) in
+        ap (λ (x : ℕ). from-rounds marks att x 0 (seats a c marks att (fresh-stage (first-search (a .k))))) left
+        ∙ chain-rounds a c marks att many (L .chain) (enough-rounds a - length rs) 0 enoughs
+        ∙ ap (λ (l : List Call). calls a c marks att 0 rs ++ l)
+        (from-ending a c marks att (enough-rounds a - length rs) (0 + length rs) (seats a c marks att end) (all-done a c marks att end (L .ended) (points (a .n)))
+        ∙ ap flatten (map-map (ask-in marks att (0 + length rs)) (seat a c end) (points (a .n)))
+        ∙ ap (λ (k : ℕ). flatten (map (λ j. where-so (leb k (att .hears j)) (ask (seat a c end j))) (points (a .n)))) (zero-add (length rs) ∙ rounds-are a c A C))
 
-    pub rounds-hearings : collect hearing-in (own j (round-calls a c)) ≡ map (hearing-of a c j) rs
-    unfolding collect hearing-in ask
-    rounds-hearings = reads hearing-in (map (hearing-of a c j) rs) [] (chain-hearings a c many j j1 jn (L .chain)) refl ∙ append-nil _
+    pub rounds-accepted : all-accepted (round-calls a c marks att) ≡ true
+    unfolding asks
+    rounds-accepted =
+        ap all-accepted calls-are
+        ∙ all-accepted-append (calls a c marks att 0 rs) asks (chain-accepted a c marks att many (L .chain) 0 enoughs)
+        (all-accepted-made is-over (λ j. ask (seat a c end j)) (a .n) ask-own)
 
-    pub rounds-messages : map (λ h. h .messages) (collect hearing-in (own j (round-calls a c))) ≡ all-spoken (a .n) (probes a c)
-    rounds-messages =
-        ap (map (λ h. h .messages)) rounds-hearings ∙ map-map (λ h. h .messages) (hearing-of a c j) rs ∙ turns-spoken a c (probes a c)
+    module _ (j : ℕ) (j1 : 1 ≤ j) (jn : j ≤ a .n) where
+      own-asks : own j asks ≡ where-so (is-over j) (ask (seat a c end j))
+      unfolding asks ask given
+      own-asks = own-made j (a .n) is-over (λ j. ask (seat a c end j)) j1 jn ask-own
 
-    pub rounds-sheets : map (λ h. h .sheets) (collect hearing-in (own j (round-calls a c))) ≡ replicate (probe-rounds * length (probes a c)) (sheets-at a c j)
-    rounds-sheets =
-        ap (map (λ h. h .sheets)) rounds-hearings
-        ∙ map-map (λ h. h .sheets) (hearing-of a c j) rs
-        ∙ map-same (sheets-at a c j) rs
-        ∙ ap (λ (x : ℕ). replicate x (sheets-at a c j)) (turns-length (probes a c))
+      reads : {B : Type 0} (f : Call → Option B) (xs : List B) → collect f (own j (calls a c marks att 0 rs)) ≡ xs
+          → collect f (own j (round-calls a c marks att)) ≡ xs ++ cond (is-over j) (collect f (ask (seat a c end j) ∷ [])) []
+      reads f xs e =
+          ap (λ (l : List Call). collect f (own j l)) calls-are
+          ∙ read-append f j (calls a c marks att 0 rs) asks
+          ∙ ap₂ _++_ e (ap (collect f) own-asks ∙ collect-made f (is-over j) (ask (seat a c end j)))
 
-    pub rounds-decisions : collect decision-in (collect hearing-in (own j (round-calls a c))) ≡ map decision (probes a c)
-    rounds-decisions = ap (collect decision-in) rounds-hearings ∙ chain-decisions a c many j j1 jn (L .chain)
+      -- ---- what party j hears
 
-    pub rounds-bids : collect bid-in (own j (round-calls a c)) ≡ []
-    unfolding collect bid-in ask
-    rounds-bids = reads bid-in [] [] (chain-bids a c many j j1 jn (L .chain)) refl
+      abbrev heard-in : List Hearing
+      heard-in = take (att .hears j) (hearings-from a c marks att j 0 rs)
 
-    pub rounds-askings : collect asking-in (own j (round-calls a c)) ≡ record-at a c end j ∷ []
-    unfolding collect asking-in ask seat
-    rounds-askings = reads asking-in [] (record-at a c end j ∷ []) (chain-askings a c many j j1 jn (L .chain)) refl
+      pub rounds-hearings : collect hearing-in (own j (round-calls a c marks att)) ≡ heard-in
+      unfolding collect hearing-in ask
+      rounds-hearings =
+          let all : att .hears j - 0 ≡ att .hears j = omega arith in
+          reads hearing-in heard-in
+          (chain-hearings a c marks att many j j1 jn (L .chain) 0 enoughs ∙ ap (λ (m : ℕ). take m (hearings-from a c marks att j 0 rs)) all)
+          ∙ no-more (is-over j) heard-in
+
+      -- with records that have the whole roll
+      each-rolled : (Q : Party → Type 0) → ((σ : Stage) → Q (record-at a c σ j)) → (m round : ℕ) (rs : List Turn)
+          → Each (λ h. Q (h .party)) (take m (hearings-from a c marks att j round rs))
+      unfolding hearings-from
+      each-rolled Q q zero round rs = tt
+      each-rolled Q q (suc m) round [] = tt
+      each-rolled Q q (suc m) round (r ∷ rs) = (q (r .stage), each-rolled Q q m (suc round) rs)
+
+      pub rounds-rolled : (Q : Party → Type 0) → ((σ : Stage) → Q (record-at a c σ j))
+          → Each (λ h. Q (h .party)) (collect hearing-in (own j (round-calls a c marks att)))
+      rounds-rolled Q q = subst (Each (λ h. Q (h .party))) (sym rounds-hearings) (each-rolled Q q (att .hears j) 0 rs)
+
+      hearings-long : (round : ℕ) (rs : List Turn) → length (hearings-from a c marks att j round rs) ≡ length rs
+      unfolding hearings-from
+      hearings-long round [] = refl
+      hearings-long round (r ∷ rs) = ap suc (hearings-long (suc round) rs)
+
+      pub rounds-heard : length (collect hearing-in (own j (round-calls a c marks att))) ≡ min (att .hears j) (rounds a)
+      rounds-heard =
+          ap length rounds-hearings ∙ length-take (att .hears j) (hearings-from a c marks att j 0 rs)
+          ∙ ap (min (att .hears j)) (hearings-long 0 rs ∙ rounds-are a c A C)
+
+      hears-present : (round : ℕ) (rs : List Turn) → Enoughs a c marks att many round (length rs)
+          → map (λ h. of-present (h .present) (h .messages)) (hearings-from a c marks att j round rs) ≡ present-of marks round (map (all-words a) rs)
+      unfolding hearings-from present-of
+      hears-present round [] E = refl
+      hears-present round (r ∷ rs) E =
+          ap₂ (λ (ws : List ℕ) (wss : List (List ℕ)). ws ∷ wss)
+          (present-words (a .n) (r .words) (λ i. att .elsewhere j round i) (marks round) (E round (omega arith) (omega arith)) .said)
+          (hears-present (suc round) rs (λ i l k. E i (omega arith) (omega arith)))
+
+      pub rounds-messages : map (λ h. of-present (h .present) (h .messages)) (collect hearing-in (own j (round-calls a c marks att)))
+          ≡ take (att .hears j) (present-of marks 0 (all-spoken (a .n) (probes a c)))
+      rounds-messages =
+          ap (map (λ h. of-present (h .present) (h .messages))) rounds-hearings
+          ∙ map-take (λ h. of-present (h .present) (h .messages)) (att .hears j) (hearings-from a c marks att j 0 rs)
+          ∙ ap (take (att .hears j)) (hears-present 0 rs enoughs ∙ ap (present-of marks 0) (turns-spoken a (probes a c)))
+
+      pub rounds-decisions : collect decision-in (collect hearing-in (own j (round-calls a c marks att)))
+          ≡ take (att .hears j / probe-rounds) (map decision (probes a c))
+      rounds-decisions =
+          ap (collect decision-in) rounds-hearings ∙ chain-decisions a c marks att many j j1 jn (L .chain) 0 (att .hears j) enoughs
+          ∙ turns-decide (probes a c) (att .hears j)
+
+      pub rounds-bids : collect bid-in (own j (round-calls a c marks att)) ≡ []
+      unfolding collect bid-in ask
+      rounds-bids = reads bid-in [] (chain-none a c marks att many j j1 jn bid-in (λ q t s. refl) (λ q t s m p. refl) (L .chain) 0 enoughs) ∙ no-more (is-over j) []
+
+      pub rounds-askings : collect asking-in (own j (round-calls a c marks att)) ≡ cond (is-over j) (record-at a c end j ∷ []) []
+      unfolding collect asking-in ask seat
+      rounds-askings = reads asking-in [] (chain-none a c marks att many j j1 jn asking-in (λ q t s. refl) (λ q t s m p. refl) (L .chain) 0 enoughs)
+
+      -- ---- what it says
+
+      sayings-are : collect saying-in (own j (round-calls a c marks att)) ≡ collect saying-in (own j (calls a c marks att 0 rs))
+      unfolding collect saying-in ask
+      sayings-are = reads saying-in _ refl ∙ no-more (is-over j) _
+
+      pub rounds-sayings : (x : Saying) → List·Memᴰ x (collect saying-in (own j (round-calls a c marks att))) → (i : ℕ) × Says a c i j x
+      rounds-sayings x m =
+          let r = chain-sayings a c marks att many j j1 jn (L .chain) 0 enoughs x (subst (List·Memᴰ x) sayings-are m) in
+          (r .0, says-at j j1 jn (r .0) x (r .1))
+
+      pub rounds-says : (i : ℕ) → i < rounds a → is-present (marks i) j ≡ true → i ≤ att .hears j
+          → (x : Saying) × Says a c i j x × List·Memᴰ x (collect saying-in (own j (round-calls a c marks att)))
+      rounds-says i h p l =
+          let r = some-saying a c j rs i (omega (arith, rounds-are a c A C)) in
+          let at : 0 + i ≡ i = zero-add i in (
+            r .0,
+            says-at j j1 jn i (r .0) (r .1),
+            subst (List·Memᴰ (r .0)) (sym sayings-are)
+                (chain-says a c marks att many j j1 jn (L .chain) 0 enoughs i (r .0) (r .1) (ap (λ (k : ℕ). is-present (marks k) j) at ∙ p) (omega arith)),
+          )

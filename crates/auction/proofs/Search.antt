@@ -1,12 +1,14 @@
 -- The probes that the searches make, as rounds one after another: they end where both are over, at the price. Assumes nothing.
-use mathlib.Core.Path.{_≡_, refl, sym, ap, _∙_}
-use mathlib.Core.Bool.{Bool, true, false, true≢false}
+use mathlib.Core.Path.{_≡_, refl, sym, ap, ap₂, subst, _∙_}
+use mathlib.Core.Bool.{Bool, true, false}
 use mathlib.Core.List.{List, [], _∷_, _++_, map, map-map, nil≢cons, tail-eq-of-cons-eq}
-use Prim.Native.Nat.{ℕ, zero, suc, _+_, _*_, _≤_, _<_}
-use native.Mathlib.Nat.{zero-add}
+use Prim.Native.Nat.{ℕ, zero, suc, _+_, _-_, _*_, _/_, _≤_, _<_}
+use native.Mathlib.Nat.{zero-add, add-zero}
 use native.Mathlib.Numerals.{add-one}
+use native.Mathlib.Decide.{decLt}
 use native.Mathlib.Omega.{arith}
-use lib.ListN.{length, drop, length-append, length-map}
+use lib.ListN.{length, take, drop, length-append, length-map}
+use lib.Seq.{take-nil, take-append-le, take-append-add}
 use Rattle.ranges.specs.Sizes.{probe-rounds}
 use Rattle.ranges.specs.Lists.{from}
 use Rattle.ranges.proofs.Loops.{length-from}
@@ -15,31 +17,59 @@ use Rattle.search.specs.Bracket.{middle}
 use Rattle.search.specs.Limit.{most-probes}
 use Rattle.search.specs.Searches.{first-search, next, finished, price}
 use Rattle.search.specs.Search.{promise, follow, Decision, decision-at, trail, made-in, Searched}
-use Rattle.search.proofs.Bounds.{roomy-sound, probes-enough, next-probes, follow-probes, first-unfinished, second-finished, finished-second}
+use Rattle.search.proofs.Bounds.{roomy-sound, probes-enough, next-probes, follow-probes, second-finished, finished-second}
 use Rattle.search.proofs.Narrowing.{over-true}
 use Rattle.search.proofs.Promised.{Promised, promised-start, promised-next, enclosed}
-use Rattle.comparison.specs.Probe.{SheetCoins, Probe, secret, last-polynomial}
+use Rattle.sharing.specs.Scheme.{threshold}
+use Rattle.comparison.specs.Probe.{SheetCoins, Each, Probe, secret, last-polynomial}
+use Rattle.comparison.proofs.Dealt.{ProbeShared}
 use Rattle.search.proofs.Trails.{trail-over, trail-going, spent-on-first}
-use Rattle.auction.specs.Auction.{Auction, IsAuction, demand, supply, clearing-answer, balanced-answer, price-answer}
+use Rattle.auction.specs.Auction.{Auction, IsAuction, demand, supply, clearing-answer, balanced-answer, price-answer, probed, rounds}
 use Rattle.auction.specs.Coins.{Coins, InRange}
-use Rattle.auction.specs.Demands.{probed}
+use Rattle.auction.specs.Received.{collect, round-after}
 use Rattle.auction.proofs.Closed.{polynomials, probe-of, Made, decided, made, fresh-stage, probes, decision}
 use Rattle.auction.proofs.Totals.{totals-monotone}
-use Rattle.auction.proofs.Round.{Ready, verdict-is}
-use Rattle.auction.proofs.Chain.{Turn, Chain, done, chain-append}
-use Rattle.auction.proofs.Probed.{turn-of, probe-chain}
+use Rattle.auction.proofs.Round.{Ready, shared, verdict-is}
+use Rattle.auction.proofs.Calls.{collect-append}
+use Rattle.auction.proofs.Chain.{Turn, Chain, done, chain-append, decision-of}
+use Rattle.auction.proofs.Probed.{turn-of, probe-chain, probe-decides, part-decides}
 
--- the rounds of probes
+-- the rounds of a probe, and of probes
+abbrev pub turns-in : Made → List Turn
+turns-in d = map (turn-of (d .here) (d .probe)) (from 0 probe-rounds)
+
+turns-in-length : (d : Made) → length (turns-in d) ≡ probe-rounds
+turns-in-length d = length-map (from 0 probe-rounds) (turn-of (d .here) (d .probe)) ∙ length-from 0 probe-rounds
+
 unfoldable pub turns-of : List Made → List Turn
 turns-of [] = []
-turns-of (d ∷ ds) = map (turn-of (d .here) (d .probe)) (from 0 probe-rounds) ++ turns-of ds
+turns-of (d ∷ ds) = turns-in d ++ turns-of ds
 
 pub turns-length : (ds : List Made) → length (turns-of ds) ≡ probe-rounds * length ds
 unfolding turns-of
 turns-length [] = refl
-turns-length (d ∷ ds) =
-    length-append (map (turn-of (d .here) (d .probe)) (from 0 probe-rounds)) (turns-of ds)
-    ∙ omega (arith, length-map (from 0 probe-rounds) (turn-of (d .here) (d .probe)), length-from 0 probe-rounds, turns-length ds)
+turns-length (d ∷ ds) = length-append (turns-in d) (turns-of ds) ∙ omega (arith, turns-in-length d, turns-length ds)
+
+-- in the first m rounds as many verdicts are heard as probes end
+pub turns-decide : (ds : List Made) (m : ℕ) → collect decision-of (take m (turns-of ds)) ≡ take (m / probe-rounds) (map decision ds)
+unfolding turns-of collect
+turns-decide [] m = ap (collect decision-of) (take-nil m) ∙ sym (take-nil (m / probe-rounds))
+turns-decide (d ∷ ds) m =
+    elim (decLt m probe-rounds) [
+      | yes lt ↦
+          let none : m / probe-rounds ≡ 0 = omega arith in
+          ap (collect decision-of) (take-append-le m (turns-in d) (turns-of ds) (omega (arith, turns-in-length d)))
+          ∙ part-decides (d .here) (d .probe) m lt ∙ ap (λ (k : ℕ). take k (map decision (d ∷ ds))) (sym none)
+      | no ge ↦
+          let later : ℕ = m - probe-rounds in
+          let at : m ≡ length (turns-in d) + later = omega (arith, turns-in-length d) in
+          let count : suc (later / probe-rounds) ≡ m / probe-rounds = omega arith in
+          ap (λ (k : ℕ). collect decision-of (take k (turns-in d ++ turns-of ds))) at
+          ∙ ap (collect decision-of) (take-append-add (turns-in d) (turns-of ds) later)
+          ∙ collect-append decision-of (turns-in d) (take later (turns-of ds))
+          ∙ ap₂ _++_ (probe-decides (d .here) (d .probe)) (turns-decide ds later)
+          ∙ ap (λ (k : ℕ). take k (map decision (d ∷ ds))) count
+    ]
 
 -- where probes lead
 abbrev pub after-probes : Search → List Made → Search
@@ -64,12 +94,64 @@ module _ (a : Auction) (fs : List (List ℕ)) where
   unfolding made
   made-going here s ss e = rw (e, made)
 
+-- ---- the rounds are counted from 0 on
+
+-- the round that a turn is, and that these turns are the rounds from k on
+abbrev pub round-is : Turn → ℕ
+round-is r = round-after (r .stage .search .probes) (r .stage .round)
+
+abbrev pub Counted : ℕ → List Turn → Type 0
+Counted k [] = Unit {0}
+Counted k (r ∷ rs) = (round-is r ≡ k) × Counted (suc k) rs
+
+counted-append : (k l : ℕ) (rs rs′ : List Turn) → k + length rs ≡ l → Counted k rs → Counted l rs′ → Counted k (rs ++ rs′)
+counted-append k l [] rs′ e h g = subst (λ (x : ℕ). Counted x rs′) (sym e ∙ add-zero k) g
+counted-append k l (r ∷ rs) rs′ e h g = (h .0, counted-append (suc k) l rs rs′ (omega arith) (h .1) g)
+
+counted-probe : (here : Search) (q : Probe) (i m : ℕ) → Counted (probe-rounds * here .probes + i) (map (turn-of here q) (from i m))
+unfolding from
+counted-probe here q i zero = tt
+counted-probe here q zero (suc m) =
+    let next : probe-rounds * here .probes + 1 ≡ suc (probe-rounds * here .probes + 0) = omega arith in
+    (omega arith, subst (λ (k : ℕ). Counted k (map (turn-of here q) (from 1 m))) next (counted-probe here q 1 m))
+counted-probe here q (suc i) (suc m) =
+    let next : probe-rounds * here .probes + suc (suc i) ≡ suc (probe-rounds * here .probes + suc i) = omega arith in
+    (omega arith, subst (λ (k : ℕ). Counted k (map (turn-of here q) (from (suc (suc i)) m))) next (counted-probe here q (suc (suc i)) m))
+
+none-counted : (k : ℕ) → Counted k (turns-of [])
+unfolding turns-of
+none-counted k = tt
+
+one-counted : (d : Made) (ds : List Made) (after : Search) → after .probes ≡ d .here .probes + 1
+    → Counted (probe-rounds * after .probes) (turns-of ds) → Counted (probe-rounds * d .here .probes) (turns-of (d ∷ ds))
+unfolding turns-of
+one-counted d ds after e h =
+    counted-append (probe-rounds * d .here .probes) (probe-rounds * after .probes) (turns-in d) (turns-of ds)
+    (omega (arith, e, turns-in-length d))
+    (subst (λ (k : ℕ). Counted k (turns-in d)) (add-zero _) (counted-probe (d .here) (d .probe) 0 probe-rounds))
+    h
+
+module _ (a : Auction) (fs : List (List ℕ)) where
+  pub made-counted : (here : Search) (ss : List SheetCoins) → Counted (probe-rounds * here .probes) (turns-of (made a fs here ss))
+  unfolding made
+  made-counted here [] = none-counted _
+  made-counted here (s ∷ ss) = split (finished here) refl (made-counted (next here verdict) ss)
+    where
+      verdict : ℕ
+      verdict = secret (last-polynomial (probe-of a fs here s))
+
+      split : (o : Bool) → finished here ≡ o → Counted (probe-rounds * next here verdict .probes) (turns-of (made a fs (next here verdict) ss))
+          → Counted (probe-rounds * here .probes) (turns-of (made a fs here (s ∷ ss)))
+      split true o later = rw (made-over a fs here (s ∷ ss) o) (none-counted _)
+      split false o later = rw (made-going a fs here s ss o) (one-counted _ _ (next here verdict) (next-probes here verdict) later)
+
 -- what the probes ds with these sheets are, from here on
 pub record Leads (a : Auction) (c : Coins) (here : Search) (ss : List SheetCoins) (ds : List Made) : Type 0 where
-  pub chain : Chain a c (fresh-stage here) (turns-of ds) (map decision ds) (fresh-stage (after-probes here ds))
+  pub chain : Chain a c (fresh-stage here) (turns-of ds) (fresh-stage (after-probes here ds))
   pub promised : Promised (demand a) (supply a) (a .k) (after-probes here ds)
   pub ended : finished (after-probes here ds) ≡ true
   pub trail-is : map decision ds ≡ trail (promise (demand a) (supply a)) (length ss) here
+  pub shared : Each (λ d. ProbeShared (threshold (a .n)) (d .probe)) ds
 
 module _ (a : Auction) (c : Coins) (A : IsAuction a) (C : InRange a c) where
   abbrev given : (which i : ℕ) → ℕ
@@ -82,7 +164,7 @@ module _ (a : Auction) (c : Coins) (A : IsAuction a) (C : InRange a c) where
   none-left : (here : Search) (ss : List SheetCoins) → Here here → finished here ≡ true → Leads a c here ss []
   unfolding turns-of follow
   none-left here ss K o =
-      record { chain = done; promised = K; ended = o; trail-is = sym (trail-over given (length ss) here o) }
+      record { chain = done; promised = K; ended = o; trail-is = sym (trail-over given (length ss) here o); shared = tt }
 
   module _ (here : Search) (s : SheetCoins) (ss : List SheetCoins) (R : Ready a c here s ss) where
     abbrev q : Probe
@@ -106,6 +188,7 @@ module _ (a : Auction) (c : Coins) (A : IsAuction a) (C : InRange a c) where
               ap (λ (l : List Decision). decision-at here v ∷ l) (L .trail-is)
               ∙ ap (λ (x : ℕ). decision-at here x ∷ trail given (length ss) (next here x)) promise-kept
               ∙ sym (trail-going given (length ss) here (R .going));
+          shared = (shared a c A C here s ss R, L .shared);
         }
 
     further : Here here → Here (next here v)
@@ -144,6 +227,13 @@ module _ (a : Auction) (c : Coins) (A : IsAuction a) (C : InRange a c) where
   pub probes-trail : map decision (probes a c) ≡ probed a
   probes-trail = whole .trail-is ∙ ap (λ (x : ℕ). trail given x (first-search (a .k))) (C .sheets-many)
 
+  pub probes-many : length (probes a c) ≡ length (probed a)
+  probes-many = sym (length-map (probes a c) decision) ∙ ap length probes-trail
+
+  -- as many rounds as are made
+  pub rounds-are : length (turns-of (probes a c)) ≡ rounds a
+  rounds-are = turns-length (probes a c) ∙ ap (λ (m : ℕ). probe-rounds * m) probes-many
+
   abbrev end : Search
   end = after-probes (first-search (a .k)) (probes a c)
 
@@ -157,14 +247,6 @@ module _ (a : Auction) (c : Coins) (A : IsAuction a) (C : InRange a c) where
 
   pub probes-few : length (probes a c) ≤ most-probes (a .k)
   probes-few = omega (arith, searched .few, probes-counted)
-
-  pub probes-some : 1 ≤ length (probes a c)
-  unfolding follow first-search
-  probes-some = split (probes a c) (whole .ended)
-    where
-      split : (ds : List Made) → finished (after-probes (first-search (a .k)) ds) ≡ true → 1 ≤ length ds
-      split [] o = absurd (true≢false (sym o ∙ first-unfinished (first-search (a .k)) refl))
-      split (d ∷ ds) o = omega arith
 
   pub price-found : price end ≡ price-answer a
   price-found = searched .answer (whole .ended)

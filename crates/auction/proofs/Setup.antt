@@ -3,6 +3,7 @@
 use mathlib.Core.Path.{_≡_, refl, sym, ap, ap₂, _∙_}
 use mathlib.Core.Bool.{true}
 use mathlib.Core.List.{List, [], _∷_, _++_, map, flatten, zip, append-assoc, append-nil}
+use mathlib.Core.Option.{Option, none}
 use Prim.Native.Nat.{ℕ, _≤_}
 use lib.ListN.{length, replicate, length-replicate}
 use Rattle.refusal.specs.declared.Judgement.the-variants.{Accepted}
@@ -11,6 +12,7 @@ use Rattle.sharing.specs.Polynomial.{value}
 use Rattle.sharing.specs.Scheme.{threshold, points}
 use Rattle.search.specs.Searches.{first-search}
 use Rattle.comparison.specs.Probe.{SheetCoins, SheetInRange, Each}
+use Rattle.record.specs.declared.Party.{Party}
 use Rattle.roll.specs.declared.Roll.{Roll}
 use Rattle.roll.specs.Marks.{empty, mark}
 use Rattle.roll.proofs.Laws.{Proper, Free, proper-mark, proper-empty}
@@ -19,12 +21,13 @@ use Rattle.auction.specs.Auction.{Auction, bidders, IsAuction}
 use Rattle.auction.specs.Coins.{Coins, DrawnBid, InRange, flat, coin-words, coin-bytes}
 use Rattle.auction.specs.Call.{Call, open-call, deal-call, add-call, judgement, is-accepted, accepted, whose, of-party, given}
 use Rattle.auction.specs.Desk.{Desk, Complete}
-use Rattle.auction.specs.Canonical.{zeros, seated, bundle-calls, splits-for, add-by, after-adding, deal-for, sheet-for, after-dealing, enough-rounds, from-rounds, deals, from-bids, canonical}
+use Rattle.auction.specs.Attendance.{Marks, Attendance}
+use Rattle.auction.specs.Canonical.{zeros, seated, bundle-calls, splits-for, add-by, after-adding, deal-for, sheet-for, sheets-for, after-dealing, enough-rounds, from-rounds, deals, from-bids, canonical}
 use Rattle.auction.specs.Run.{select, own}
-use Rattle.auction.specs.Received.{collect, bid-in, hearing-in, asking-in}
+use Rattle.auction.specs.Received.{collect, bid-in}
 use Rattle.auction.specs.Demands.{all-accepted}
 use Rattle.auction.proofs.Closed.{entries, added-polynomials, totals-after, at-party, bid-for, bid-words, no-totals, polynomials, full-roll, fresh-stage, record-at, sheets-at, seat}
-use Rattle.auction.proofs.Calls.{own-append, all-accepted-append, all-accepted-map, all-accepted-points, each-point, map-each, map-points, map-through, Own, own-points, own-none, all-accepted-flatten, own-flatten, own-bundle}
+use Rattle.auction.proofs.Calls.{own-append, collect-none, all-accepted-append, all-accepted-map, all-accepted-points, each-point, map-each, map-points, map-through, Own, own-points, own-none, all-accepted-flatten, own-flatten, own-bundle}
 use Rattle.auction.proofs.Totals.{each-imp, map-zip, GoodBid, Held, entries-held, added-held, no-totals-held, all-good}
 use Rattle.ranges.proofs.Ranges.{one-of-n}
 use Rattle.auction.proofs.Bidding.{holding, holding-seat, member, opened, seated-holding, bundle-accepted, shares-for-party, adding-accepted, added-holding}
@@ -91,6 +94,10 @@ module _ (a : Auction) (c : Coins) where
   unfoldable pub setup-calls : Desk → List Call
   setup-calls desk = map open-at (points (a .n)) ++ (bid-calls desk (zip (a .bids) (c .bids)) empty (no-totals a) ++ deal-calls (points (a .n)))
 
+  -- and all calls from the first saying on
+  abbrev pub round-calls : Marks → Attendance → List Call
+  round-calls marks att = from-rounds marks att (enough-rounds a) 0 (map (seat a c (fresh-stage (first-search (a .k)))) (points (a .n)))
+
   -- party j's own calls of the bids
   unfoldable pub adds-of : (j : ℕ) → List DrawnBid → (roll : Roll) (fs : List (List ℕ)) → List Call
   adds-of j [] roll fs = []
@@ -108,13 +115,19 @@ module _ {a : Auction} {c : Coins} (A : IsAuction a) (C : InRange a c) where
   all-entering : Entering a empty (zip (a .bids) (c .bids))
   all-entering = entering-all A (c .bids) (C .bids-many)
 
-  pub dealt-seat : (j : ℕ) → 1 ≤ j → j ≤ a .n
-      → after-dealing a c (holding-seat a (full-roll a) (polynomials a c) j) ≡ seat a c (fresh-stage (first-search (a .k))) j
-  unfolding after-dealing sheet-for holding-seat holding seat record-at sheets-at value
-  dealt-seat j h1 hn =
-      ap (λ (z : List (List ℕ)). record { party = holding (a .n) (a .k) (full-roll a) j; totals = at-party j (polynomials a c); sheets = flat z })
+  -- what the dealer writes for a party
+  pub sheets-dealt : (j : ℕ) → 1 ≤ j → j ≤ a .n → sheets-for a c j ≡ sheets-at a c j
+  unfolding sheets-for sheet-for sheets-at
+  sheets-dealt j h1 hn =
+      ap flat
       (map-each _ _ (c .sheets)
       (each-imp (SheetInRange t) _ (c .sheets) (λ s h. deal-writes (a .n) j (one-of-n _ _ _ (member A j h1 hn)) s h (replicate sheet-size 0) (length-replicate {A = ℕ} sheet-size 0)) (C .sheets)))
+
+  pub dealt-seat : (j : ℕ) → 1 ≤ j → j ≤ a .n
+      → after-dealing a c (holding-seat a (full-roll a) (polynomials a c) j) ≡ seat a c (fresh-stage (first-search (a .k))) j
+  unfolding after-dealing holding-seat holding seat record-at value
+  dealt-seat j h1 hn =
+      ap (λ (z : List ℕ). record { party = holding (a .n) (a .k) (full-roll a) j; totals = at-party j (polynomials a c); sheets = z }) (sheets-dealt j h1 hn)
 
   dealt-all : map (after-dealing a c) (map (holding-seat a (full-roll a) (polynomials a c)) (points (a .n)))
       ≡ map (seat a c (fresh-stage (first-search (a .k)))) (points (a .n))
@@ -122,9 +135,6 @@ module _ {a : Auction} {c : Coins} (A : IsAuction a) (C : InRange a c) where
       map-through (after-dealing a c) (holding-seat a (full-roll a) (polynomials a c)) (seat a c (fresh-stage (first-search (a .k)))) (a .n) dealt-seat
 
   -- ---- the list of calls
-
-  abbrev after : List Call
-  after = from-rounds a c (enough-rounds a) (map (seat a c (fresh-stage (first-search (a .k)))) (points (a .n)))
 
   deals-holding : (roll : Roll) (fs : List (List ℕ)) (js : List ℕ) → deals a c (map (holding-seat a roll fs) js) ≡ deal-calls a c js
   unfolding deals deal-calls deal-for deal-at holding-seat holding
@@ -157,7 +167,7 @@ module _ {a : Auction} {c : Coins} (A : IsAuction a) (C : InRange a c) where
 
   -- ---- with the bundles written in these ways
 
-  module _ (desk : Desk) (D : Complete (a .k) desk) where
+  module _ (marks : Marks) (desk : Desk) (D : Complete (a .k) desk) (att : Attendance) where
     splits-holding : (b : DrawnBid) (roll : Roll) (fs : List (List ℕ))
         → map (splits-for a desk b) (map (holding-seat a roll fs) (points (a .n))) ≡ map (splits-at a c desk b) (points (a .n))
     unfolding splits-for splits-at holding-seat holding
@@ -172,36 +182,39 @@ module _ {a : Auction} {c : Coins} (A : IsAuction a) (C : InRange a c) where
 
     from-bids-calls : (bs : List DrawnBid) (roll : Roll) (fs : List (List ℕ)) → Each (GoodBid (a .k) t) bs → Held (a .k) t fs
         → Entering a roll bs → totals-after bs fs ≡ polynomials a c
-        → from-bids a c desk bs (map (holding-seat a roll fs) (points (a .n))) ≡ bid-calls a c desk bs roll fs ++ (deal-calls a c (points (a .n)) ++ after)
+        → from-bids a c marks desk att bs (map (holding-seat a roll fs) (points (a .n))) ≡ bid-calls a c desk bs roll fs ++ (deal-calls a c (points (a .n)) ++ round-calls a c marks att)
     unfolding from-bids bid-calls totals-after
     from-bids-calls [] roll fs B F l e =
         let e′ : roll ≡ full-roll a = all-entered a roll l in
         ap₂ _++_ (deals-holding roll fs (points (a .n)))
-        (ap (from-rounds a c (enough-rounds a))
+        (ap (from-rounds marks att (enough-rounds a) 0)
         (ap₂ (λ (z : Roll) (zs : List (List ℕ)). map (after-dealing a c) (map (holding-seat a z zs) (points (a .n)))) e′ e ∙ dealt-all))
     from-bids-calls (b ∷ bs) roll fs B F l e =
-        let rest : List Call = deal-calls a c (points (a .n)) ++ after in
+        let rest : List Call = deal-calls a c (points (a .n)) ++ round-calls a c marks att in
         let gs : List (List ℕ) = added-polynomials fs (entries (b .0 .table) (b .1)) in
         let splits : List Call = flatten (map (splits-at a c desk b) (points (a .n))) in
         let adds : List Call = map (add-at a c b roll fs) (points (a .n)) in
         ap₂ _++_ (ap flatten (splits-holding b roll fs))
         (ap₂ _++_ (adds-holding b (B .0) roll fs F)
-        (ap (from-bids a c desk bs)
+        (ap (from-bids a c marks desk att bs)
         (map-through (after-adding a desk b) (holding-seat a roll fs) (holding-seat a (mark roll (b .0 .bidder)) gs) (a .n)
         (λ j h1 hn. added-holding A j h1 hn b (B .0) roll fs F (l .proper) (l .enters .0) desk D))
         ∙ from-bids-calls bs (mark roll (b .0 .bidder)) gs (B .1) (added-held (a .k) t fs (entries (b .0 .table) (b .1)) F (entries-held (a .k) t b (B .0))) (entering-more a roll b bs l) e))
         ∙ sym (append-assoc splits (adds ++ bid-calls a c desk bs (mark roll (b .0 .bidder)) gs) rest ∙ ap (λ (z : List Call). splits ++ z) (append-assoc adds (bid-calls a c desk bs (mark roll (b .0 .bidder)) gs) rest))
 
-    pub canonical-setup : canonical a c desk ≡ setup-calls a c desk ++ from-rounds a c (enough-rounds a) (map (seat a c (fresh-stage (first-search (a .k)))) (points (a .n)))
+    pub canonical-setup : canonical a c marks desk att ≡ setup-calls a c desk ++ round-calls a c marks att
     unfolding canonical setup-calls open-at polynomials
     canonical-setup =
         let opens : List Call = map (open-at a c) (points (a .n)) in
         let bids : List Call = bid-calls a c desk (zip (a .bids) (c .bids)) empty (no-totals a) in
         ap (λ (z : List Call). opens ++ z)
-        (ap (from-bids a c desk (zip (a .bids) (c .bids))) seated-all
+        (ap (from-bids a c marks desk att (zip (a .bids) (c .bids))) seated-all
         ∙ from-bids-calls (zip (a .bids) (c .bids)) empty (no-totals a) (all-good A C) (no-totals-held (a .k) t) all-entering refl)
-        ∙ sym (append-assoc opens (bids ++ deal-calls a c (points (a .n))) after ∙ ap (λ (z : List Call). opens ++ z) (append-assoc bids (deal-calls a c (points (a .n))) after))
+        ∙ sym
+        (append-assoc opens (bids ++ deal-calls a c (points (a .n))) (round-calls a c marks att)
+        ∙ ap (λ (z : List Call). opens ++ z) (append-assoc bids (deal-calls a c (points (a .n))) (round-calls a c marks att)))
 
+  module _ (desk : Desk) (D : Complete (a .k) desk) where
     splits-at-accepted : (b : DrawnBid) → GoodBid (a .k) t b → (j : ℕ) → 1 ≤ j → j ≤ a .n → all-accepted (splits-at a c desk b j) ≡ true
     unfolding splits-at
     splits-at-accepted b B j h1 hn = bundle-accepted A j h1 hn b B (desk (b .0 .bidder) j) (D (b .0 .bidder) j)
@@ -251,15 +264,15 @@ module _ (a : Auction) (c : Coins) (j : ℕ) where
   adds-bids (b ∷ bs) roll fs =
       ap (λ (z : List (ℕ × List ℕ)). bid-for j b ∷ z) (adds-bids bs (mark roll (b .0 .bidder)) (added-polynomials fs (entries (b .0 .table) (b .1))))
 
-  adds-hearings : (bs : List DrawnBid) (roll : Roll) (fs : List (List ℕ)) → collect hearing-in (adds-of a c j bs roll fs) ≡ []
-  unfolding adds-of add-at hearing-in collect
-  adds-hearings [] roll fs = refl
-  adds-hearings (b ∷ bs) roll fs = adds-hearings bs (mark roll (b .0 .bidder)) (added-polynomials fs (entries (b .0 .table) (b .1)))
-
-  adds-askings : (bs : List DrawnBid) (roll : Roll) (fs : List (List ℕ)) → collect asking-in (adds-of a c j bs roll fs) ≡ []
-  unfolding adds-of add-at asking-in collect
-  adds-askings [] roll fs = refl
-  adds-askings (b ∷ bs) roll fs = adds-askings bs (mark roll (b .0 .bidder)) (added-polynomials fs (entries (b .0 .table) (b .1)))
+  -- a reader that passes over addings
+  module _ {B : Type 0} (f : Call → Option B) (no-add : (q : Party) (t : List ℕ) (bidder : ℕ) (s : List ℕ) → f (add-call q t bidder s) ≡ none) where
+    adds-none : (bs : List DrawnBid) (roll : Roll) (fs : List (List ℕ)) → collect f (adds-of a c j bs roll fs) ≡ []
+    unfolding adds-of add-at collect
+    adds-none [] roll fs = refl
+    adds-none (b ∷ bs) roll fs =
+        let gs : List (List ℕ) = added-polynomials fs (entries (b .0 .table) (b .1)) in
+        collect-none f (add-at a c b roll fs j) (adds-of a c j bs (mark roll (b .0 .bidder)) gs) (no-add _ _ _ _)
+        ∙ adds-none bs (mark roll (b .0 .bidder)) gs
 
 module _ {a : Auction} {c : Coins} (A : IsAuction a) (C : InRange a c) (desk : Desk) (j : ℕ) (h1 : 1 ≤ j) (hn : j ≤ a .n) where
   own-bids : (bs : List DrawnBid) (roll : Roll) (fs : List (List ℕ)) → Each (GoodBid (a .k) (threshold (a .n))) bs
@@ -297,10 +310,9 @@ module _ {a : Auction} {c : Coins} (A : IsAuction a) (C : InRange a c) (desk : D
   unfolding open-at given bid-in collect
   setup-bids = ap (collect bid-in) own-setup ∙ adds-bids a c j (zip (a .bids) (c .bids)) empty (no-totals a)
 
-  pub setup-hearings : collect hearing-in (own j (setup-calls a c desk)) ≡ []
-  unfolding open-at given hearing-in collect
-  setup-hearings = ap (collect hearing-in) own-setup ∙ adds-hearings a c j (zip (a .bids) (c .bids)) empty (no-totals a)
-
-  pub setup-askings : collect asking-in (own j (setup-calls a c desk)) ≡ []
-  unfolding open-at given asking-in collect
-  setup-askings = ap (collect asking-in) own-setup ∙ adds-askings a c j (zip (a .bids) (c .bids)) empty (no-totals a)
+  -- a reader that passes over openings and addings
+  pub setup-none : {B : Type 0} (f : Call → Option B) → ((n own k : ℕ) (t : List ℕ) → f (open-call n own k t) ≡ none)
+      → ((q : Party) (t : List ℕ) (bidder : ℕ) (s : List ℕ) → f (add-call q t bidder s) ≡ none) → collect f (own j (setup-calls a c desk)) ≡ []
+  unfolding open-at given
+  setup-none f no-open no-add =
+      ap (collect f) own-setup ∙ collect-none f _ _ (no-open _ _ _ _) ∙ adds-none a c j f no-add (zip (a .bids) (c .bids)) empty (no-totals a)

@@ -1,18 +1,19 @@
--- One round of all parties: when every call of it is accepted, and what every party then has. Assumes nothing.
+-- One round of all parties, whoever is present: when every call of it is accepted, and what every party then has. Assumes nothing.
 use mathlib.Core.Path.{_≡_, refl, sym, ap, _∙_}
 use mathlib.Core.Bool.{true, false}
 use mathlib.Core.List.{List, _∷_, map}
 use Prim.Native.Nat.{ℕ, _+_, _-_, _*_, _^_, _≤_, _<_}
 use native.Mathlib.Omega.{arith}
-use lib.ListN.{length, drop, getD, length-map, length-drop}
+use lib.ListN.{length, drop, getD, length-map}
 use Rattle.ranges.specs.Sizes.{sheet-size}
 use Rattle.refusal.specs.Judging.{kept}
 use Rattle.refusal.specs.declared.Judgement.the-variants.{Accepted}
 use Rattle.fields.specs.Amount.{amounts}
-use Rattle.fields.specs.Byte.{bytes}
 use Rattle.ranges.specs.Below.{AllBelow}
 use Rattle.sharing.specs.Polynomial.{value}
 use Rattle.sharing.specs.Scheme.{threshold, points}
+use Rattle.presence.specs.Presence.{of-present, is-present}
+use Rattle.presence.proofs.Laws.{chosen-same}
 use Rattle.ranges.proofs.Loops.{length-from, map-from}
 use Rattle.search.specs.declared.searches.Search.{Search}
 use Rattle.search.specs.Bracket.{middle}
@@ -25,15 +26,18 @@ use Rattle.round.specs.declared.Heard.{Heard}
 use Rattle.record.specs.Record.{sound, replied}
 use Rattle.saying.specs.Say.{demand-share, supply-share, current, message, say-judgement, said}
 use Rattle.round.specs.Round.{heard, unopened, sum-outside, verdict-outside}
-use Rattle.hearing.specs.Hear.{hear-judgement, after}
+use Rattle.hearing.specs.Hear.{hear-judgement}
+use Rattle.stepping.specs.After.{after}
 use Rattle.record.proofs.Soundness.{Sound, sound-of}
-use Rattle.saying.proofs.Laws.{Says, say-accepted}
-use Rattle.saying.proofs.Sheets.{InField}
+use Rattle.saying.proofs.Laws.{InTurn, say-accepted}
+use Rattle.saying.proofs.Sheets.{InField, in-field-any}
+use Rattle.round.proofs.Opened.{heard-unmarked}
 use Rattle.hearing.proofs.Hears.{admitted, hear-accepted}
 use Rattle.roll.proofs.Entry.{entered-proper}
 use Rattle.auction.specs.Auction.{Auction, bidders, IsAuction}
 use Rattle.auction.specs.Coins.{Coins, InRange}
 use Rattle.auction.specs.Call.{accepted, is-accepted, judgement}
+use Rattle.auction.specs.Attendance.{Enough}
 use Rattle.auction.specs.Canonical.{word, say-by, word-by, hear-by, after-hearing}
 use Rattle.auction.proofs.Closed.{at-party, polynomials, demand-at, supply-at, full-roll, Stage, fresh-stage, record-at, sheets-at, seat}
 use Rattle.auction.proofs.Totals.{each-imp, polynomials-length}
@@ -42,13 +46,22 @@ use Rattle.auction.proofs.Comparing.{demand-shared, supply-shared}
 
 -- ---- one round
 
--- from the stage σ all say the words w, and are then at the stage τ
-pub record Step (a : Auction) (c : Coins) (σ τ : Stage) (w : ℕ → ℕ) : Type 0 where
+-- messages in which the words w of those who are present stand, t + 1 or more
+pub record Hearable (n : ℕ) (w : ℕ → ℕ) (messages present : List ℕ) : Type 0 where
+  pub enough : Enough n present
+  pub many : length messages ≡ n
+  pub said : of-present present messages ≡ of-present present (map w (points n))
+
+-- from the stage σ all say the words w, which open to o, and are then at the stage τ
+pub record Step (a : Auction) (c : Coins) (σ τ : Stage) (w : ℕ → ℕ) (o : Heard) : Type 0 where
   pub going : finished (σ .search) ≡ false
-  pub saying : (j : ℕ) → 1 ≤ j → j ≤ a .n → accepted (say-by a c (seat a c σ j)) ≡ true
-  pub word : (j : ℕ) → 1 ≤ j → j ≤ a .n → word-by a c (seat a c σ j) ≡ w j
-  pub hearing : (j : ℕ) → 1 ≤ j → j ≤ a .n → accepted (hear-by a c (map w (points (a .n))) (seat a c σ j)) ≡ true
-  pub next : (j : ℕ) → 1 ≤ j → j ≤ a .n → after-hearing a c (map w (points (a .n))) (seat a c σ j) ≡ seat a c τ j
+  pub saying : (j : ℕ) → 1 ≤ j → j ≤ a .n → accepted (say-by (seat a c σ j)) ≡ true
+  pub word : (j : ℕ) → 1 ≤ j → j ≤ a .n → word-by (seat a c σ j) ≡ w j
+  pub opens : (messages present : List ℕ) → Hearable (a .n) w messages present → heard (a .n) (σ .round) present messages ≡ o
+  pub hearing : (messages present : List ℕ) → Hearable (a .n) w messages present
+      → (j : ℕ) → 1 ≤ j → j ≤ a .n → accepted (hear-by messages present (seat a c σ j)) ≡ true
+  pub next : (messages present : List ℕ) → Hearable (a .n) w messages present
+      → (j : ℕ) → 1 ≤ j → j ≤ a .n → after-hearing messages present (seat a c σ j) ≡ seat a c τ j
 
 -- a stage whose records are sound
 pub record Sane (a : Auction) (σ : Stage) : Type 0 where
@@ -119,10 +132,6 @@ module _ (a : Auction) (c : Coins) (A : IsAuction a) (C : InRange a c) where
   pub totals-length : (j : ℕ) → length (at-party j (polynomials a c)) ≡ 2 * a .k
   totals-length j = length-map (polynomials a c) (λ f. value amounts f j) ∙ polynomials-length A C
 
-  -- a sheet is left for each probe
-  pub sheet-left : (m : ℕ) (s : SheetCoins) (ss : List SheetCoins) → drop m (c .sheets) ≡ s ∷ ss → m < most-probes (a .k)
-  sheet-left m s ss e = omega (arith, C .sheets-many, length-drop m (c .sheets), ap length e)
-
   -- ---- at a stage
 
   module _ (σ : Stage) (s : SheetCoins) (ss : List SheetCoins) (P : Placed a c σ s ss) where
@@ -157,80 +166,94 @@ module _ (a : Auction) (c : Coins) (A : IsAuction a) (C : InRange a c) where
           let F = searches.probing (a .k) (σ .search) (P .sane .search) (P .going) in
           (F .index-least, F .index-most)
 
-      in-field-facts : InField (record-at a c σ j) totals (sheet-shares j (sheet-polynomials s))
+      in-field-facts : InField (record-at a c σ j) true totals (sheet-shares j (sheet-polynomials s))
       in-field-facts =
           let small : j < 10 = omega (arith, A .n-most) in
           record {
-            demand = λ e. rw demand-word (amount-below j small _ (demand-shared a c A C index (on-list .0) (on-list .1) .1));
-            supply = λ e. rw supply-word (amount-below j small _ (supply-shared a c A C index (on-list .0) (on-list .1) .1));
+            demand = λ u e. rw demand-word (amount-below j small _ (demand-shared a c A C index (on-list .0) (on-list .1) .1));
+            supply = λ u e. rw supply-word (amount-below j small _ (supply-shared a c A C index (on-list .0) (on-list .1) .1));
             mask = rw (mask-word t j (sheet-polynomials s) sheet-shared) (amount-below j small _ (sheet-shared .mask .1));
             bytes = sheet-bytes-below t j small (sheet-polynomials s) sheet-shared;
           }
 
-      says-at : Says (record-at a c σ j) totals (sheets-at a c j)
+      turn-at : InTurn (record-at a c σ j) totals (sheets-at a c j)
       unfolding record-at
-      says-at =
+      turn-at =
           record {
             sound = facts-at a c A σ (P .sane) j j1 jn;
             totals-long = totals-length j;
             sheets-long = sheets-length j;
             going = P .going;
-            in-field = rw current-at in-field-facts;
           }
 
       say-ok : say-judgement (record-at a c σ j) totals (sheets-at a c j) ≡ Accepted
-      say-ok = say-accepted _ _ _ says-at
+      say-ok = say-accepted _ _ _ (record { turn = turn-at; in-field = rw current-at in-field-facts })
 
-      pub saying-at : accepted (say-by a c (seat a c σ j)) ≡ true
+      pub saying-at : accepted (say-by (seat a c σ j)) ≡ true
       unfolding say-by seat judgement is-accepted
       saying-at = rw say-ok
 
-      pub word-at : word-by a c (seat a c σ j) ≡ message (record-at a c σ j) totals (sheet-shares j (sheet-polynomials s))
+      pub word-at : word-by (seat a c σ j) ≡ message (record-at a c σ j) totals (sheet-shares j (sheet-polynomials s))
       unfolding word-by seat word said
       word-at = rw (say-ok, current-at)
 
-      -- hearing words among which its own stands, that open to o
-      module _ (w : ℕ → ℕ) (o : Heard) (own : w j ≡ message (record-at a c σ j) totals (sheet-shares j (sheet-polynomials s)))
-          (opens : heard (a .n) (σ .round) (map w (points (a .n))) ≡ o)
+      -- hearing words, its own among them if it is present, that open to o
+      module _ (w : ℕ → ℕ) (o : Heard) (messages present : List ℕ) (H : Hearable (a .n) w messages present)
+          (own : w j ≡ message (record-at a c σ j) totals (sheet-shares j (sheet-polynomials s)))
+          (opens : heard (a .n) (σ .round) present messages ≡ o)
           (straight : unopened o ≡ false) (tame : sum-outside o ≡ false) (whole : verdict-outside o ≡ false) where
-        own-word : getD (map w (points (a .n))) (j - 1) 0 ≡ w j
-        own-word = map-from w 1 (a .n) (j - 1) (omega arith) ∙ ap w (omega arith)
+        own-word : is-present present j ≡ true → getD messages (j - 1) 0 ≡ w j
+        own-word here =
+            chosen-same present messages (map w (points (a .n))) (j - 1) (H .many ∙ sym (words-length w (a .n))) (H .said) here
+            ∙ map-from w 0 1 (a .n) (j - 1) (omega arith) ∙ ap w (omega arith)
 
-        hear-ok : hear-judgement (record-at a c σ j) totals (sheets-at a c j) (map w (points (a .n))) ≡ Accepted
+        hear-ok : hear-judgement (record-at a c σ j) totals (sheets-at a c j) messages present ≡ Accepted
         unfolding record-at
         hear-ok =
-            hear-accepted (record-at a c σ j) totals (sheets-at a c j) (map w (points (a .n)))
+            hear-accepted (record-at a c σ j) totals (sheets-at a c j) messages present
             (record {
-              says = says-at;
-              many = words-length w (a .n);
-              own = own-word ∙ own ∙ sym (ap (message (record-at a c σ j) totals) current-at);
-              opening = admitted (heard (a .n) (σ .round) (map w (points (a .n)))) (ap unopened opens ∙ straight) (ap sum-outside opens ∙ tame) (ap verdict-outside opens ∙ whole);
+              turn = turn-at;
+              marks = H .enough .marks;
+              many = H .many;
+              marks-many = H .enough .long;
+              enough = H .enough .many;
+              in-field = rw current-at (in-field-any _ _ _ _ in-field-facts);
+              own = λ here. own-word here ∙ own ∙ sym (ap (message (record-at a c σ j) totals) current-at);
+              opening = admitted (heard (a .n) (σ .round) present messages) (ap unopened opens ∙ straight) (ap sum-outside opens ∙ tame) (ap verdict-outside opens ∙ whole);
             })
 
-        pub hearing-at : accepted (hear-by a c (map w (points (a .n))) (seat a c σ j)) ≡ true
+        pub hearing-at : accepted (hear-by messages present (seat a c σ j)) ≡ true
         unfolding hear-by seat judgement is-accepted
         hearing-at = rw hear-ok
 
-        seen : heard (record-at a c σ j .n) (record-at a c σ j .round) (map w (points (a .n))) ≡ o
+        seen : heard (record-at a c σ j .n) (record-at a c σ j .round) present messages ≡ o
         unfolding record-at
         seen = opens
 
         pub next-at : (τ : Stage) → after (record-at a c σ j) (sheet-shares j (sheet-polynomials s)) o ≡ record-at a c τ j
-            → after-hearing a c (map w (points (a .n))) (seat a c σ j) ≡ seat a c τ j
+            → after-hearing messages present (seat a c σ j) ≡ seat a c τ j
         unfolding after-hearing seat replied kept
         next-at τ e = rw (hear-ok, current-at, seen, e)
 
     -- the whole round
     pub step-of : (τ : Stage) (w : ℕ → ℕ) (o : Heard)
         → ((j : ℕ) → 1 ≤ j → j ≤ a .n → message (record-at a c σ j) (at-party j (polynomials a c)) (sheet-shares j (sheet-polynomials s)) ≡ w j)
-        → heard (a .n) (σ .round) (map w (points (a .n))) ≡ o → unopened o ≡ false → sum-outside o ≡ false → verdict-outside o ≡ false
+        → ((present : List ℕ) → Enough (a .n) present → heard (a .n) (σ .round) present (map w (points (a .n))) ≡ o)
+        → unopened o ≡ false → sum-outside o ≡ false → verdict-outside o ≡ false
         → ((j : ℕ) → 1 ≤ j → j ≤ a .n → after (record-at a c σ j) (sheet-shares j (sheet-polynomials s)) o ≡ record-at a c τ j)
-        → Step a c σ τ w
+        → Step a c σ τ w o
     step-of τ w o says opens straight tame whole turns =
+        let opened : (messages present : List ℕ) → Hearable (a .n) w messages present → heard (a .n) (σ .round) present messages ≡ o =
+        λ messages present H.
+        heard-unmarked (a .n) (σ .round) present messages (map w (points (a .n))) (H .many ∙ sym (words-length w (a .n))) (H .said)
+        ∙ opens present (H .enough) in
         record {
           going = P .going;
           saying = saying-at;
           word = λ j j1 jn. word-at j j1 jn ∙ says j j1 jn;
-          hearing = λ j j1 jn. hearing-at j j1 jn w o (sym (says j j1 jn)) opens straight tame whole;
-          next = λ j j1 jn. next-at j j1 jn w o (sym (says j j1 jn)) opens straight tame whole τ (turns j j1 jn);
+          opens = opened;
+          hearing = λ messages present H j j1 jn.
+              hearing-at j j1 jn w o messages present H (sym (says j j1 jn)) (opened messages present H) straight tame whole;
+          next = λ messages present H j j1 jn.
+              next-at j j1 jn w o messages present H (sym (says j j1 jn)) (opened messages present H) straight tame whole τ (turns j j1 jn);
         }

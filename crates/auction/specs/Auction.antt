@@ -1,4 +1,4 @@
--- What an auction is fixed by, but for its coins; its totals and its answers. Assumes nothing.
+-- What an auction is fixed by, but for its coins; its totals, its answers and its probes. Assumes nothing.
 use mathlib.Core.Path.{_≡_}
 use mathlib.Core.Bool.{true}
 use mathlib.Core.List.{List, [], _∷_, map}
@@ -7,9 +7,12 @@ use lib.Dec.{leb}
 use lib.ListN.{length, getD}
 use Rattle.ranges.specs.Distinct.{Distinct}
 use Rattle.ranges.specs.Lists.{every}
+use Rattle.ranges.specs.Sizes.{probe-rounds}
 use Rattle.bid.specs.Table.{most, monotone}
 use Rattle.search.specs.Clearing.{clearing, balancing, price-index}
-use Rattle.search.specs.Searches.{side}
+use Rattle.search.specs.Limit.{most-probes}
+use Rattle.search.specs.Search.{promise, Decision, trail}
+use Rattle.search.specs.Searches.{side, first-search}
 use Rattle.comparison.specs.Probe.{Each}
 
 -- "Each bid shall carry a bidder number"
@@ -72,3 +75,10 @@ left-side a which i = side which (demand a i) (supply a i)
 
 abbrev pub right-side : Auction → (which i : ℕ) → ℕ
 right-side a which i = side which (supply a i) (demand a i)
+
+-- the probes that the two searches make on an auction's totals, and their rounds
+abbrev pub probed : Auction → List Decision
+probed a = trail (promise (demand a) (supply a)) (most-probes (a .k)) (first-search (a .k))
+
+abbrev pub rounds : Auction → ℕ
+rounds a = probe-rounds * length (probed a)

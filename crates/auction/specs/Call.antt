@@ -22,7 +22,7 @@ pub data Call : Type 0 where
   deal-call : (n own : ℕ) (words drawn sheet : List ℕ) → Call
   add-call : (q : Party) (totals : List ℕ) (bidder : ℕ) (shares : List ℕ) → Call
   say-call : (q : Party) (totals sheets : List ℕ) → Call
-  hear-call : (q : Party) (totals sheets messages : List ℕ) → Call
+  hear-call : (q : Party) (totals sheets messages present : List ℕ) → Call
   answer-call : (q : Party) → Call
 
 unfoldable pub judgement : Call → Judgement
@@ -32,7 +32,7 @@ judgement (split-entry-call n own k entry table coins shares) = split-entry-judg
 judgement (deal-call n own words drawn sheet) = deal-judgement n own words drawn sheet
 judgement (add-call q totals bidder shares) = add-judgement q totals bidder shares
 judgement (say-call q totals sheets) = say-judgement q totals sheets
-judgement (hear-call q totals sheets messages) = hear-judgement q totals sheets messages
+judgement (hear-call q totals sheets messages present) = hear-judgement q totals sheets messages present
 judgement (answer-call q) = answer-judgement q
 
 unfoldable pub is-accepted : Judgement → Bool
@@ -54,7 +54,7 @@ whose (split-entry-call n own k entry table coins shares) = service
 whose (deal-call n own words drawn sheet) = service
 whose (add-call q totals bidder shares) = party (q .own)
 whose (say-call q totals sheets) = party (q .own)
-whose (hear-call q totals sheets messages) = party (q .own)
+whose (hear-call q totals sheets messages present) = party (q .own)
 whose (answer-call q) = party (q .own)
 
 unfoldable pub of-party : ℕ → Whose → Bool
@@ -73,5 +73,5 @@ given (split-entry-call n own k entry table coins shares) = split-entry-call n o
 given (deal-call n own words drawn sheet) = deal-call n own words drawn []
 given (add-call q totals bidder shares) = add-call q totals bidder shares
 given (say-call q totals sheets) = say-call q totals sheets
-given (hear-call q totals sheets messages) = hear-call q totals sheets messages
+given (hear-call q totals sheets messages present) = hear-call q totals sheets messages present
 given (answer-call q) = answer-call q

@@ -1,11 +1,13 @@
--- The list of calls as document 01 tells it, with either way of writing a bundle: each call is given what the calls before it returned,
--- wrote, said or left, by the very definitions that the contracts cite. Assumes nothing.
-use mathlib.Core.Bool.{Bool, true, false, _&&_}
+-- The list of calls as document 01 tells it, with either way of writing a bundle, and whoever is present: each call is given what the
+-- calls before it returned, wrote, said or left, by the very definitions that the contracts cite. Assumes nothing.
+use mathlib.Core.Bool.{Bool, true, false, cond, _&&_, _||_}
 use mathlib.Core.List.{List, [], _∷_, _++_, map, flatten, zip}
 use Prim.Native.Nat.{ℕ, zero, suc, _*_}
+use lib.Dec.{leb, ltb}
 use lib.ListN.{replicate}
 use Rattle.ranges.specs.Sizes.{sheet-size, probe-rounds}
 use Rattle.sharing.specs.Scheme.{threshold, points}
+use Rattle.presence.specs.Presence.{is-present}
 use Rattle.search.specs.Limit.{most-probes}
 use Rattle.search.specs.Searches.{finished}
 use Rattle.comparison.specs.Probe.{SheetCoins}
@@ -21,6 +23,7 @@ use Rattle.hearing.specs.Hear.{hear-reply}
 use Rattle.auction.specs.Auction.{Auction}
 use Rattle.auction.specs.Coins.{Coins, DrawnBid, flat, coin-words, coin-bytes}
 use Rattle.auction.specs.Desk.{Way, whole, by-entries, Desk}
+use Rattle.auction.specs.Attendance.{Marks, Attendance}
 use Rattle.auction.specs.Call.{Call, open-call, split-call, split-entry-call, deal-call, add-call, say-call, hear-call, answer-call}
 
 -- what a party said
@@ -91,55 +94,90 @@ module _ (a : Auction) (desk : Desk) where
         sheets = s .sheets;
       }
 
+-- "The dealer writes every keeper's sheets, from one set of draws per probe."
+unfoldable pub sheet-for : Auction → (own : ℕ) → SheetCoins → List ℕ
+sheet-for a own k = deal-left (a .n) own (coin-words k) (coin-bytes k) (replicate sheet-size 0)
+
+unfoldable pub sheets-for : Auction → Coins → (own : ℕ) → List ℕ
+sheets-for a c own = flat (map (sheet-for a own) (c .sheets))
+
 module _ (a : Auction) (c : Coins) where
-  -- "The dealer writes every keeper's sheets, from one set of draws per probe."
   unfoldable pub deal-for : Seat → SheetCoins → Call
   deal-for s k = deal-call (a .n) (s .party .own) (coin-words k) (coin-bytes k) (replicate sheet-size 0)
-
-  unfoldable pub sheet-for : Seat → SheetCoins → List ℕ
-  sheet-for s k = deal-left (a .n) (s .party .own) (coin-words k) (coin-bytes k) (replicate sheet-size 0)
-
-  unfoldable pub after-dealing : Seat → Seat
-  after-dealing s = record { party = s .party; totals = s .totals; sheets = flat (map (sheet-for s) (c .sheets)) }
-
-  -- "Then, round after round, each keeper says its word and all n words go to each keeper's hearing"
-  unfoldable pub say-by : Seat → Call
-  say-by s = say-call (s .party) (s .totals) (s .sheets)
-
-  unfoldable pub word-by : Seat → ℕ
-  word-by s = word (say-reply (s .party) (s .totals) (s .sheets))
-
-  unfoldable pub hear-by : List ℕ → Seat → Call
-  hear-by words s = hear-call (s .party) (s .totals) (s .sheets) words
-
-  unfoldable pub after-hearing : List ℕ → Seat → Seat
-  after-hearing words s =
-      record {
-        party = hear-reply (s .party) (s .totals) (s .sheets) words .party;
-        totals = s .totals;
-        sheets = s .sheets;
-      }
-
-  unfoldable pub ask : Seat → Call
-  ask s = answer-call (s .party)
-
-  -- ".. until over; then each is asked for the answer"
-  unfoldable pub from-rounds : ℕ → List Seat → List Call
-  from-rounds zero ss = map ask ss
-  from-rounds (suc fuel) ss =
-      let words = map word-by ss in
-      elim (all-over ss) [
-        | true ↦ map ask ss
-        | false ↦ map say-by ss ++ (map (hear-by words) ss ++ from-rounds fuel (map (after-hearing words) ss))
-      ]
 
   unfoldable pub deals : List Seat → List Call
   deals [] = []
   deals (s ∷ ss) = map (deal-for s) (c .sheets) ++ deals ss
 
-module _ (a : Auction) (c : Coins) (desk : Desk) where
+  unfoldable pub after-dealing : Seat → Seat
+  after-dealing s = record { party = s .party; totals = s .totals; sheets = sheets-for a c (s .party .own) }
+
+-- "Then, round after round, each keeper says its word and all n words go to each keeper's hearing"; "Hearing shall take, besides the n
+-- words, n marks of who was present"
+unfoldable pub say-by : Seat → Call
+say-by s = say-call (s .party) (s .totals) (s .sheets)
+
+unfoldable pub word-by : Seat → ℕ
+word-by s = word (say-reply (s .party) (s .totals) (s .sheets))
+
+unfoldable pub hear-by : (messages present : List ℕ) → Seat → Call
+hear-by messages present s = hear-call (s .party) (s .totals) (s .sheets) messages present
+
+unfoldable pub after-hearing : (messages present : List ℕ) → Seat → Seat
+after-hearing messages present s =
+    record {
+      party = hear-reply (s .party) (s .totals) (s .sheets) messages present .party;
+      totals = s .totals;
+      sheets = s .sheets;
+    }
+
+unfoldable pub ask : Seat → Call
+ask s = answer-call (s .party)
+
+-- a call, if it is made
+abbrev pub where-so : Bool → Call → List Call
+where-so made c = cond made (c ∷ []) []
+
+-- The rounds. A seat is what its party has where it has heard every round before; a party that has not makes no call.
+module _ (marks : Marks) (att : Attendance) where
+  -- who was present, and whoever else likes to
+  abbrev pub says-word : (round own : ℕ) → Bool
+  says-word round own = leb round (att .hears own) && (is-present (marks round) own || att .speaks own round)
+
+  unfoldable pub say-in : (round : ℕ) → Seat → List Call
+  say-in round s = where-so (says-word round (s .party .own)) (say-by s)
+
+  -- of those who were present what they said, in the other places anything
+  unfoldable pub words-for : (round own : ℕ) → List Seat → List ℕ
+  words-for round own ss =
+      map (λ s. cond (is-present (marks round) (s .party .own)) (word-by s) (att .elsewhere own round (s .party .own))) ss
+
+  unfoldable pub hear-round : (round : ℕ) → List Seat → Seat → Call
+  hear-round round ss s = hear-by (words-for round (s .party .own) ss) (marks round) s
+
+  unfoldable pub hear-in : (round : ℕ) → List Seat → Seat → List Call
+  hear-in round ss s = where-so (ltb round (att .hears (s .party .own))) (hear-round round ss s)
+
+  unfoldable pub after-round : (round : ℕ) → List Seat → Seat → Seat
+  after-round round ss s = after-hearing (words-for round (s .party .own) ss) (marks round) s
+
+  unfoldable pub ask-in : (round : ℕ) → Seat → List Call
+  ask-in round s = where-so (leb round (att .hears (s .party .own))) (ask s)
+
+  -- ".. until over; then each is asked for the answer"
+  unfoldable pub from-rounds : (fuel round : ℕ) → List Seat → List Call
+  from-rounds zero round ss = flatten (map (ask-in round) ss)
+  from-rounds (suc fuel) round ss =
+      elim (all-over ss) [
+        | true ↦ flatten (map (ask-in round) ss)
+        | false ↦
+            flatten (map (say-in round) ss)
+            ++ (flatten (map (hear-in round ss) ss) ++ from-rounds fuel (suc round) (map (after-round round ss) ss))
+      ]
+
+module _ (a : Auction) (c : Coins) (marks : Marks) (desk : Desk) (att : Attendance) where
   unfoldable pub from-bids : List DrawnBid → List Seat → List Call
-  from-bids [] ss = deals a c ss ++ from-rounds a c (enough-rounds a) (map (after-dealing a c) ss)
+  from-bids [] ss = deals a c ss ++ from-rounds marks att (enough-rounds a) 0 (map (after-dealing a c) ss)
   from-bids (b ∷ bs) ss =
       flatten (map (splits-for a desk b) ss) ++ (map (add-by a desk b) ss ++ from-bids bs (map (after-adding a desk b) ss))
 

@@ -1,37 +1,36 @@
 -- Demands 2 and 3 of whole auctions, as statements about every run. Assumes nothing.
 use mathlib.Core.Path.{_≡_}
+use mathlib.Core.Logic.{_↔_}
 use mathlib.Core.Bool.{Bool, true, not, _&&_}
 use mathlib.Core.List.{List, [], _∷_, map, zip, List·Memᴰ}
-use Prim.Native.Nat.{ℕ, suc, _+_, _-_, _^_, _≤_, _<_}
+use Prim.Native.Nat.{ℕ, _+_, _-_, _*_, _/_, _^_, _≤_, _<_, min}
 use lib.Dec.{leb, ltb}
-use lib.ListN.{length, replicate}
+use lib.ListN.{length, take, drop, replicate}
+use Rattle.ranges.specs.Sizes.{sheet-size, probe-rounds}
+use Rattle.presence.specs.Presence.{is-present}
 use Rattle.sharing.specs.Scheme.{threshold}
 use Rattle.ranges.specs.Distinct.{Distinct}
 use Rattle.ranges.specs.Lists.{member, count}
 use Rattle.roll.specs.Marks.{marked}
 use Rattle.search.specs.Limit.{most-probes}
-use Rattle.search.specs.Searches.{first-search}
-use Rattle.search.specs.Search.{promise, Decision, trail, made-in}
+use Rattle.search.specs.Search.{promise, Decision, made-in}
 use Rattle.comparison.specs.Probe.{Each}
 use Rattle.record.specs.declared.Party.{Party}
 use Rattle.session.specs.declared.reply.Answer.the-variants.{Cleared}
-use Rattle.auction.specs.Auction.{Auction, IsAuction, bidders, demand, supply, clearing-answer, balanced-answer, price-answer, left-side, right-side}
+use Rattle.auction.specs.Auction.{Auction, IsAuction, bidders, demand, supply, clearing-answer, balanced-answer, price-answer, left-side, right-side, probed, rounds}
 use Rattle.auction.specs.Coins.{Coins, InRange}
 use Rattle.auction.specs.Desk.{Complete, Desk}
+use Rattle.auction.specs.Attendance.{Marks, EnoughPresent, Attendance, Attends}
 use Rattle.auction.specs.Call.{Call, accepted}
-use Rattle.auction.specs.Canonical.{canonical}
+use Rattle.auction.specs.Canonical.{sheets-for, canonical}
 use Rattle.auction.specs.Run.{Run}
-use Rattle.auction.specs.Received.{received-bids, sheets, messages, decisions, verdicts, askings, answers, unused}
+use Rattle.auction.specs.Received.{Saying, received-bids, hearings, sayings, messages, decisions, verdicts, askings, answers}
 
 unfoldable pub all-accepted : List Call → Bool
 all-accepted [] = true
 all-accepted (c ∷ cs) = accepted c && all-accepted cs
 
 -- ---- demand 2
-
--- the probes that the two searches make on an auction's totals
-abbrev pub probed : Auction → List Decision
-probed a = trail (promise (demand a) (supply a)) (most-probes (a .k)) (first-search (a .k))
 
 -- what a record holds of the two searches once they are finished
 pub record Found (a : Auction) (ds : List Decision) (q : Party) : Type 0 where
@@ -42,27 +41,31 @@ pub record Found (a : Auction) (ds : List Decision) (q : Party) : Type 0 where
   pub lowest : 0 < balanced-answer a → q .search .bracket .hi ≡ balanced-answer a
   pub none : balanced-answer a ≡ 0 → q .search .bracket .hi ≡ clearing-answer a + 1
 
--- what party j sees of a run
-pub record Outcome (a : Auction) (l : List Call) (j : ℕ) : Type 0 where
+-- what party j sees of a run in which it hears so many rounds, if there are so many
+pub record Outcome (a : Auction) (hears : ℕ) (l : List Call) (j : ℕ) : Type 0 where
+  pub heard : length (hearings j l) ≡ min hears (rounds a)
   -- "a verdict is 1 exactly when total demand there, added in tenths unrounded, is at least total supply", and in the second search exactly
   -- when total supply is at least total demand
   pub promised : verdicts j l ≡ map (λ d. promise (demand a) (supply a) (d .which) (d .index)) (decisions j l)
-  -- they are those of the two searches, from the first probe to the last
-  pub searched : decisions j l ≡ probed a
-  -- it is asked at least once, and each answer is the price index with the number of verdicts heard
+  -- they are those of the two searches, as far as it has heard: from the first probe to the last, where it has heard all
+  pub searched : decisions j l ≡ take (length (hearings j l) / probe-rounds) (probed a)
+  -- it is asked at least once where it has heard all, and each answer is the price index with the number of verdicts heard
   pub asked : ℕ
-  pub cleared : answers j l ≡ replicate (suc asked) (Cleared (price-answer a) (length (verdicts j l)))
+  pub once-over : (length (hearings j l) ≡ rounds a) ↔ (0 < asked)
+  pub cleared : answers j l ≡ replicate asked (Cleared (price-answer a) (length (verdicts j l)))
   -- the record that it asks with has what the searches found
   pub found : Each (Found a (decisions j l)) (askings j l)
   -- at most 2P
   pub few : length (verdicts j l) ≤ most-probes (a .k)
-  -- the roll of the record that it asks with marks the bidders of the run, and nobody else
+  -- the roll of each record that it hears or asks with marks the bidders of the run, and nobody else
   pub rolled : Each (λ q. (b : ℕ) → marked (q .roll) b ≡ member b (bidders a)) (askings j l)
+  pub rolled-before : Each (λ h. (b : ℕ) → marked (h .party .roll) b ≡ member b (bidders a)) (hearings j l)
 
-pub record Demand2 (a : Auction) (c : Coins) : Type 0 where
-  -- no call of the run is refused, but those that stand between, in whichever way the desk writes each bundle
-  pub none-refused : (desk : Desk) → Complete (a .k) desk → all-accepted (canonical a c desk) ≡ true
-  pub outcome : (l : List Call) → Run a c l → (j : ℕ) → 1 ≤ j → j ≤ a .n → Outcome a l j
+pub record Demand2 (a : Auction) (c : Coins) (marks : Marks) : Type 0 where
+  -- no call of the run is refused, but those that stand between, in whichever way the desk writes each bundle and the parties attend
+  pub none-refused : (desk : Desk) → Complete (a .k) desk → (att : Attendance) → Attends a marks att
+      → all-accepted (canonical a c marks desk att) ≡ true
+  pub outcome : (l : List Call) (run : Run a c marks l) → (j : ℕ) → 1 ≤ j → j ≤ a .n → Outcome a (run .attendance .hears j) l j
 
 -- ---- demand 3
 
@@ -91,23 +94,47 @@ stays a b which i mask =
 abbrev pub Stay : (a b : Auction) → Coins → Type 0
 Stay a b c = Each (λ s. stays a b (s .0 .which) (s .0 .index) (s .1 .mask) ≡ true) (zip (probed a) (c .sheets))
 
--- what the two lists have in common: "the same shares, .. the same unused sheets, .. the same words from all n keepers, round by round,
--- the same verdicts and the same number of probes"
-pub record Same (n : ℕ) (pool : List ℕ) (l m : List Call) : Type 0 where
-  pub pool-bids : (j : ℕ) → List·Memᴰ j pool → received-bids j m ≡ received-bids j l
-  pub pool-sheets : (j : ℕ) → List·Memᴰ j pool → sheets j m ≡ sheets j l
-  pub left : (j : ℕ) → 1 ≤ j → j ≤ n → unused j m ≡ unused j l
-  pub words : (j : ℕ) → 1 ≤ j → j ≤ n → messages j m ≡ messages j l
-  pub verdicts-heard : (j : ℕ) → 1 ≤ j → j ≤ n → verdicts j m ≡ verdicts j l
-  pub probes : (j : ℕ) → 1 ≤ j → j ≤ n → length (verdicts j m) ≡ length (verdicts j l)
+-- "Unused sheets are the lent ones after those of the probes made"
+abbrev pub unused : Auction → Coins → (j : ℕ) → List ℕ
+unused a c j = drop (sheet-size * length (probed a)) (sheets-for a c j)
 
--- "Then exactly one set of draws of the second does all of this": these coins in every pair of runs; and any coins that do it in one
--- pair of runs are these.
+-- one list is the other as far as both go
+abbrev pub AsFar : {A : Type 0} → List A → List A → Type 0
+AsFar [] ys = Unit {0}
+AsFar (x ∷ xs) [] = Unit {0}
+AsFar (x ∷ xs) (y ∷ ys) = (y ≡ x) × AsFar xs ys
+
+-- the words that party j says in a round, where it says one in both lists
+abbrev pub SaidAlike : (round j : ℕ) → List Call → List Call → Type 0
+SaidAlike round j l m =
+    (x y : Saying) → List·Memᴰ x (sayings j l) → List·Memᴰ y (sayings j m) → x .round ≡ round → y .round ≡ round → y .word ≡ x .word
+
+-- What the lists of calls l and m have in common, with the coins c and d: "the same shares, .. the same unused sheets, .. the same words ..,
+-- round by round, the same verdicts and the same number of probes". The pool's sheets are what the dealer writes for it, whether it hears a
+-- round or not. Words are "the words of those present", as they are said; and with the verdicts and the answers what each party hears and is
+-- told of them, as far as it goes in both.
+pub record Same (a b : Auction) (pool : List ℕ) (c d : Coins) (marks : Marks) (l m : List Call) : Type 0 where
+  pub pool-bids : (j : ℕ) → List·Memᴰ j pool → received-bids j m ≡ received-bids j l
+  pub pool-sheets : (j : ℕ) → List·Memᴰ j pool → sheets-for b d j ≡ sheets-for a c j
+  pub left : (j : ℕ) → 1 ≤ j → j ≤ a .n → unused b d j ≡ unused a c j
+  pub words : (round j : ℕ) → 1 ≤ j → j ≤ a .n → is-present (marks round) j ≡ true → SaidAlike round j l m
+  pub words-heard : (j : ℕ) → 1 ≤ j → j ≤ a .n → AsFar (messages j l) (messages j m)
+  pub verdicts-heard : (j : ℕ) → 1 ≤ j → j ≤ a .n → AsFar (verdicts j l) (verdicts j m)
+  pub answered : (j : ℕ) → 1 ≤ j → j ≤ a .n → AsFar (answers j l) (answers j m)
+  pub probes : probed b ≡ probed a
+
+-- "Then exactly one set of draws of the second does all of this": these coins with any marks, which are "the same .. in both compared
+-- auctions", in every pair of runs; and any coins that do it in one pair of runs are these. Who hears late or never need not be the same in
+-- both. A word that somebody says who is not present is nobody's to use, but may be seen: it is the same too.
 pub record Matched (a b : Auction) (pool : List ℕ) (c : Coins) : Type 0 where
   pub coins : Coins
   pub ranged : InRange b coins
-  pub same : (l m : List Call) → Run a c l → Run b coins m → Same (a .n) pool l m
-  pub only : (other : Coins) → InRange b other → (l m : List Call) → Run a c l → Run b other m → Same (a .n) pool l m → other ≡ coins
+  pub same : (marks : Marks) → EnoughPresent a marks → (l m : List Call) → Run a c marks l → Run b coins marks m
+      → Same a b pool c coins marks l m
+  pub said : (marks : Marks) → EnoughPresent a marks → (l m : List Call) → Run a c marks l → Run b coins marks m
+      → (round j : ℕ) → 1 ≤ j → j ≤ a .n → SaidAlike round j l m
+  pub only : (other : Coins) → InRange b other → (marks : Marks) → EnoughPresent a marks → (l m : List Call) → Run a c marks l
+      → Run b other marks m → Same a b pool c other marks l m → other ≡ coins
 
 pub record Demand3 : Type 0 where
   pub matched : (a b : Auction) → IsAuction a → IsAuction b → Alike a b → (pool : List ℕ) → Pool (a .n) pool
@@ -115,6 +142,7 @@ pub record Demand3 : Type 0 where
   -- "At each probe at most 2^33 - 2 of the 2^58 masks fall outside when so moved."
   pub few-fall : (a b : Auction) → IsAuction a → IsAuction b → Alike a b → (which i : ℕ)
       → count (λ mask. not (stays a b which i mask)) (2 ^ 58) ≤ 2 ^ 33 - 2
-  -- every auction with coins in range has a run, in whichever way the desk writes each bundle
-  pub runs : (a : Auction) → IsAuction a → (c : Coins) → InRange a c → (desk : Desk) → Complete (a .k) desk
-      → Run a c (canonical a c desk)
+  -- every auction with coins in range has a run, in whichever way the desk writes each bundle, with whatever marks, and in whichever way the
+  -- parties attend
+  pub runs : (a : Auction) → IsAuction a → (c : Coins) → InRange a c → (marks : Marks) → EnoughPresent a marks
+      → (desk : Desk) → Complete (a .k) desk → (att : Attendance) → Attends a marks att → Run a c marks (canonical a c marks desk att)

@@ -3,6 +3,7 @@ pub mod Auction
 pub mod Coins
 pub mod Call
 pub mod Desk
+pub mod Attendance
 pub mod Canonical
 pub mod Run
 pub mod Received

@@ -8,6 +8,7 @@ use Rattle.record.specs.declared.Party.{Party}
 use Rattle.auction.specs.Auction.{Auction}
 use Rattle.auction.specs.Coins.{Coins}
 use Rattle.auction.specs.Desk.{Complete, Desk}
+use Rattle.auction.specs.Attendance.{Marks, Attendance, Attends}
 use Rattle.auction.specs.Call.{Call, say-call, answer-call, accepted, whose, of-party, of-service, given}
 use Rattle.auction.specs.Canonical.{canonical}
 
@@ -31,11 +32,13 @@ pub data Repeats : List Call → List Call → Type 0 where
       → Repeats (say-call q totals sheets ∷ cs) ds → Repeats (say-call q totals sheets ∷ cs) (say-call q totals sheets ∷ ds)
   ask-again : {q : Party} {cs ds : List Call} → Repeats (answer-call q ∷ cs) ds → Repeats (answer-call q ∷ cs) (answer-call q ∷ ds)
 
--- The desk writes each bundle in one of the two ways. Each party's calls are those of the canonical list, in its order, so that each is
--- given the record and totals that the last returned or left; the bidders' and the dealer's are those of the canonical list, in any order.
--- Whose turn it is between parties is free.
-pub record Run (a : Auction) (c : Coins) (l : List Call) : Type 0 where
+-- The desk writes each bundle in one of the two ways, and each party attends as it can. Each party's calls are those of the canonical list,
+-- in its order, so that each is given the record and totals that the last returned or left; the bidders' and the dealer's are those of the
+-- canonical list, in any order. Whose turn it is between parties is free, so that a party may hear a round long after the others.
+pub record Run (a : Auction) (c : Coins) (marks : Marks) (l : List Call) : Type 0 where
   pub desk : Desk
   pub complete : Complete (a .k) desk
-  pub parties : (j : ℕ) → Repeats (own j (canonical a c desk)) (own j l)
-  pub others : Shuffle (services (canonical a c desk)) (services l)
+  pub attendance : Attendance
+  pub attends : Attends a marks attendance
+  pub parties : (j : ℕ) → Repeats (own j (canonical a c marks desk attendance)) (own j l)
+  pub others : Shuffle (services (canonical a c marks desk attendance)) (services l)

@@ -62,7 +62,7 @@ length-multiples a = length-map (from 0 256) (product a) ∙ length-from 0 256
 -- every product by the byte is read from it
 pub by-row : (a b : ℕ) → b < 256 → getD (multiples a) b 0 ≡ product a b
 unfolding multiples
-by-row a b h = map-from (product a) 0 256 b h ∙ ap (product a) (omega arith)
+by-row a b h = map-from (product a) 0 0 256 b h ∙ ap (product a) (omega arith)
 
 pub row-first : (a : ℕ) → take 1 (multiples a) ≡ 0 ∷ []
 unfolding multiples from

@@ -5,7 +5,8 @@ use mathlib.Core.List.{List, [], _∷_, map, head-eq-of-cons-eq, tail-eq-of-cons
 use mathlib.Core.Logic.{_⊎_, inl, inr}
 use Prim.Native.Nat.{ℕ, zero, suc, _+_, _≤_, _<_}
 use native.Mathlib.Omega.{arith}
-use lib.ListN.{length}
+use lib.ListN.{length, take}
+use lib.Seq.{length-take-le}
 use lib.Dec.{lit<}
 use Rattle.fields.specs.Field.{Field}
 use Rattle.fields.specs.Amount.{amounts}
@@ -15,6 +16,7 @@ use Rattle.sharing.specs.Polynomial.{value}
 use Rattle.ranges.specs.Lists.{from}
 use Rattle.sharing.specs.Scheme.{points}
 use Rattle.sharing.specs.Linear.{sums, negatives, scaled}
+use Rattle.ranges.specs.Distinct.{Apart}
 use Rattle.sharing.proofs.Points.{Different, different-points}
 use Rattle.ranges.proofs.Loops.{length-from}
 use Rattle.sharing.proofs.Laws.{unique, recolour, recolour-length, recolour-lt, recolour-shares}
@@ -44,7 +46,7 @@ module _ {A : Type 0} (f g : ℕ → A) where
       go h (inl i) = ap f i ∙ head-eq-of-cons-eq e ∙ sym (ap g i)
       go h (inr i) = h i
 
-in-below : (xs : List ℕ) → Different xs → (x : ℕ) → In x xs → x < 10
+pub in-below : (xs : List ℕ) → Different xs → (x : ℕ) → In x xs → x < 10
 in-below [] D x m = absurd (List·Memᴰ·not-nil m)
 in-below (y ∷ ys) D x m = go (in-below ys (D .2) x) (List·Memᴰ·cases-cons m)
   where
@@ -61,16 +63,41 @@ in-from a (suc m) x i = go (in-from (suc a) m x) (List·Memᴰ·cases-cons i)
     go h (inl i) = (omega arith, omega arith)
     go h (inr i) = let r : (suc a ≤ x) × (x < suc a + m) = h i in (omega arith, omega arith)
 
+in-take : (m : ℕ) (xs : List ℕ) (x : ℕ) → In x (take m xs) → In x xs
+in-take zero xs x i = absurd (List·Memᴰ·not-nil i)
+in-take (suc m) [] x i = i
+in-take (suc m) (y ∷ ys) x i = go (in-take m ys x) (List·Memᴰ·cases-cons i)
+  where
+    go : (In x (take m ys) → In x ys) → (x ≡ y) ⊎ In x (take m ys) → In x (y ∷ ys)
+    go h (inl e) = List·Memᴰ·head e
+    go h (inr k) = List·Memᴰ·tail (h k)
+
+apart-take : (m r : ℕ) (xs : List ℕ) → Apart r xs → Apart r (take m xs)
+apart-take zero r xs A = tt
+apart-take (suc m) r [] A = tt
+apart-take (suc m) r (x ∷ xs) A = (A .0, apart-take m r xs (A .1))
+
+different-take : (m : ℕ) (xs : List ℕ) → Different xs → Different (take m xs)
+different-take zero xs D = tt
+different-take (suc m) [] D = tt
+different-take (suc m) (x ∷ xs) D = (D .0, apart-take m x xs (D .1), different-take m xs (D .2))
+
 -- ---- what fixes a polynomial of degree at most t
+
+-- its values at more than t different points
+pub fixed : (F : Field) (t : ℕ) (xs cs ds : List ℕ) → Different xs → t < length xs → Shared (F .size) t cs → Shared (F .size) t ds
+    → ((x : ℕ) → In x xs → value (F .ops) cs x ≡ value (F .ops) ds x) → cs ≡ ds
+fixed F t xs cs ds D h hc hd e =
+    let l : suc t ≡ length (take (suc t) xs) = sym (length-take-le (suc t) xs h) in
+    unique F (take (suc t) xs) cs ds (different-take (suc t) xs D) (hc .1) (hd .1) (hc .0 ∙ l) (hd .0 ∙ l)
+    (map-same (value (F .ops) cs) (value (F .ops) ds) (take (suc t) xs) (λ x m. e x (in-take (suc t) xs x m)))
 
 -- the words of n parties, more than t
 pub heard : (F : Field) (t n : ℕ) (cs ds : List ℕ) → t < n → n ≤ 9 → Shared (F .size) t cs → Shared (F .size) t ds
     → ((j : ℕ) → 1 ≤ j → j ≤ n → value (F .ops) cs j ≡ value (F .ops) ds j) → cs ≡ ds
 heard F t n cs ds h k hc hd e =
-    let l : suc t ≡ length (points (suc t)) = sym (length-from 1 (suc t)) in
-    unique F (points (suc t)) cs ds (different-points (suc t) (omega arith)) (hc .1) (hd .1) (hc .0 ∙ l) (hd .0 ∙ l)
-    (map-same (value (F .ops) cs) (value (F .ops) ds) (points (suc t))
-    (λ j m. let r : (1 ≤ j) × (j < 1 + suc t) = in-from 1 (suc t) j m in e j (r .0) (omega arith)))
+    fixed F t (points n) cs ds (different-points n k) (omega (arith, length-from 1 n)) hc hd
+    (λ j m. let r : (1 ≤ j) × (j < 1 + n) = in-from 1 n j m in e j (r .0) (omega arith))
 
 -- two shared values of which the pool xs has the same shares
 pub record Alike (F : Field) (t : ℕ) (xs cs ds : List ℕ) : Type 0 where

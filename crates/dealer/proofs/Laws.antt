@@ -36,7 +36,7 @@ unfolding from
 length-bits b = refl
 
 pub bit-at : (b i : ℕ) → i < 33 → getD (mask-bits b) i 0 ≡ bit (1 + i) b
-bit-at b i h = map-from (λ i. bit i b) 1 33 i h
+bit-at b i h = map-from (λ i. bit i b) 0 1 33 i h
 
 -- ---- triples
 

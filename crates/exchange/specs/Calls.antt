@@ -56,12 +56,12 @@ module _ (words totals sheets : List ℕ) where
   abbrev pub say-message : (old : ℕ) → ℕ
   say-message old = on-record words (said-word (say-reply (party-of words) totals sheets) old) old
 
-module _ (words totals sheets messages : List ℕ) where
+module _ (words totals sheets messages present : List ℕ) where
   abbrev pub hear-code : ℕ
-  hear-code = number-on words (codeOf (hear-reply (party-of words) totals sheets messages .judgement))
+  hear-code = number-on words (codeOf (hear-reply (party-of words) totals sheets messages present .judgement))
 
   abbrev pub hear-record : List ℕ
-  hear-record = on-record words (stored (hear-reply (party-of words) totals sheets messages) words) words
+  hear-record = on-record words (stored (hear-reply (party-of words) totals sheets messages present) words) words
 
 module _ (words : List ℕ) where
   abbrev pub answer-code : ℕ

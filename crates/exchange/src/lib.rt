@@ -139,14 +139,18 @@ pub extern "C" fn clockivy_hear(
     totals: &[u64],
     sheets: &[u64],
     messages: &[u64],
+    present: &[u8],
 ) -> u64
-    ensures { λ r. ⌜ (r ≡ hear-code (now (words .entry)) (now (totals .entry)) (now (sheets .entry)) (now (messages .entry)))
-        × (now (words .exit) ≡ hear-record (now (words .entry)) (now (totals .entry)) (now (sheets .entry)) (now (messages .entry))) ⌝ }
+    ensures { λ r. ⌜ (r ≡ hear-code (now (words .entry)) (now (totals .entry)) (now (sheets .entry)) (now (messages .entry)) (now (present .entry)))
+        × (now (words .exit) ≡ hear-record (now (words .entry)) (now (totals .entry)) (now (sheets .entry)) (now (messages .entry)) (now (present .entry))) ⌝ }
 {
     if !is_record(&words[..]) {
         return number(Refusal::WrongLength);
     }
-    store(hear(read(&words[..]), totals, sheets, messages), words)
+    store(
+        hear(read(&words[..]), totals, sheets, messages, present),
+        words,
+    )
 }
 
 // The price index, 0 for no price, and how many probes both searches made.

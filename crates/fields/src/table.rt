@@ -30,7 +30,8 @@ pub fn exponent(a: u8, b: u8) -> u8
     if sum < a { sum + 1 } else { sum }
 }
 
-fn byte_of(word: u64, place: u64) -> u8
+// One of the eight entries of a word.
+pub fn byte_of(word: u64, place: u64) -> u8
     requires { ⌜ place < 8 ⌝ }
     ensures { λ r. ⌜ r ≡ word / 2 ^ (place * 8) % 256 ⌝ }
 {

@@ -1,57 +1,59 @@
--- Hearing a round, in facts: when it is accepted, and what each kind of round makes of the record. Assumes nothing.
-use mathlib.Core.Path.{_≡_, refl, sym, ap, _∙_}
-use mathlib.Core.Bool.{true, false, not}
+-- Hearing a round, in facts: when it is accepted. Assumes nothing.
+use mathlib.Core.Path.{_≡_, refl, sym, ap, ap₂, _∙_}
+use mathlib.Core.Bool.{Bool, true, false, not, _&&_}
 use mathlib.Core.List.{List, [], _∷_}
-use Prim.Native.Nat.{ℕ, _+_, _-_, _^_, _≤_}
+use Prim.Native.Nat.{ℕ, _+_, _-_, _^_, _≤_, _<_}
 use native.Mathlib.Omega.{arith}
 use lib.Dec.{leb, eqb}
 use lib.ListN.{length, getD}
-use borrow.Author.Tests.{not-false, leb-true, ltb-false, eqb-true, le-leb, le-ltb, eq-eqb}
+use borrow.Author.Tests.{not-false, leb-true, leb-false, ltb-false, eqb-true, le-leb, lt-leb, le-ltb, eq-eqb}
 use Rattle.refusal.specs.Judging.{Test, _⇒_, judged, then}
 use Rattle.refusal.specs.declared.Refusal.{Refusal}
 use Rattle.refusal.specs.declared.Refusal.the-variants as refusal
 use Rattle.refusal.specs.declared.Judgement.{Judgement}
 use Rattle.refusal.specs.declared.Judgement.the-variants.{Accepted, Refused}
 use Rattle.ranges.specs.Sizes.{long}
+use Rattle.sharing.specs.Scheme.{threshold}
+use Rattle.presence.specs.Presence.{are-marks, how-many, is-present}
 use Rattle.record.specs.declared.Party.{Party}
+use Rattle.record.specs.Record.{sound}
 use Rattle.round.specs.declared.Heard.{Heard}
 use Rattle.round.specs.declared.Heard.the-variants.{Sum, Factors, Verdict, Unopened}
-use Rattle.saying.specs.Say.{current, message, turn-judgement}
+use Rattle.saying.specs.Say.{current, in-field, message, turn-judgement}
 use Rattle.round.specs.Round.{heard, unopened, sum-outside, verdict-outside}
-use Rattle.hearing.specs.Hear.{hear-judgement, after, hear-reply}
+use Rattle.hearing.specs.Hear.{hear-judgement, of-opening}
 use Rattle.ranges.proofs.Loops.{and-true}
-use Rattle.refusal.proofs.Judging.{passes, all-passed, passed}
-use Rattle.record.proofs.Replies.{next-party}
-use Rattle.saying.proofs.Laws.{Says, turns, turn-accepted}
+use Rattle.refusal.proofs.Judging.{passes, all-passed, passed, judged-append, then-accepted}
+use Rattle.saying.proofs.Sheets.{InField, in-field-facts, in-field-of}
+use Rattle.saying.proofs.Laws.{InTurn, turns, turn-accepted}
 
--- ---- hearing is judged as saying is, and then by the messages
+-- ---- hearing is judged as a turn is, and then by the marks and the messages
 
-both-judged : (a b c d : Test) (tests : List Test) → judged (a ∷ b ∷ c ∷ d ∷ tests) ≡ then (judged (a ∷ b ∷ c ∷ d ∷ [])) (judged tests)
-unfolding judged
-both-judged (true ⇒ x) b c d tests = refl
-both-judged (false ⇒ x) (true ⇒ y) c d tests = refl
-both-judged (false ⇒ x) (false ⇒ y) (true ⇒ z) d tests = refl
-both-judged (false ⇒ x) (false ⇒ y) (false ⇒ z) (true ⇒ w) tests = refl
-both-judged (false ⇒ x) (false ⇒ y) (false ⇒ z) (false ⇒ w) tests = refl
+module _ (q : Party) (totals sheets messages present : List ℕ) where
+  -- the judgement of the turn
+  abbrev pub turn-of : Judgement
+  turn-of = turn-judgement q (sound q && are-marks present) totals sheets (long (q .n) messages && long (q .n) present)
 
-module _ (q : Party) (totals sheets messages : List ℕ) where
   -- the tests that only hearing has
+  abbrev pub of-words : List Test
+  of-words =
+      (is-present present (q .own) && not (eqb (getD messages (q .own - 1) 0) (message q totals (current q sheets))) ⇒ refusal.OwnMessageDiffers)
+      ∷ of-opening (heard (q .n) (q .round) present messages)
+
   abbrev pub of-messages : List Test
   of-messages =
-      (not (eqb (getD messages (q .own - 1) 0) (message q totals (current q sheets))) ⇒ refusal.OwnMessageDiffers)
-      ∷ (unopened (heard (q .n) (q .round) messages) ⇒ refusal.Inconsistent)
-      ∷ (sum-outside (heard (q .n) (q .round) messages) ⇒ refusal.SumOutOfRange)
-      ∷ (verdict-outside (heard (q .n) (q .round) messages) ⇒ refusal.VerdictNotBit)
-      ∷ []
+      (leb (how-many present) (threshold (q .n)) ⇒ refusal.TooFewPresent)
+      ∷ (not (in-field q (is-present present (q .own)) totals (current q sheets)) ⇒ refusal.ShareOutOfRange)
+      ∷ of-words
 
-  as-turn : hear-judgement q totals sheets messages ≡ then (turn-judgement q totals sheets (long (q .n) messages)) (judged of-messages)
+  as-turn : hear-judgement q totals sheets messages present ≡ then turn-of (judged of-messages)
   unfolding hear-judgement turn-judgement
-  as-turn = both-judged _ _ _ _ of-messages
+  as-turn = judged-append (_ ∷ _ ∷ _ ∷ []) of-messages
 
-  pub not-said : (why : Refusal) → turn-judgement q totals sheets (long (q .n) messages) ≡ Refused why → hear-judgement q totals sheets messages ≡ Refused why
-  not-said why e = as-turn ∙ ap (λ (j : Judgement). then j (judged of-messages)) e
+  pub no-turn : (why : Refusal) → turn-of ≡ Refused why → hear-judgement q totals sheets messages present ≡ Refused why
+  no-turn why e = as-turn ∙ ap (λ (j : Judgement). then j (judged of-messages)) e
 
-  pub by-messages : turn-judgement q totals sheets (long (q .n) messages) ≡ Accepted → hear-judgement q totals sheets messages ≡ judged of-messages
+  pub by-messages : turn-of ≡ Accepted → hear-judgement q totals sheets messages present ≡ judged of-messages
   by-messages e = as-turn ∙ ap (λ (j : Judgement). then j (judged of-messages)) e
 
 -- ---- an accepted hearing, in facts
@@ -77,41 +79,56 @@ admitted-tests (Factors d e) h = (refl, refl, refl)
 admitted-tests (Verdict v) h = (refl, refl, le-ltb 1 v h)
 admitted-tests Unopened h = absurd h
 
-pub record Hears (q : Party) (totals sheets messages : List ℕ) : Type 0 where
-  -- the party could say its message
-  pub says : Says q totals sheets
+pub record Hears (q : Party) (totals sheets messages present : List ℕ) : Type 0 where
+  pub turn : InTurn q totals sheets
+  pub marks : are-marks present ≡ true
   pub many : length messages ≡ q .n
-  pub own : getD messages (q .own - 1) 0 ≡ message q totals (current q sheets)
-  pub opening : Admitted (heard (q .n) (q .round) messages)
+  pub marks-many : length present ≡ q .n
+  pub enough : threshold (q .n) < how-many present
+  -- the totals count where the own word does
+  pub in-field : InField q (is-present present (q .own)) totals (current q sheets)
+  pub own : is-present present (q .own) ≡ true → getD messages (q .own - 1) 0 ≡ message q totals (current q sheets)
+  pub opening : Admitted (heard (q .n) (q .round) present messages)
 
-then-accepted : (j next : Judgement) → then j next ≡ Accepted → (j ≡ Accepted) × (next ≡ Accepted)
-then-accepted Accepted next e = (refl, e)
-then-accepted (Refused why) next e = (cc, cc)
+-- where a test is made at all
+asked : (here test : Bool) → here && not test ≡ false → here ≡ true → test ≡ true
+asked true test e h = not-false test e
+asked false test e h = cc
 
-module _ (q : Party) (totals sheets messages : List ℕ) where
-  -- of the messages
-  fitting : judged (of-messages q totals sheets messages) ≡ Accepted
-      → (getD messages (q .own - 1) 0 ≡ message q totals (current q sheets)) × Admitted (heard (q .n) (q .round) messages)
-  fitting e =
-      let same = passed _ _ _ e in
+not-asked : (here test : Bool) → (here ≡ true → test ≡ true) → here && not test ≡ false
+not-asked true test h = ap not (h refl)
+not-asked false test h = refl
+
+module _ (q : Party) (totals sheets messages present : List ℕ) where
+  pub hears : hear-judgement q totals sheets messages present ≡ Accepted → Hears q totals sheets messages present
+  hears e =
+      let both = then-accepted _ (judged (of-messages q totals sheets messages present)) (sym (as-turn q totals sheets messages present) ∙ e) in
+      let turn = turns q totals sheets _ _ (both .0) in
+      let lengths = and-true _ _ (turn .2) in
+      let enough = passed _ _ _ (both .1) in
+      let field = passed _ _ _ (enough .1) in
+      let same = passed _ _ _ (field .1) in
       let straight = passed _ _ _ (same .1) in
       let tame = passed _ _ _ (straight .1) in
       let whole = passed _ _ _ (tame .1) in
-      (eqb-true _ _ (not-false _ (same .0)), admitted (heard (q .n) (q .round) messages) (straight .0) (tame .0) (whole .0))
+      record {
+        turn = turn .0;
+        marks = turn .1;
+        many = eqb-true _ _ (lengths .0);
+        marks-many = eqb-true _ _ (lengths .1);
+        enough = leb-false _ _ (enough .0);
+        in-field = in-field-facts q _ totals (current q sheets) (not-false _ (field .0));
+        own = λ here. eqb-true _ _ (asked _ _ (same .0) here);
+        opening = admitted (heard (q .n) (q .round) present messages) (straight .0) (tame .0) (whole .0);
+      }
 
-  pub hears : hear-judgement q totals sheets messages ≡ Accepted → Hears q totals sheets messages
-  hears e =
-      let both = then-accepted _ (judged (of-messages q totals sheets messages)) (sym (as-turn q totals sheets messages) ∙ e) in
-      let turn = turns q totals sheets _ (both .0) in
-      record { says = turn .0; many = eqb-true (length messages) (q .n) (turn .1); own = fitting (both .1) .0; opening = fitting (both .1) .1 }
-
-  pub hear-accepted : Hears q totals sheets messages → hear-judgement q totals sheets messages ≡ Accepted
+  pub hear-accepted : Hears q totals sheets messages present → hear-judgement q totals sheets messages present ≡ Accepted
   hear-accepted h =
-      let tests = admitted-tests (heard (q .n) (q .round) messages) (h .opening) in
-      by-messages q totals sheets messages (turn-accepted q totals sheets _ (h .says) (eq-eqb (length messages) (q .n) (h .many)))
-      ∙ passes _ _ _ (rw (eq-eqb _ _ (h .own))) ∙ passes _ _ _ (tests .0) ∙ passes _ _ _ (tests .1) ∙ passes _ _ _ (tests .2) ∙ all-passed
-
-  -- and the record is the one after the round
-  pub hear-next : Hears q totals sheets messages
-      → hear-reply q totals sheets messages .party ≡ after q (current q sheets) (heard (q .n) (q .round) messages)
-  hear-next h = next-party _ _ _ (hear-accepted h)
+      let tests = admitted-tests (heard (q .n) (q .round) present messages) (h .opening) in
+      by-messages q totals sheets messages present
+      (turn-accepted q totals sheets _ _ (h .turn) (h .marks)
+      (ap₂ _&&_ (eq-eqb (length messages) (q .n) (h .many)) (eq-eqb (length present) (q .n) (h .marks-many))))
+      ∙ passes _ _ _ (lt-leb (how-many present) (threshold (q .n)) (h .enough))
+      ∙ passes _ _ _ (ap not (in-field-of q _ totals (current q sheets) (h .in-field)))
+      ∙ passes _ _ _ (not-asked _ _ (λ here. eq-eqb _ _ (h .own here)))
+      ∙ passes _ _ _ (tests .0) ∙ passes _ _ _ (tests .1) ∙ passes _ _ _ (tests .2) ∙ all-passed

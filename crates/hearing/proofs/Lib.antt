@@ -1,3 +1,4 @@
 -- What the tests of hearing say, for theorems about runs, and lemmas that the functions' proofs share.
 pub mod Hears
 pub mod Next
+pub mod Unmarked

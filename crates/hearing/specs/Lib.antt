@@ -1,2 +1,3 @@
--- What a heard round opens to and makes of the record: what the contracts cite.
+-- Hearing a round: how it is judged and its reply, which the contracts cite, and what is promised of unmarked words.
 pub mod Hear
+pub mod Unmarked

@@ -1,48 +1,73 @@
-// Hearing a round: all n messages, party 1 first, the party's own among them.
+// Hearing a round: n messages, party 1 first, and n marks of who was present. The words of those who were
+// not change nothing.
 ghost use mathlib.Core.Path.{_≡_};
-ghost use Rattle.hearing.specs.Hear.{hear-reply};
+ghost use Rattle.hearing.specs.Hear.{hear-reply, opening-judgement};
 
-mod after;
 mod board;
 
-use after::after;
 pub use board::step;
+use presence::count_marks;
 use record::Party;
 use record::Reply;
 use record::accepted;
 use record::refused;
+use record::sound;
+use refusal::Judgement;
 use refusal::Refusal;
+use round::Heard;
 use round::open_round;
 use round::sum_outside;
 use round::unopened;
 use round::verdict_outside;
-use saying::Said;
 use saying::current;
+use saying::in_field;
+use saying::message;
 use saying::turn;
+use sharing::threshold;
+use stepping::after;
 
-// What `say` refuses is refused here too, for the same reason: the party compares its own message with
-// what it says.
-pub fn hear(q: Party, totals: &[u64], sheets: &[u64], messages: &[u64]) -> Reply
-    ensures { λ r. ⌜ r ≡ hear-reply q (now (totals .entry)) (now (sheets .entry)) (now (messages .entry)) ⌝ }
+// A party that was present compares its own message with what it says.
+pub fn hear(q: Party, totals: &[u64], sheets: &[u64], messages: &[u64], present: &[u8]) -> Reply
+    ensures { λ r. ⌜ r ≡ hear-reply q (now (totals .entry)) (now (sheets .entry)) (now (messages .entry)) (now (present .entry)) ⌝ }
 {
-    let said = match turn(q, totals, sheets, messages.len() as u64 == q.n) {
-        Said::Message(word) => word,
-        Said::Refused(why) => return refused(why, q),
-    };
+    let tally = count_marks(present);
+    let long = (messages.len() as u64 == q.n) & (present.len() as u64 == q.n);
+    match turn(q, sound(q) & tally.marks, totals, sheets, long) {
+        Judgement::Accepted => {}
+        Judgement::Refused(why) => return refused(why, q),
+    }
+    if tally.count <= threshold(q.n) {
+        return refused(Refusal::TooFewPresent, q);
+    }
     let own = q.own as usize - 1;
-    let word = messages[own];
-    if word != said {
+    let here = present[own] == 1;
+    let sheet = current(q, sheets);
+    if !in_field(q, here, totals, sheet) {
+        return refused(Refusal::ShareOutOfRange, q);
+    }
+    if here && messages[own] != message(q, totals, sheet) {
         return refused(Refusal::OwnMessageDiffers, q);
     }
-    let opened = open_round(q.n, q.round, messages);
+    let opened = open_round(q.n, q.round, tally.count == q.n, present, messages);
+    match judge(opened) {
+        Judgement::Accepted => accepted(after(q, sheet, opened)),
+        Judgement::Refused(why) => refused(why, q),
+    }
+}
+
+// What is refused of what the messages open to. It stands apart from `hear`, which has so many tests before
+// it that the compiler would take what follows for rare.
+fn judge(opened: Heard) -> Judgement
+    ensures { λ r. ⌜ r ≡ opening-judgement opened ⌝ }
+{
     if unopened(opened) {
-        return refused(Refusal::Inconsistent, q);
+        return Judgement::Refused(Refusal::Inconsistent);
     }
     if sum_outside(opened) {
-        return refused(Refusal::SumOutOfRange, q);
+        return Judgement::Refused(Refusal::SumOutOfRange);
     }
     if verdict_outside(opened) {
-        return refused(Refusal::VerdictNotBit, q);
+        return Judgement::Refused(Refusal::VerdictNotBit);
     }
-    accepted(after(q, current(q, sheets), opened))
+    Judgement::Accepted
 }

@@ -16,7 +16,7 @@ use Rattle.weights.specs.Rows.{Scheme, weights, amount-scheme, byte-scheme}
 use Rattle.sharing.specs.Scheme.{threshold, points}
 use Rattle.weights.specs.Products.{products}
 use Rattle.openings.specs.Opening.{moments, readable, settled, opened}
-use Rattle.openings.specs.Law.{OnPolynomial}
+use Rattle.openings.specs.Law.{Passes, OnPolynomial}
 use Rattle.openings.specs.declared.opening.Opening.the-variants.{Secret}
 use Rattle.sharing.proofs.Points.{Different, points-below, different-points}
 use Rattle.sharing.proofs.Laws.{shares-lt, shares-elements}
@@ -26,7 +26,7 @@ use Rattle.ranges.proofs.Loops.{length-from}
 use Rattle.ranges.proofs.Ranges.{all-below, is-below}
 use Rattle.openings.proofs.Settled.{Readable, read, is-readable, cond-true, cond-secret, settled-zeros, settled-secret, length-moments}
 use Rattle.sharing.proofs.Numbers.{Element, elements-ops, element, elements, number-element, numbers-elements, shares-numbers, gap, apart}
-use Rattle.openings.proofs.Numbers.{products-numbers, moments-numbers, ending-numbers, zeros-numbers}
+use Rattle.openings.proofs.Numbers.{products-numbers, moments-numbers, ending-numbers, replicate-numbers}
 
 module _ (F : Field) where
   open Field F using (size as q, ops as O)
@@ -70,7 +70,7 @@ module _ (F : Field) where
         (products-numbers F (up w) (up words) ∙ ap₂ (products O) (numbers-elements F w (W .weights-lt)) (numbers-elements F words h))
 
     secret-alone : (s m : ℕ) → s < q → numbers (element F s ∷ replicate m (P .zero)) ≡ s ∷ replicate m (O .zero)
-    secret-alone s m h = ap₂ (λ (z : ℕ) (zs : List ℕ). z ∷ zs) (number-element F s h) (zeros-numbers F m)
+    secret-alone s m h = ap₂ (λ (z : ℕ) (zs : List ℕ). z ∷ zs) (number-element F s h) (replicate-numbers F m (P .zero))
 
     -- The weighted shares of s add up to s. Times x, x^2, .. x^m they add up to 0, as long as there are points to spare.
     pub weighted : (s : ℕ) (cs : List ℕ) (m : ℕ) → s < q → AllBelow q cs → length cs + m < length xs
@@ -86,25 +86,26 @@ module _ (F : Field) where
         ∙ secret-alone s m hs
 
     -- And words of which that holds are the shares of s.
-    pub through : (s : ℕ) (words : List ℕ) (m : ℕ) → AllBelow q words → length words ≡ length xs → m < length xs
-        → moments O (suc m) xs (products O w words) ≡ s ∷ replicate m (O .zero)
-        → (cs : List ℕ) × (s < q) × AllBelow q cs × (suc (length cs) + m ≡ length xs) × (shares O (s ∷ cs) xs ≡ words)
+    pub through : (t s : ℕ) (words : List ℕ) (m : ℕ) → AllBelow q words → length words ≡ length xs → suc t + m ≡ length xs
+        → moments O (suc m) xs (products O w words) ≡ s ∷ replicate m (O .zero) → Passes F t xs s words
     unfolding sums-of
-    through s words m hw l hm e =
+    through t s words m hw l hm e =
         let k : numbers (sums-of (suc m) words) ≡ s ∷ replicate m (O .zero) = sums-numbers-of (suc m) words hw ∙ e in
         let hs : s < q = (subst (AllBelow q) k (numbers-below (sums-of (suc m) words))) .0 in
         let n : length xs ≡ suc (W .last) = W .weighing .points-many in
         let r : (cs : List (Element F)) × (suc (length cs) + m ≡ suc (W .last)) × (shares P (element F s ∷ cs) (up xs) ≡ up words) =
         weighing.through (ring (F .ring)) lifted
         (gap F) (apart F xs D) (element F s) (up words) m (length-map words (element F) ∙ l ∙ n) (omega arith)
-        (same-numbers _ _ (k ∙ sym (secret-alone s m hs))) in (
-          numbers (r .0),
-          hs,
-          numbers-below (r .0),
-          ap (λ (z : ℕ). suc z + m) (length-numbers (r .0)) ∙ r .1 ∙ sym n,
-          ap₂ (λ (z : ℕ) (zs : List ℕ). shares O (z ∷ numbers (r .0)) zs) (sym (number-element F s hs)) (sym (numbers-elements F xs hx))
-              ∙ sym (shares-numbers F (element F s ∷ r .0) (up xs)) ∙ ap numbers (r .2) ∙ numbers-elements F words hw,
-        )
+        (same-numbers _ _ (k ∙ sym (secret-alone s m hs))) in
+        record {
+          secret-lt = hs;
+          coefficients = numbers (r .0);
+          coefficients-lt = numbers-below (r .0);
+          degree = omega (arith, length-numbers (r .0), r .1, n, hm);
+          through =
+              ap₂ (λ (z : ℕ) (zs : List ℕ). shares O (z ∷ numbers (r .0)) zs) (sym (number-element F s hs)) (sym (numbers-elements F xs hx))
+              ∙ sym (shares-numbers F (element F s ∷ r .0) (up xs)) ∙ ap numbers (r .2) ∙ numbers-elements F words hw;
+        }
 
 -- ---- opening all n words
 
@@ -112,14 +113,15 @@ module _ (F : Field) where
 pub record Fits (S : Scheme) (F : Field) : Type 0 where
   pub same-ops : S .ops ≡ F .ops
   pub same-size : S .size ≡ F .size
+  pub same-gap : S .gap ≡ F .gap
   pub zero-is : F .ops .zero ≡ 0
   pub row : (n : ℕ) → 3 ≤ n → n ≤ 9 → Weights F (points n) (weights S n)
 
 pub amount-fits : Fits amount-scheme amount-field
-amount-fits = record { same-ops = refl; same-size = refl; zero-is = refl; row = amount-weights }
+amount-fits = record { same-ops = refl; same-size = refl; same-gap = refl; zero-is = refl; row = amount-weights }
 
 pub byte-fits : Fits byte-scheme byte-field
-byte-fits = record { same-ops = refl; same-size = refl; zero-is = refl; row = byte-weights }
+byte-fits = record { same-ops = refl; same-size = refl; same-gap = refl; zero-is = refl; row = byte-weights }
 
 module _ {S : Scheme} {F : Field} (fits : Fits S F) where
   -- the sums that an opening takes, one and those that are to be 0
@@ -164,23 +166,20 @@ module _ {S : Scheme} {F : Field} (fits : Fits S F) where
       let r : Readable (S .size) n words = read (S .size) n words (c .0) in
       let many : length (points n) ≡ n = length-from 1 n in
       let m : ℕ = n - suc (threshold n) in
-      let v : (cs : List ℕ) × (s < F .size) × AllBelow (F .size) cs × (suc (length cs) + m ≡ length (points n)) × (shares (F .ops) (s ∷ cs) (points n) ≡ words) =
-      through F (points n) (weights S n) (different-points n (r .most)) (fits .row n (r .least) (r .most)) s words m
-      (subst (λ (q : ℕ). AllBelow q words) (fits .same-size) (all-below (S .size) words (r .small))) (r .long ∙ sym many) (omega (arith, r .least))
-      (settled-secret _ s m (length-moments (F .ops) (suc m) (points n) _) (ap settled (sym (sums-taken n words (r .least))) ∙ c .1) ∙ sym (secret-first s m)) in
       record {
         at-least = r .least;
         at-most = r .most;
-        secret-lt = v .1;
-        coefficients = v .0;
-        coefficients-lt = v .2;
-        degree = omega (arith, r .least, v .3);
-        through = v .4;
+        passes =
+            through F (points n) (weights S n) (different-points n (r .most)) (fits .row n (r .least) (r .most)) (threshold n) s words m
+            (subst (λ (q : ℕ). AllBelow q words) (fits .same-size) (all-below (S .size) words (r .small))) (r .long ∙ sym many) (omega (arith, r .least, many))
+            (settled-secret _ s m (length-moments (F .ops) (suc m) (points n) _) (ap settled (sym (sums-taken n words (r .least))) ∙ c .1) ∙ sym (secret-first s m));
       }
 
   -- n words open exactly when a polynomial of degree at most t passes through them, and then to its value at 0
   pub exactly : (n s : ℕ) (words : List ℕ) → (opened S n words ≡ Secret s) ↔ OnPolynomial F n s words
   exactly n s words = (
     only-shares n s words,
-    λ p. ap (opened S n) (sym (p .through)) ∙ opens n s (p .coefficients) (p .at-least) (p .at-most) (p .secret-lt) (p .coefficients-lt) (p .degree),
+    λ p.
+        let v = p .passes in
+        ap (opened S n) (sym (v .through)) ∙ opens n s (v .coefficients) (p .at-least) (p .at-most) (v .secret-lt) (v .coefficients-lt) (v .degree),
   )

@@ -1,10 +1,10 @@
--- The laws of opening, and lemmas that the functions' proofs share. Other crates cite Laws, and for weights of their own Rows and
--- Weighing.
+-- The laws of opening, and lemmas that the functions' proofs share. Other crates cite Laws, for weights of their own Rows and
+-- Weighing, and for an opening of their own Numbers and Settled.
 pub mod Weighing
 pub mod Rows
 pub mod Laws
-mod Numbers
-mod Settled
+pub mod Numbers
+pub mod Settled
 mod Sums
 mod Powers
 mod Packed

@@ -33,6 +33,6 @@ module _ (F : Field) where
   ending-numbers zero top = refl
   ending-numbers (suc k) top = ap (λ (z : List ℕ). F .ops .zero ∷ z) (ending-numbers k top)
 
-  pub zeros-numbers : (m : ℕ) → numbers (replicate m (elements-ops F .zero)) ≡ replicate m (F .ops .zero)
-  zeros-numbers zero = refl
-  zeros-numbers (suc m) = ap (λ (z : List ℕ). F .ops .zero ∷ z) (zeros-numbers m)
+  pub replicate-numbers : (m : ℕ) (a : Element F) → numbers (replicate m a) ≡ replicate m (a .0)
+  replicate-numbers zero a = refl
+  replicate-numbers (suc m) a = ap (λ (z : List ℕ). a .0 ∷ z) (replicate-numbers m a)

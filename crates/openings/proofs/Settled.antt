@@ -1,5 +1,5 @@
 -- What the tests of an opening say of the words, and of the sums that are taken. Assumes nothing.
-use mathlib.Core.Path.{_≡_, refl, sym, ap, ap₂, _∙_}
+use mathlib.Core.Path.{_≡_, refl, ap, ap₂, _∙_}
 use mathlib.Core.Bool.{Bool, true, false, cond, _&&_}
 use mathlib.Core.List.{List, [], _∷_}
 use Prim.Native.Nat.{ℕ, zero, suc, _≤_}
@@ -10,7 +10,7 @@ use lib.ListN.{length, replicate}
 use borrow.Author.Tests.{leb-true, le-leb, eqb-true, eq-eqb}
 use Rattle.fields.specs.Ring.{Ops}
 use Rattle.ranges.specs.Lists.{every}
-use Rattle.ranges.proofs.Loops.{and-left, and-right}
+use Rattle.ranges.proofs.Loops.{and-left, and-right, every-replicate, only-same}
 use Rattle.weights.specs.Products.{products}
 use Rattle.openings.specs.Opening.{moments, readable, settled}
 use Rattle.openings.specs.declared.opening.Opening.{Opening}
@@ -54,25 +54,16 @@ module _ (size n : ℕ) (words : List ℕ) where
 pub cond-true : (b : Bool) (o : Opening) → b ≡ true → cond b o Inconsistent ≡ o
 cond-true b o e = ap (λ (c : Bool). cond c o Inconsistent) e
 
+pub cond-false : (b : Bool) (o : Opening) → b ≡ false → cond b o Inconsistent ≡ Inconsistent
+cond-false b o e = ap (λ (c : Bool). cond c o Inconsistent) e
+
 pub cond-secret : (b : Bool) (o : Opening) (s : ℕ) → cond b o Inconsistent ≡ Secret s → (b ≡ true) × (o ≡ Secret s)
 cond-secret true o s e = (refl, e)
 cond-secret false o s e = let z : _≡_ {A = ℕ} 0 1 = cc in absurd (omega arith)
 
-zeros-pass : (m : ℕ) → every (eqb 0) (replicate m 0) ≡ true
-unfolding every
-zeros-pass zero = refl
-zeros-pass (suc m) = zeros-pass m
-
-only-zeros : (vs : List ℕ) → every (eqb 0) vs ≡ true → vs ≡ replicate (length vs) 0
-unfolding every
-only-zeros [] e = refl
-only-zeros (v ∷ vs) e =
-    ap₂ (λ (z : ℕ) (zs : List ℕ). z ∷ zs) (sym (eqb-true 0 v (and-left (eqb 0 v) (every (eqb 0) vs) e)))
-    (only-zeros vs (and-right (eqb 0 v) (every (eqb 0) vs) e))
-
 pub settled-zeros : (s m : ℕ) → settled (s ∷ replicate m 0) ≡ Secret s
 unfolding settled
-settled-zeros s m = rw (zeros-pass m)
+settled-zeros s m = rw (every-replicate (eqb 0) 0 m refl)
 
 pub settled-secret : (vs : List ℕ) (s m : ℕ) → length vs ≡ suc m → settled vs ≡ Secret s → vs ≡ s ∷ replicate m 0
 unfolding settled
@@ -80,7 +71,7 @@ settled-secret [] s m l e = absurd (omega arith)
 settled-secret (v ∷ vs) s m l e =
     let c : (every (eqb 0) vs ≡ true) × (Secret v ≡ Secret s) = cond-secret (every (eqb 0) vs) (Secret v) s e in
     let z : v ≡ s = cc (c .1) in
-    ap₂ (λ (a : ℕ) (b : List ℕ). a ∷ b) z (only-zeros vs (c .0) ∙ ap (λ (k : ℕ). replicate k 0) (suc-inj l))
+    ap₂ (λ (a : ℕ) (b : List ℕ). a ∷ b) z (only-same 0 vs (c .0) ∙ ap (λ (k : ℕ). replicate k 0) (suc-inj l))
 
 pub length-moments : (O : Ops ℕ) (m : ℕ) (xs ys : List ℕ) → length (moments O m xs ys) ≡ m
 unfolding moments

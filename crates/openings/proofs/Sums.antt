@@ -17,7 +17,7 @@ use Rattle.weights.specs.Products.{products}
 use Rattle.openings.specs.Opening.{total, moments, readable, settled, opened}
 use Rattle.openings.specs.declared.opening.Opening.the-variants.{Secret, Inconsistent}
 use Rattle.ranges.proofs.Loops.{every-more, every-fails}
-use Rattle.openings.proofs.Settled.{cond-true, length-moments}
+use Rattle.openings.proofs.Settled.{cond-true, cond-false, length-moments}
 
 module _ (O : Ops ℕ) (xs : List ℕ) where
   -- whether the sums of x y, x^2 y, .. are 0, m of them
@@ -66,8 +66,7 @@ module _ (O : Ops ℕ) (xs : List ℕ) where
 module _ (S : Scheme) (n : ℕ) (words : List ℕ) where
   pub unreadable : readable (S .size) n words ≡ false → opened S n words ≡ Inconsistent
   unfolding opened
-  unreadable e =
-      ap (λ (b : Bool). cond b (settled (moments (S .ops) (n - threshold n) (points n) (products (S .ops) (weights S n) words))) Inconsistent) e
+  unreadable e = cond-false (readable (S .size) n words) _ e
 
   -- the first sum is the secret, where the others are 0
   pub begun : (ys : List ℕ) (v : ℕ) → readable (S .size) n words ≡ true → 3 ≤ n → ys ≡ products (S .ops) (weights S n) words → v ≡ total (S .ops) ys

@@ -148,7 +148,7 @@ pub rowed-all : (n : ℕ) (f : ℕ → ℕ) (old xs : List ℕ) (j : ℕ) → Ro
 rowed-all n f old xs j R l h =
     let long : length xs ≡ n = R .long ∙ l in
     ext-getD 0 xs (map f (from 0 n)) (long ∙ sym (length-map (from 0 n) f ∙ length-from 0 n))
-    (λ i m. R .done i (omega arith) ∙ sym (map-from f 0 n i (omega arith) ∙ ap f (omega arith)))
+    (λ i m. R .done i (omega arith) ∙ sym (map-from f 0 0 n i (omega arith) ∙ ap f (omega arith)))
 
 pub sheets-eighteen : (k : ℕ) → k ≤ 256 → most-probes k ≤ 18
 unfolding most-probes

@@ -30,6 +30,7 @@ pub fn say_all(
     }
 }
 
+// Every party of a rehearsal is present.
 pub fn hear_all(
     n: u64,
     k: u64,
@@ -39,14 +40,15 @@ pub fn hear_all(
     messages: &[u64],
 ) -> [Party; 9]
     requires { ⌜ (n ≤ 9) × (k ≤ 256) × (length (now totals) ≡ n * (2 * k)) × (length (now sheets) ≡ n * (127 * most-probes k)) ⌝ }
-    ensures { λ r. ⌜ All n (λ i. getD r i blank ≡ heard-by k parties (now (totals .entry)) (now (sheets .entry)) (now (messages .entry)) i) ⌝ }
+    ensures { λ r. ⌜ All n (λ i. getD r i blank ≡ heard-by n k parties (now (totals .entry)) (now (sheets .entry)) (now (messages .entry)) i) ⌝ }
 {
     let last = n as usize;
+    let everyone = [1u8; 9];
     let mut after = parties;
     let mut i = 0;
     while i < last {
         let q = parties[i];
-        after[i] = hear_one(q, k, i, totals, sheets, messages);
+        after[i] = hear_one(q, k, i, totals, sheets, messages, &everyone[..last]);
         i += 1;
     }
     after
@@ -54,7 +56,7 @@ pub fn hear_all(
 
 pub fn round(n: u64, k: u64, parties: [Party; 9], totals: &[u64], sheets: &[u64]) -> [Party; 9]
     requires { ⌜ (n ≤ 9) × (k ≤ 256) × (length (now totals) ≡ n * (2 * k)) × (length (now sheets) ≡ n * (127 * most-probes k)) ⌝ }
-    ensures { λ r. ⌜ All n (λ i. getD r i blank ≡ heard-by k parties (now (totals .entry)) (now (sheets .entry)) (all-said n k parties (now (totals .entry)) (now (sheets .entry))) i) ⌝ }
+    ensures { λ r. ⌜ All n (λ i. getD r i blank ≡ heard-by n k parties (now (totals .entry)) (now (sheets .entry)) (all-said n k parties (now (totals .entry)) (now (sheets .entry))) i) ⌝ }
 {
     let last = n as usize;
     let mut messages = [0u64; 9];

@@ -38,7 +38,7 @@ pub(crate) fn say_one(q: Party, k: u64, i: usize, totals: &[u64], sheets: &[u64]
     word(say(q, &totals[at..next], &sheets[from..to]))
 }
 
-// Its record once it has heard the words.
+// Its record once it has heard the words of those who were present.
 pub(crate) fn hear_one(
     q: Party,
     k: u64,
@@ -46,9 +46,10 @@ pub(crate) fn hear_one(
     totals: &[u64],
     sheets: &[u64],
     messages: &[u64],
+    present: &[u8],
 ) -> Party
     requires { ⌜ (k ≤ 256) × (i < 9) × (i * (2 * k) + 2 * k ≤ length (now totals)) × (i * (127 * most-probes k) + 127 * most-probes k ≤ length (now sheets)) ⌝ }
-    ensures { λ r. ⌜ r ≡ hear-reply q (part (2 * k) i (now (totals .entry))) (part (127 * most-probes k) i (now (sheets .entry))) (now (messages .entry)) .party ⌝ }
+    ensures { λ r. ⌜ r ≡ hear-reply q (part (2 * k) i (now (totals .entry))) (part (127 * most-probes k) i (now (sheets .entry))) (now (messages .entry)) (now (present .entry)) .party ⌝ }
 {
     let width = 2 * k as usize;
     let lent = 127 * most_probes(k) as usize;
@@ -56,5 +57,5 @@ pub(crate) fn hear_one(
     let from = i * lent;
     let next = at + width;
     let to = from + lent;
-    returned(hear(q, &totals[at..next], &sheets[from..to], messages))
+    returned(hear(q, &totals[at..next], &sheets[from..to], messages, present))
 }

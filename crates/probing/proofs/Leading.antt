@@ -1,7 +1,7 @@
 -- Probe after probe: the indices and verdicts that the program notes are those of the searches. Assumes nothing.
 use mathlib.Core.Path.{_≡_, refl, sym, ap, ap₂, subst, _∙_}
 use mathlib.Core.Bool.{Bool, true, false, cond, not}
-use mathlib.Core.List.{List, [], _∷_, _++_, map, append-assoc, append-nil}
+use mathlib.Core.List.{List, [], _∷_, _++_, append-assoc, append-nil}
 use Prim.Native.Nat.{ℕ, zero, suc, _+_, _-_, _≤_, _<_}
 use native.Mathlib.Nat.{sub-zero}
 use native.Mathlib.Numerals.{add-one}
@@ -28,7 +28,7 @@ use Rattle.session.specs.Answer.{answer-judgement, answered, answer-reply}
 use Rattle.refusal.specs.Judging.{judged}
 use Rattle.refusal.specs.declared.Judgement.{Judgement}
 use Rattle.refusal.specs.declared.Judgement.the-variants.{Accepted}
-use Rattle.auction.specs.Auction.{Auction, Bid, IsAuction, demand, supply, price-answer}
+use Rattle.auction.specs.Auction.{Auction, Bid, IsAuction, demand, supply, price-answer, probed}
 use Rattle.auction.specs.Coins.{Coins, InRange}
 use Rattle.auction.specs.Canonical.{Seat}
 use Rattle.auction.proofs.Closed.{fresh-stage, record-at, seat}
@@ -37,7 +37,6 @@ use Rattle.auction.proofs.Step.{Sane, fresh-sane, sound-at}
 use Rattle.auction.proofs.Round.{Ready, verdict-is}
 use Rattle.listing.specs.declared.course.Course.{Course}
 use Rattle.listing.specs.Lines.{most-listed, course-trail}
-use Rattle.auction.specs.Demands.{probed}
 use Rattle.probing.specs.Follows.{as-listed, priced, Follows, moved-end, verdict-read}
 use Rattle.panel.proofs.Parts.{sheets-eighteen}
 use Rattle.standing.proofs.Standing.{Stands, verdict-at, Probes}

@@ -9,8 +9,7 @@ use Rattle.search.specs.Bracket.{middle}
 use Rattle.search.specs.Search.{Decision}
 use Rattle.session.specs.declared.reply.Answer.{Answer}
 use Rattle.session.specs.declared.reply.Answer.the-variants.{Cleared, Refused}
-use Rattle.auction.specs.Auction.{Auction, price-answer}
-use Rattle.auction.specs.Demands.{probed}
+use Rattle.auction.specs.Auction.{Auction, price-answer, probed}
 use Rattle.listing.specs.declared.course.Course.{Course}
 use Rattle.listing.specs.Lines.{course-trail}
 

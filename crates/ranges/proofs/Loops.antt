@@ -7,9 +7,9 @@ use native.Mathlib.Nat.{add-zero}
 use native.Mathlib.Numerals.{add-one}
 use native.Mathlib.Omega.{arith}
 use lib.Dec.{eqb}
-use lib.ListN.{length, take, drop, set, getD, drop-of-length-le}
+use lib.ListN.{length, take, drop, set, getD, replicate, drop-of-length-le}
 use lib.Seq.{drop-cons, drop-drop, drop-set-lt, getD-drop, take-suc, take-suc-set}
-use borrow.Author.Tests.{eqb-false}
+use borrow.Author.Tests.{eqb-true, eqb-false}
 use Rattle.ranges.specs.Lists.{from, every, member}
 
 pub and-left : (a b : Bool) → (a && b) ≡ true → a ≡ true
@@ -59,17 +59,35 @@ getD-from a (suc m) zero h = omega arith
 getD-from a (suc m) (suc i) h = getD-from (suc a) m i (omega arith) ∙ omega arith
 
 -- what is made of numbers in a row
-pub map-from : (f : ℕ → ℕ) (a m i : ℕ) → i < m → getD (map f (from a m)) i 0 ≡ f (a + i)
+pub map-from : {B : Type 0} (f : ℕ → B) (d : B) (a m i : ℕ) → i < m → getD (map f (from a m)) i d ≡ f (a + i)
 unfolding from
-map-from f a zero i h = absurd (omega arith)
-map-from f a (suc m) zero h = ap f (omega arith)
-map-from f a (suc m) (suc i) h = map-from f (suc a) m i (omega arith) ∙ ap f (omega arith)
+map-from f d a zero i h = absurd (omega arith)
+map-from f d a (suc m) zero h = ap f (omega arith)
+map-from f d a (suc m) (suc i) h = map-from f d (suc a) m i (omega arith) ∙ ap f (omega arith)
 
 pub same-from : {B : Type 0} (f g : ℕ → B) (a m : ℕ) → ((i : ℕ) → a ≤ i → i < a + m → f i ≡ g i) → map f (from a m) ≡ map g (from a m)
 unfolding from
 same-from f g a zero h = refl
 same-from {B} f g a (suc m) h =
     ap₂ (λ (x : B) (xs : List B). x ∷ xs) (h a (omega arith) (omega arith)) (same-from f g (suc a) m (λ i l k. h i (omega arith) (omega arith)))
+
+pub map-take : {A B : Type 0} (f : A → B) (m : ℕ) (xs : List A) → map f (take m xs) ≡ take m (map f xs)
+map-take f zero xs = refl
+map-take f (suc m) [] = refl
+map-take {B} f (suc m) (x ∷ xs) = ap (λ (l : List B). f x ∷ l) (map-take f m xs)
+
+-- numbers that are all the same
+pub every-replicate : (test : ℕ → Bool) (s m : ℕ) → test s ≡ true → every test (replicate m s) ≡ true
+unfolding every
+every-replicate test s zero e = refl
+every-replicate test s (suc m) e = ap₂ _&&_ e (every-replicate test s m e)
+
+pub only-same : (s : ℕ) (vs : List ℕ) → every (eqb s) vs ≡ true → vs ≡ replicate (length vs) s
+unfolding every
+only-same s [] e = refl
+only-same s (v ∷ vs) e =
+    ap₂ (λ (z : ℕ) (zs : List ℕ). z ∷ zs) (sym (eqb-true s v (and-left (eqb s v) (every (eqb s) vs) e)))
+    (only-same s vs (and-right (eqb s v) (every (eqb s) vs) e))
 
 -- every number of a list is tested from the left
 pub every-more : (test : ℕ → Bool) (xs : List ℕ) (i : ℕ) → i < length xs → test (getD xs i 0) ≡ true → every test (drop i xs) ≡ every test (drop (i + 1) xs)

@@ -103,7 +103,7 @@ pub entered-swap : (q : Party) (b c : ℕ) → Sound q → b ≤ 1000 → entere
 unfolding entered
 entered-swap q b c s most = rw (mark-swap (q .roll) (s .roll) b c most)
 
--- ---- a round more: the roll and the search stay
+-- ---- a round more: the roll stays
 
 module _ (q : Party) (round sum carry : ℕ) where
   pub in-round-same : Same q (in-round q round sum carry)
@@ -113,10 +113,6 @@ module _ (q : Party) (round sum carry : ℕ) where
   pub in-round-roll : in-round q round sum carry .roll ≡ q .roll
   unfolding in-round
   in-round-roll = refl
-
-  pub in-round-search : in-round q round sum carry .search ≡ q .search
-  unfolding in-round
-  in-round-search = refl
 
   pub in-round-sound : Sound q → 1 ≤ round → round ≤ 33 → sum < 2 ^ 59 + 2 ^ 33 → carry ≤ 255 → Sound (in-round q round sum carry)
   unfolding in-round
@@ -146,10 +142,6 @@ module _ (q : Party) (t : Search) where
   pub decided-roll : decided q t .roll ≡ q .roll
   unfolding decided
   decided-roll = refl
-
-  pub decided-search : decided q t .search ≡ t
-  unfolding decided
-  decided-search = refl
 
   pub decided-sound : Sound q → searches.Sound (q .k) t → Sound (decided q t)
   unfolding decided

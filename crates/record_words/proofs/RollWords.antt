@@ -22,7 +22,7 @@ module _ (words : List ℕ) where
 
   pub roll-at : (i : ℕ) → i < 16 → getD (party-of words .roll .words) i 0 ≡ getD words (10 + i) 0
   unfolding party-of
-  roll-at i h = map-from (λ j. getD words j 0) 10 16 i h
+  roll-at i h = map-from (λ j. getD words j 0) 0 10 16 i h
 
   -- where the words end, those of the roll that are left are 0
   none-left : (i : ℕ) → (i < 16 → length words ≤ 10 + i) → drop i (party-of words .roll .words) ≡ drop i (replicate 16 0)

@@ -1,8 +1,8 @@
 -- What a list of tests says, and what a call leaves. Assumes nothing.
 use mathlib.Core.Path.{_≡_, refl}
 use mathlib.Core.Bool.{Bool, true, false}
-use mathlib.Core.List.{List, [], _∷_}
-use Rattle.refusal.specs.Judging.{Test, _⇒_, judged, kept}
+use mathlib.Core.List.{List, [], _∷_, _++_}
+use Rattle.refusal.specs.Judging.{Test, _⇒_, judged, then, kept}
 use Rattle.refusal.specs.declared.Refusal.{Refusal}
 use Rattle.refusal.specs.declared.Judgement.{Judgement}
 use Rattle.refusal.specs.declared.Judgement.the-variants.{Accepted, Refused}
@@ -26,6 +26,17 @@ pub passed : (fault : Bool) (why : Refusal) (tests : List Test) → judged ((fau
 unfolding judged
 passed false why tests e = (refl, e)
 passed true why tests e = (cc, cc)
+
+-- tests that count before others
+pub judged-append : (first tests : List Test) → judged (first ++ tests) ≡ then (judged first) (judged tests)
+unfolding judged
+judged-append [] tests = refl
+judged-append ((false ⇒ why) ∷ first) tests = judged-append first tests
+judged-append ((true ⇒ why) ∷ first) tests = refl
+
+pub then-accepted : (j next : Judgement) → then j next ≡ Accepted → (j ≡ Accepted) × (next ≡ Accepted)
+then-accepted Accepted next e = (refl, e)
+then-accepted (Refused why) next e = (cc, cc)
 
 -- what a call leaves
 module _ {A : Type 0} (judgement : Judgement) (new old : A) where

@@ -19,6 +19,7 @@ pub enum Refusal {
     VerdictNotBit,
     Malformed,
     AlreadyEntered,
+    TooFewPresent,
 }
 
 // What judging a call finds, and the reply of a call that only writes to what it is lent.
@@ -46,6 +47,7 @@ pub fn number(r: Refusal) -> u64
         Refusal::VerdictNotBit => 12,
         Refusal::Malformed => 13,
         Refusal::AlreadyEntered => 14,
+        Refusal::TooFewPresent => 15,
     }
 }
 

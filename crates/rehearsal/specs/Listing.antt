@@ -2,8 +2,7 @@
 use mathlib.Core.List.{List}
 use Prim.Native.Nat.{ℕ, _-_}
 use lib.ListN.{getD}
-use Rattle.auction.specs.Auction.{Auction, price-answer}
-use Rattle.auction.specs.Demands.{probed}
+use Rattle.auction.specs.Auction.{Auction, price-answer, probed}
 use Rattle.standing.specs.Numbered.{numbered}
 use Rattle.lines.specs.Lines.{lines}
 use Rattle.plan.specs.Plan.{Plan, Reading, faulty, accepted, read}

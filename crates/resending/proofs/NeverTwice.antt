@@ -26,9 +26,11 @@ use Rattle.session.specs.Add.{begun, add-judgement, add-reply}
 use Rattle.session.proofs.Laws.{adds}
 use Rattle.round.specs.Round.{heard}
 use Rattle.saying.specs.Say.{current}
-use Rattle.hearing.specs.Hear.{hear-judgement, hear-reply, after}
+use Rattle.hearing.specs.Hear.{hear-judgement, hear-reply}
+use Rattle.stepping.specs.After.{after}
 use Rattle.hearing.proofs.Hears.{hears}
-use Rattle.hearing.proofs.Next.{after-same, roll-after, hears-sound}
+use Rattle.stepping.proofs.Next.{after-same, roll-after}
+use Rattle.hearing.proofs.Next.{hears-sound}
 use Rattle.resending.specs.Resent.{Once, again, Between, adding, saying, hearing, asking, left-by, Resent, NeverTwice, NeverFull}
 
 -- ---- a bid that is added
@@ -71,13 +73,14 @@ module _ (k b : ℕ) where
       })
       i
 
-  after-hearing : (q : Party) (totals sheets messages : List ℕ) → StaysIn k b q → StaysIn k b (hear-reply q totals sheets messages .party)
-  after-hearing q totals sheets messages i =
+  after-hearing : (q : Party) (totals sheets messages present : List ℕ) → StaysIn k b q
+      → StaysIn k b (hear-reply q totals sheets messages present .party)
+  after-hearing q totals sheets messages present i =
       let sheet = current q sheets in
-      let opening = heard (q .n) (q .round) messages in
-      either (StaysIn k b) (hear-judgement q totals sheets messages) (after q sheet opening) q
+      let opening = heard (q .n) (q .round) present messages in
+      either (StaysIn k b) (hear-judgement q totals sheets messages present) (after q sheet opening) q
       (λ e.
-      let next = hears-sound q totals sheets messages (hears q totals sheets messages e) (i .roomy) in
+      let next = hears-sound q totals sheets messages present (hears q totals sheets messages present e) (i .roomy) in
       record {
         is-in = rw (roll-after q sheet opening) (i .is-in);
         whole = next .0;
@@ -91,7 +94,7 @@ module _ (k b : ℕ) where
   stays-in [] q i = i
   stays-in (adding totals bidder shares ∷ calls) q i = stays-in calls _ (after-adding q totals bidder shares i)
   stays-in (saying totals sheets ∷ calls) q i = stays-in calls q i
-  stays-in (hearing totals sheets messages ∷ calls) q i = stays-in calls _ (after-hearing q totals sheets messages i)
+  stays-in (hearing totals sheets messages present ∷ calls) q i = stays-in calls _ (after-hearing q totals sheets messages present i)
   stays-in (asking ∷ calls) q i = stays-in calls q i
 
 -- ---- and is refused

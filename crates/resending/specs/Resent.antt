@@ -50,7 +50,7 @@ pub record Resent (k : ℕ) (q : Party) (bidder : ℕ) : Type 0 where
 pub data Between : Type 0 where
   adding : (totals : List ℕ) (bidder : ℕ) (shares : List ℕ) → Between
   saying : (totals sheets : List ℕ) → Between
-  hearing : (totals sheets messages : List ℕ) → Between
+  hearing : (totals sheets messages present : List ℕ) → Between
   asking : Between
 
 -- the record that these calls leave, one after the other, accepted or refused: saying and asking change nothing
@@ -58,7 +58,7 @@ unfoldable pub left-by : List Between → Party → Party
 left-by [] q = q
 left-by (adding totals bidder shares ∷ calls) q = left-by calls (add-reply q totals bidder shares .party)
 left-by (saying totals sheets ∷ calls) q = left-by calls q
-left-by (hearing totals sheets messages ∷ calls) q = left-by calls (hear-reply q totals sheets messages .party)
+left-by (hearing totals sheets messages present ∷ calls) q = left-by calls (hear-reply q totals sheets messages present .party)
 left-by (asking ∷ calls) q = left-by calls q
 
 -- after any accepted bid, and any calls since

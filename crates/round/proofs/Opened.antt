@@ -6,51 +6,55 @@ use Prim.Native.Nat.{ℕ, _/_, _%_, _≤_, _<_}
 use native.Mathlib.Numerals.{lt-of-le-of-ne}
 use native.Mathlib.Omega.{arith}
 use lib.Dec.{leb, eqb}
+use lib.ListN.{length, length-map}
 use borrow.Author.Tests.{leb-true, leb-false, eqb-true, eqb-false, le-leb, lt-leb, eq-eqb, ne-eqb}
 use Rattle.weights.specs.Rows.{amount-scheme, byte-scheme}
-use Rattle.openings.specs.Opening.{opened}
 use Rattle.openings.specs.declared.opening.Opening.{Opening}
 use Rattle.openings.specs.declared.opening.Opening.the-variants.{Secret, Inconsistent}
-use Rattle.openings.proofs.Laws.{byte-fits, exactly}
+use Rattle.openings.proofs.Laws.{byte-fits}
+use Rattle.presence.specs.Presence.{marked, of-present}
+use Rattle.presence.proofs.Laws.{choose-map}
+use Rattle.present_openings.specs.Present.{opened-by}
+use Rattle.present_openings.proofs.Laws.{exactly-by, unmarked}
 use Rattle.round.specs.declared.Heard.the-variants.{Sum, Factors, Verdict}
 use Rattle.round.specs.Round.{sum-of, factors-of, verdict-of, heard, Possible}
 
 -- what is opened in the byte scheme is a byte
-pub opened-lt : (n v : ℕ) (words : List ℕ) → opened byte-scheme n words ≡ Secret v → v < 256
-opened-lt n v words e = exactly byte-fits n v words .0 e .secret-lt
+pub opened-lt : (n v : ℕ) (present words : List ℕ) → opened-by byte-scheme n present words ≡ Secret v → v < 256
+opened-lt n v present words e = exactly-by byte-fits n present words v .0 e .passes .secret-lt
 
 -- ---- by round
 
-module _ (n round : ℕ) (messages : List ℕ) where
-  pub heard-sum : round ≡ 1 → heard n round messages ≡ sum-of (opened amount-scheme n messages)
+module _ (n round : ℕ) (present messages : List ℕ) where
+  pub heard-sum : round ≡ 1 → heard n round present messages ≡ sum-of (opened-by amount-scheme n present messages)
   unfolding heard
   heard-sum e = simp (eq-eqb round 1 e)
 
   pub heard-factors : (round ≡ 1 → ⊥) → round ≤ 32
-      → heard n round messages ≡ factors-of (opened byte-scheme n (map (λ w. w % 256) messages)) (opened byte-scheme n (map (λ w. w / 256) messages))
+      → heard n round present messages ≡ factors-of (opened-by byte-scheme n present (map (λ w. w % 256) messages)) (opened-by byte-scheme n present (map (λ w. w / 256) messages))
   unfolding heard
   heard-factors e h = simp (ne-eqb round 1 e, le-leb round 32 h)
 
-  pub heard-verdict : 32 < round → heard n round messages ≡ verdict-of (opened byte-scheme n messages)
+  pub heard-verdict : 32 < round → heard n round present messages ≡ verdict-of (opened-by byte-scheme n present messages)
   unfolding heard
   heard-verdict h = simp (ne-eqb round 1 (λ e. omega arith), lt-leb round 32 h)
 
 -- and of messages that open
-module _ (n : ℕ) (messages : List ℕ) where
-  pub sum-heard : (v : ℕ) → opened amount-scheme n messages ≡ Secret v → heard n 1 messages ≡ Sum v
-  sum-heard v e = heard-sum n 1 messages refl ∙ ap sum-of e
+module _ (n : ℕ) (present messages : List ℕ) where
+  pub sum-heard : (v : ℕ) → opened-by amount-scheme n present messages ≡ Secret v → heard n 1 present messages ≡ Sum v
+  sum-heard v e = heard-sum n 1 present messages refl ∙ ap sum-of e
 
   pub factors-heard : (round d e : ℕ) → 2 ≤ round → round ≤ 32
-      → opened byte-scheme n (map (λ w. w % 256) messages) ≡ Secret d → opened byte-scheme n (map (λ w. w / 256) messages) ≡ Secret e
-      → heard n round messages ≡ Factors d e
-  factors-heard round d e h2 h32 low high = heard-factors n round messages (λ f. omega arith) h32 ∙ ap₂ factors-of low high
+      → opened-by byte-scheme n present (map (λ w. w % 256) messages) ≡ Secret d → opened-by byte-scheme n present (map (λ w. w / 256) messages) ≡ Secret e
+      → heard n round present messages ≡ Factors d e
+  factors-heard round d e h2 h32 low high = heard-factors n round present messages (λ f. omega arith) h32 ∙ ap₂ factors-of low high
 
-  pub verdict-heard : (v : ℕ) → opened byte-scheme n messages ≡ Secret v → heard n 33 messages ≡ Verdict v
-  verdict-heard v e = heard-verdict n 33 messages (omega arith) ∙ ap verdict-of e
+  pub verdict-heard : (v : ℕ) → opened-by byte-scheme n present messages ≡ Secret v → heard n 33 present messages ≡ Verdict v
+  verdict-heard v e = heard-verdict n 33 present messages (omega arith) ∙ ap verdict-of e
 
 -- what a round opens to is possible in it
-pub heard-possible : (n round : ℕ) (messages : List ℕ) → 1 ≤ round → Possible round (heard n round messages)
-heard-possible n round messages least = split (eqb round 1) (leb round 32) refl refl
+pub heard-possible : (n round : ℕ) (present messages : List ℕ) → 1 ≤ round → Possible round (heard n round present messages)
+heard-possible n round present messages least = split (eqb round 1) (leb round 32) refl refl
   where
     of-sum : (o : Opening) → Possible round (sum-of o)
     of-sum (Secret v) = tt
@@ -66,14 +70,25 @@ heard-possible n round messages least = split (eqb round 1) (leb round 32) refl 
     of-factors (Secret d) Inconsistent h2 h32 hd he = tt
     of-factors Inconsistent high h2 h32 hd he = tt
 
-    split : (first product : Bool) → eqb round 1 ≡ first → leb round 32 ≡ product → Possible round (heard n round messages)
-    split true product f p = rw (heard-sum n round messages (eqb-true round 1 f)) (of-sum (opened amount-scheme n messages))
+    split : (first product : Bool) → eqb round 1 ≡ first → leb round 32 ≡ product → Possible round (heard n round present messages)
+    split true product f p = rw (heard-sum n round present messages (eqb-true round 1 f)) (of-sum (opened-by amount-scheme n present messages))
     split false true f p =
         let other = eqb-false round 1 f in
         let h = leb-true round 32 p in
         let low : List ℕ = map (λ (w : ℕ). w % 256) messages in
         let high : List ℕ = map (λ (w : ℕ). w / 256) messages in
-        rw (heard-factors n round messages other h)
-        (of-factors (opened byte-scheme n low) (opened byte-scheme n high) (lt-of-le-of-ne least (λ e. other (sym e))) h
-        (λ d e. opened-lt n d low e) (λ d e. opened-lt n d high e))
-    split false false f p = rw (heard-verdict n round messages (leb-false round 32 p)) (of-verdict (opened byte-scheme n messages))
+        rw (heard-factors n round present messages other h)
+        (of-factors (opened-by byte-scheme n present low) (opened-by byte-scheme n present high) (lt-of-le-of-ne least (λ e. other (sym e))) h
+        (λ d e. opened-lt n d present low e) (λ d e. opened-lt n d present high e))
+    split false false f p = rw (heard-verdict n round present messages (leb-false round 32 p)) (of-verdict (opened-by byte-scheme n present messages))
+
+-- ---- unmarked words change nothing
+
+pub heard-unmarked : (n round : ℕ) (present messages messages′ : List ℕ) → length messages ≡ length messages′
+    → of-present present messages ≡ of-present present messages′ → heard n round present messages ≡ heard n round present messages′
+unfolding heard
+heard-unmarked n round present messages messages′ l e =
+    let same : (f : ℕ → ℕ) → opened-by byte-scheme n present (map f messages) ≡ opened-by byte-scheme n present (map f messages′) =
+    λ f. unmarked byte-scheme n present (map f messages) (map f messages′) (length-map messages f ∙ l ∙ sym (length-map messages′ f))
+    (choose-map f (marked present) messages ∙ ap (map f) e ∙ sym (choose-map f (marked present) messages′)) in
+    rw (unmarked amount-scheme n present messages messages′ l e, same (λ w. w % 256), same (λ w. w / 256), unmarked byte-scheme n present messages messages′ l e)

@@ -4,9 +4,9 @@ use mathlib.Core.List.{List, map}
 use Prim.Native.Nat.{ℕ, _+_, _-_, _/_, _%_, _^_, _≤_, _<_}
 use lib.Dec.{leb, ltb, eqb}
 use Rattle.weights.specs.Rows.{amount-scheme, byte-scheme}
-use Rattle.openings.specs.Opening.{opened}
 use Rattle.openings.specs.declared.opening.Opening.{Opening}
 use Rattle.openings.specs.declared.opening.Opening.the-variants.{Secret, Inconsistent}
+use Rattle.present_openings.specs.Present.{opened-by}
 use Rattle.round.specs.declared.Heard.{Heard}
 use Rattle.round.specs.declared.Heard.the-variants.{Sum, Factors, Verdict, Unopened}
 
@@ -24,12 +24,13 @@ abbrev pub verdict-of : Opening → Heard
 verdict-of (Secret v) = Verdict v
 verdict-of Inconsistent = Unopened
 
--- A word of rounds 2 to 32 is at most 65,535 exactly when its high part is a byte.
-unfoldable pub heard : (n round : ℕ) (messages : List ℕ) → Heard
-heard n round messages =
-    cond (eqb round 1) (sum-of (opened amount-scheme n messages))
-    (cond (leb round 32) (factors-of (opened byte-scheme n (map (λ w. w % 256) messages)) (opened byte-scheme n (map (λ w. w / 256) messages)))
-    (verdict-of (opened byte-scheme n messages)))
+-- Of those who were present. A word of rounds 2 to 32 is at most 65,535 exactly when its high part is a byte.
+unfoldable pub heard : (n round : ℕ) (present messages : List ℕ) → Heard
+heard n round present messages =
+    cond (eqb round 1) (sum-of (opened-by amount-scheme n present messages))
+    (cond (leb round 32)
+    (factors-of (opened-by byte-scheme n present (map (λ w. w % 256) messages)) (opened-by byte-scheme n present (map (λ w. w / 256) messages)))
+    (verdict-of (opened-by byte-scheme n present messages)))
 
 abbrev pub unopened : Heard → Bool
 unopened (Sum v) = false

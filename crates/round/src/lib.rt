@@ -1,4 +1,4 @@
-// A round's messages, all n of them, and what they open to.
+// A round's messages, and what those of the parties who were present open to.
 mod messages;
 
 pub use messages::open_round;

@@ -3,13 +3,14 @@ ghost use mathlib.Core.Path.{_≡_};
 ghost use mathlib.Core.List.{map};
 ghost use Prim.Native.Nat.{_/_, _%_};
 ghost use Rattle.weights.specs.Rows.{byte-scheme};
-ghost use Rattle.openings.specs.Opening.{opened};
+ghost use Rattle.presence.specs.Presence.{all-or};
+ghost use Rattle.present_openings.specs.Present.{opened-by};
 ghost use Rattle.round.specs.Round.{factors-of, heard, unopened, sum-outside, verdict-outside};
 use crate::Heard;
 use openings::Opening;
-use openings::open_amount;
-use openings::open_byte;
-use openings::open_pair;
+use present_openings::open_present_amount;
+use present_openings::open_present_byte;
+use present_openings::open_present_pair;
 
 // The least and the greatest T: 2^59 + 2^32, less a mask below 2^58, with a difference of totals
 // below 2^32 either way.
@@ -17,29 +18,31 @@ const LEAST: u64 = (1 << 58) + 2;
 
 const GREATEST: u64 = (1 << 59) + (1 << 33) - 1;
 
-pub fn open_round(n: u64, round: u64, messages: &[u64]) -> Heard
-    ensures { λ r. ⌜ r ≡ heard n round (now (messages .entry)) ⌝ }
+// Of those who were present, or of all n where it is known that all were.
+pub fn open_round(n: u64, round: u64, all: bool, present: &[u8], messages: &[u64]) -> Heard
+    ensures { λ r. ⌜ r ≡ heard n round (all-or «all» n (now (present .entry))) (now (messages .entry)) ⌝ }
 {
     if round == 1 {
-        return match open_amount(n, messages) {
+        return match open_present_amount(n, all, present, messages) {
             Opening::Secret(sum) => Heard::Sum(sum),
             Opening::Inconsistent => Heard::Unopened,
         };
     }
     if round <= 32 {
-        return factors(n, messages);
+        return factors(n, all, present, messages);
     }
-    match open_byte(n, messages) {
+    match open_present_byte(n, all, present, messages) {
         Opening::Secret(verdict) => Heard::Verdict(verdict),
         Opening::Inconsistent => Heard::Unopened,
     }
 }
 
 // The low bytes are the words of one polynomial and the high parts those of another.
-fn factors(n: u64, messages: &[u64]) -> Heard
-    ensures { λ r. ⌜ r ≡ factors-of (opened byte-scheme n (map (λ w. w % 256) (now (messages .entry)))) (opened byte-scheme n (map (λ w. w / 256) (now (messages .entry)))) ⌝ }
+fn factors(n: u64, all: bool, present: &[u8], messages: &[u64]) -> Heard
+    ensures { λ r. ⌜ r ≡ factors-of (opened-by byte-scheme n (all-or «all» n (now (present .entry))) (map (λ w. w % 256) (now (messages .entry))))
+        (opened-by byte-scheme n (all-or «all» n (now (present .entry))) (map (λ w. w / 256) (now (messages .entry)))) ⌝ }
 {
-    let pair = open_pair(n, messages);
+    let pair = open_present_pair(n, all, present, messages);
     let low = pair.low;
     let high = pair.high;
     factors_of(low, high)

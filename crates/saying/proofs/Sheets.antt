@@ -36,42 +36,48 @@ byte-at sheet i e least most =
     (ltb-true _ 256 (every-at (λ w. ltb w 256) (drop 1 sheet) (i - 1) e (omega (arith, length-drop 1 sheet))))
 
 -- free of refusal 8, in facts
-pub record InField (q : Party) (totals sheet : List ℕ) : Type 0 where
-  pub demand : q .round ≡ 1 → demand-share q totals < p
-  pub supply : q .round ≡ 1 → supply-share q totals < p
+pub record InField (q : Party) (used : Bool) (totals sheet : List ℕ) : Type 0 where
+  pub demand : used ≡ true → q .round ≡ 1 → demand-share q totals < p
+  pub supply : used ≡ true → q .round ≡ 1 → supply-share q totals < p
   pub mask : mask-share sheet < p
   pub bytes : AllBelow 256 (drop 1 sheet)
 
-module _ (q : Party) (totals sheet : List ℕ) where
-  pub in-field-facts : in-field q totals sheet ≡ true → InField q totals sheet
+module _ (q : Party) (used : Bool) (totals sheet : List ℕ) where
+  pub in-field-facts : in-field q used totals sheet ≡ true → InField q used totals sheet
   unfolding in-field
   in-field-facts e =
       let a = and-true _ _ e in
       let b = and-true _ _ (a .0) in
-      let used = used-first (q .round) _ _ (b .0) in
+      let small = small-first (q .round) _ _ (b .0) in
       record {
-        demand = λ first. ltb-true _ _ (used first .0);
-        supply = λ first. ltb-true _ _ (used first .1);
+        demand = λ u first. ltb-true _ _ (small u first .0);
+        supply = λ u first. ltb-true _ _ (small u first .1);
         mask = ltb-true _ _ (b .1);
         bytes = all-below 256 (drop 1 sheet) (a .1);
       }
     where
-      used-first : (round : ℕ) (a b : Bool) → not (eqb round 1) || a && b ≡ true → round ≡ 1 → (a ≡ true) × (b ≡ true)
-      used-first round a b e first = and-true a b (rw (eq-eqb round 1 first) at e)
+      small-first : (round : ℕ) (a b : Bool) → not (used && eqb round 1) || a && b ≡ true → used ≡ true → round ≡ 1 → (a ≡ true) × (b ≡ true)
+      small-first round a b e u first = and-true a b (rw (u, eq-eqb round 1 first) at e)
 
-  pub in-field-bytes : in-field q totals sheet ≡ true → every (λ w. ltb w 256) (drop 1 sheet) ≡ true
+  pub in-field-bytes : in-field q used totals sheet ≡ true → every (λ w. ltb w 256) (drop 1 sheet) ≡ true
   in-field-bytes e = is-below 256 (drop 1 sheet) (in-field-facts e .bytes)
 
-  pub in-field-of : InField q totals sheet → in-field q totals sheet ≡ true
+  pub in-field-of : InField q used totals sheet → in-field q used totals sheet ≡ true
   unfolding in-field
-  in-field-of h = rw (used-of (q .round) _ both, lt-ltb (mask-share sheet) p (h .mask), is-below 256 (drop 1 sheet) (h .bytes))
+  in-field-of h = rw (small-of used (q .round) _ both, lt-ltb (mask-share sheet) p (h .mask), is-below 256 (drop 1 sheet) (h .bytes))
     where
-      used-of : (round : ℕ) (used : Bool) → (round ≡ 1 → used ≡ true) → not (eqb round 1) || used ≡ true
-      used-of round used first = split (eqb round 1) refl
+      small-of : (u : Bool) (round : ℕ) (small : Bool) → (u ≡ true → round ≡ 1 → small ≡ true) → not (u && eqb round 1) || small ≡ true
+      small-of false round small first = refl
+      small-of true round small first = split (eqb round 1) refl
         where
-          split : (t : Bool) → eqb round 1 ≡ t → not t || used ≡ true
-          split true e = first (eqb-true round 1 e)
+          split : (t : Bool) → eqb round 1 ≡ t → not t || small ≡ true
+          split true e = first refl (eqb-true round 1 e)
           split false e = refl
 
-      both : q .round ≡ 1 → ltb (demand-share q totals) p && ltb (supply-share q totals) p ≡ true
-      both first = ap₂ _&&_ (lt-ltb (demand-share q totals) p (h .demand first)) (lt-ltb (supply-share q totals) p (h .supply first))
+      both : used ≡ true → q .round ≡ 1 → ltb (demand-share q totals) p && ltb (supply-share q totals) p ≡ true
+      both u first = ap₂ _&&_ (lt-ltb (demand-share q totals) p (h .demand u first)) (lt-ltb (supply-share q totals) p (h .supply u first))
+
+-- where the word may be used, it need not be
+pub in-field-any : (q : Party) (used : Bool) (totals sheet : List ℕ) → InField q true totals sheet → InField q used totals sheet
+in-field-any q used totals sheet h =
+    record { demand = λ u first. h .demand refl first; supply = λ u first. h .supply refl first; mask = h .mask; bytes = h .bytes }

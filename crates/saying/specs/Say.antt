@@ -49,27 +49,32 @@ abbrev pub triple-share : List ℕ → ℕ → ℕ → ℕ
 triple-share sheet i part = getD sheet (34 + 3 * (i - 2) + part) 0
 
 -- Free of refusal 8: "a bundle or book word used at or above p; in the current sheet, mask share at or above p or another word above
--- 255". Round 1 uses two words of the book, later rounds none.
-unfoldable pub in-field : (q : Party) (totals sheet : List ℕ) → Bool
-in-field q totals sheet =
-    (not (eqb (q .round) 1) || ltb (demand-share q totals) p && ltb (supply-share q totals) p)
+-- 255". The word of round 1 uses two words of the book, later ones none; a hearing that compares no own word uses none either, so
+-- `used` says whether the word is used.
+unfoldable pub in-field : (q : Party) (used : Bool) (totals sheet : List ℕ) → Bool
+in-field q used totals sheet =
+    (not (used && eqb (q .round) 1) || ltb (demand-share q totals) p && ltb (supply-share q totals) p)
     && ltb (mask-share sheet) p
     && every (λ w. ltb w 256) (drop 1 sheet)
 
--- The tests of a saying, and the first ones of a hearing. A hearing is lent its messages too; `else-long` says whether what is lent
--- beside totals and sheets is as long as stated.
-unfoldable pub turn-judgement : (q : Party) (totals sheets : List ℕ) (else-long : Bool) → Judgement
-turn-judgement q totals sheets else-long =
+-- Whether it is a party's turn, the first tests of a saying and of a hearing: `whole` says whether all that has a range is in it. A
+-- hearing is lent more, and `else-long` says whether that is as long as stated.
+unfoldable pub turn-judgement : (q : Party) (whole : Bool) (totals sheets : List ℕ) (else-long : Bool) → Judgement
+turn-judgement q whole totals sheets else-long =
     judged
-    ((not (sound q) ⇒ OutOfRange)
+    ((not whole ⇒ OutOfRange)
     ∷ (not (long (2 * q .k) totals && long (sheets-long (q .k)) sheets && else-long) ⇒ WrongLength)
     ∷ (finished (q .search) ⇒ OutOfTurn)
-    ∷ (not (in-field q totals (current q sheets)) ⇒ ShareOutOfRange)
     ∷ [])
 
--- nothing else is lent for a saying
-abbrev pub say-judgement : (q : Party) (totals sheets : List ℕ) → Judgement
-say-judgement q totals sheets = turn-judgement q totals sheets true
+unfoldable pub say-judgement : (q : Party) (totals sheets : List ℕ) → Judgement
+say-judgement q totals sheets =
+    judged
+    ((not (sound q) ⇒ OutOfRange)
+    ∷ (not (long (2 * q .k) totals && long (sheets-long (q .k)) sheets) ⇒ WrongLength)
+    ∷ (finished (q .search) ⇒ OutOfTurn)
+    ∷ (not (in-field q true totals (current q sheets)) ⇒ ShareOutOfRange)
+    ∷ [])
 
 -- "Words by round": round 1, in the second search "the same comparison with the sides exchanged"; rounds 2 to 32; round 33
 unfoldable pub message : (q : Party) (totals sheet : List ℕ) → ℕ
@@ -86,11 +91,8 @@ unfoldable pub said : Judgement → ℕ → Said
 said judgement.Accepted word = Message word
 said (judgement.Refused why) word = Refused why
 
-abbrev pub turn-reply : (q : Party) (totals sheets : List ℕ) (else-long : Bool) → Said
-turn-reply q totals sheets else-long = said (turn-judgement q totals sheets else-long) (message q totals (current q sheets))
-
 abbrev pub say-reply : (q : Party) (totals sheets : List ℕ) → Said
-say-reply q totals sheets = turn-reply q totals sheets true
+say-reply q totals sheets = said (say-judgement q totals sheets) (message q totals (current q sheets))
 
 -- ---- "this paper's number and values for each of its cases": a refused call leaves the place for the word as it was
 

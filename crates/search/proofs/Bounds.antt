@@ -200,10 +200,6 @@ module _ (s : Search) where
   unfolding finished
   finished-second f = eqb-true _ _ (and-true _ _ f .0)
 
-  pub first-unfinished : s .which ≡ 1 → finished s ≡ false
-  unfolding finished
-  first-unfinished e = rw (ne-eqb (s .which) 2 (λ f. omega arith))
-
 -- with the answer 0 the second is over at once
 pub over-at-once : (m : ℕ) → finished (second-search 0 m) ≡ true
 unfolding finished second-search start over

@@ -7,6 +7,8 @@ use native.Mathlib.Omega.{arith}
 use lib.ListN.{getD}
 use Rattle.ranges.specs.Lists.{from}
 use Rattle.sharing.specs.Scheme.{points}
+use Rattle.presence.specs.Presence.{everyone}
+use Rattle.round.specs.declared.Heard.{Heard}
 use Rattle.search.specs.Limit.{most-probes}
 use Rattle.search.specs.declared.searches.Search.{Search}
 use Rattle.search.specs.Searches.{next}
@@ -17,7 +19,8 @@ use Rattle.auction.specs.Coins.{Coins, InRange}
 use Rattle.auction.specs.Canonical.{word-by, after-hearing}
 use Rattle.auction.proofs.Closed.{polynomials, probe-of, Stage, fresh-stage}
 use Rattle.auction.proofs.Step.{Step}
-use Rattle.auction.proofs.Round.{Ready, stage-of, words-at, first-step, product-step, last-step}
+use Rattle.auction.proofs.Present.{all-hearable}
+use Rattle.auction.proofs.Round.{Ready, stage-of, words-at, opening-at, first-step, product-step, last-step}
 use Rattle.record.specs.Record.{blank}
 use Rattle.panel.specs.Parties.{All, part}
 use Rattle.panel_rounds.specs.Round.{said-by, all-said, heard-by}
@@ -31,11 +34,11 @@ map-shifted f g a (suc m) h =
     ap₂ (λ (x : ℕ) (xs : List ℕ). x ∷ xs) e
     (map-shifted f g (suc a) m (λ i l. ap f (omega arith) ∙ h (suc i) (omega arith) ∙ ap g (omega arith)))
 
-module _ (a : Auction) (c : Coins) (σ τ : Stage) (w : ℕ → ℕ) (S : Step a c σ τ w) (parties : List Party) (totals sheets : List ℕ)
-    (H : Stands a c σ parties totals sheets) where
+module _ (a : Auction) (c : Coins) (A : IsAuction a) (σ τ : Stage) (w : ℕ → ℕ) (o : Heard) (S : Step a c σ τ w o) (parties : List Party)
+    (totals sheets : List ℕ) (H : Stands a c σ parties totals sheets) where
   says : (i : ℕ) → i < a .n → said-by (a .k) parties totals sheets i ≡ w (i + 1)
   unfolding said-by word-by
-  says i h = ap (word-by a c) (H i h) ∙ S .word (i + 1) (omega arith) (omega arith)
+  says i h = ap word-by (H i h) ∙ S .word (i + 1) (omega arith) (omega arith)
 
   pub words-said : all-said (a .n) (a .k) parties totals sheets ≡ map w (points (a .n))
   unfolding all-said
@@ -43,14 +46,14 @@ module _ (a : Auction) (c : Coins) (σ τ : Stage) (w : ℕ → ℕ) (S : Step a
 
   -- after the round
   pub round-stands : (after : List Party)
-      → All (a .n) (λ i. getD after i blank ≡ heard-by (a .k) parties totals sheets (all-said (a .n) (a .k) parties totals sheets) i)
+      → All (a .n) (λ i. getD after i blank ≡ heard-by (a .n) (a .k) parties totals sheets (all-said (a .n) (a .k) parties totals sheets) i)
       → Stands a c τ after totals sheets
   unfolding heard-by after-hearing
   round-stands after e i h =
       ap (λ (q : Party). record { party = q; totals = part (2 * a .k) i totals; sheets = part (127 * most-probes (a .k)) i sheets })
-      (e i h ∙ ap (λ (x : List ℕ). heard-by (a .k) parties totals sheets x i) words-said)
-      ∙ ap (after-hearing a c (map w (points (a .n)))) (H i h)
-      ∙ S .next (i + 1) (omega arith) (omega arith)
+      (e i h ∙ ap (λ (x : List ℕ). heard-by (a .n) (a .k) parties totals sheets x i) words-said)
+      ∙ ap (after-hearing (map w (points (a .n))) (everyone (a .n))) (H i h)
+      ∙ S .next (map w (points (a .n))) (everyone (a .n)) (all-hearable (a .n) w (A .n-least)) (i + 1) (omega arith) (omega arith)
 
 -- ---- the rounds of a probe
 
@@ -60,10 +63,10 @@ module _ (a : Auction) (c : Coins) (A : IsAuction a) (C : InRange a c) (here : S
   q = probe-of a (polynomials a c) here s
 
   -- rounds 1 to 32
-  pub step-at : (i : ℕ) → i < 32 → Step a c (stage-of here q i) (stage-of here q (i + 1)) (words-at q i)
+  pub step-at : (i : ℕ) → i < 32 → Step a c (stage-of here q i) (stage-of here q (i + 1)) (words-at q i) (opening-at q i)
   step-at zero h = first-step a c A C here s ss R
   step-at (suc i) h = rw (add-one (suc i)) (product-step a c A C here s ss R i (omega arith))
 
   -- round 33
-  pub step-last : Step a c (stage-of here q 32) (fresh-stage (next here (verdict-at a c here s))) (words-at q 32)
+  pub step-last : Step a c (stage-of here q 32) (fresh-stage (next here (verdict-at a c here s))) (words-at q 32) (opening-at q 32)
   step-last = last-step a c A C here s ss R

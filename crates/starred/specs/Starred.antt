@@ -11,6 +11,7 @@ use Rattle.sharing.specs.Scheme.{points}
 use Rattle.weights.specs.Rows.{amount-scheme}
 use Rattle.openings.specs.Opening.{opened}
 use Rattle.openings.specs.declared.opening.Opening.the-variants.{Secret}
+use Rattle.presence.specs.Presence.{everyone}
 use Rattle.comparison.specs.Rounds.{offset}
 use Rattle.comparison.specs.Probe.{Group, SheetCoins, SheetInRange, Probe, sheet-polynomials, secret, opened-sum, last-polynomial}
 use Rattle.record.specs.declared.Party.{Party}
@@ -42,9 +43,9 @@ pub record Starred : Type 0 where
   -- "n = 5, secret 7, coefficients 3, 2: 12, 21, 34, 51, 72."
   pub five-shares : shares amounts (7 ∷ 3 ∷ 2 ∷ []) (points 5) ≡ 12 ∷ 21 ∷ 34 ∷ 51 ∷ 72 ∷ []
   pub five-open : opened amount-scheme 5 (12 ∷ 21 ∷ 34 ∷ 51 ∷ 72 ∷ []) ≡ Secret 7
-  -- "With 73 last: refusal 10", for whichever of five parties hears them in round 1 with its own word in its place
+  -- "With 73 last: refusal 10", for whichever of five parties hears them in round 1 with its own word in its place, all five present
   pub five-refused : (q : Party) (totals sheets : List ℕ) → q .n ≡ 5 → q .round ≡ 1
-      → say-reply q totals sheets ≡ Message (getD with-73 (q .own - 1) 0) → codeOf (hear-judgement q totals sheets with-73) ≡ 10
+      → say-reply q totals sheets ≡ Message (getD with-73 (q .own - 1) 0) → codeOf (hear-judgement q totals sheets with-73 (everyone 5)) ≡ 10
   -- as the first does where the mask's share is 2^59 + 2^32 - 12 and nothing is bid
   pub five-said : say-reply (fresh 5 1 1) (0 ∷ 0 ∷ []) ((offset - 12) ∷ replicate 253 0) ≡ Message 12
   -- "n = 3, secret 0, coefficient p - 1: p - 1, p - 2, p - 3."

@@ -2,11 +2,13 @@
 // group. The expected output is in the file stdout: it was worked out apart from this code.
 mod line;
 mod of_hearing;
+mod of_presence;
 
 fn main() {
     worked_values::print();
     worked_shares::print();
     worked_party::print();
     of_hearing::print();
+    of_presence::print();
     worked_sessions::print();
 }

@@ -1,7 +1,7 @@
 // Hearing: the second of three parties in a session of one bid, bidder 1,000's, with demand 5 and
 // supply 3, and one price, with masks of 7 and 9. Of the first search three calls are accepted, those
 // of rounds 1, 2 and 33, and of the second those of rounds 1 and 33; every other call changes one of
-// them. A call prints its refusal's number, or 0.
+// them. In all of these everyone is present. A call prints its refusal's number, or 0.
 ghost use mathlib.Core.Path.{_≡_};
 ghost use Prim.Native.Nat.{_≤_, _<_};
 ghost use lib.ListN.{length};
@@ -18,18 +18,24 @@ use worked_shares::fill;
 const SUM: u64 = (1 << 59) + (1 << 32) - 5;
 
 // The messages of the accepted calls.
-const WORDS_1: [u64; 3] = [576460756598389768, 576460756598388757, 576460756598387746];
+pub(crate) const WORDS_1: [u64; 3] = [576460756598389768, 576460756598388757, 576460756598387746];
 
-const WORDS_2: [u64; 3] = [49658, 40324, 43438];
+pub(crate) const WORDS_2: [u64; 3] = [49658, 40324, 43438];
 
-const WORDS_33: [u64; 3] = [17, 33, 49];
+pub(crate) const WORDS_33: [u64; 3] = [17, 33, 49];
 
 // Those of the second search, whose sum is 2^59 + 2^32 - 9 + 3 - 5.
 const EXCHANGED_SUM: u64 = (1 << 59) + (1 << 32) - 11;
 
-const EXCHANGED_1: [u64; 3] = [576460756598391760, 576460756598392747, 576460756598393734];
+pub(crate) const EXCHANGED_1: [u64; 3] = [
+    576460756598391760,
+    576460756598392747,
+    576460756598393734,
+];
 
 const EXCHANGED_33: [u64; 3] = [34, 68, 102];
+
+const EVERYONE: [u8; 3] = [1, 1, 1];
 
 pub(crate) fn print() {
     accepted();
@@ -45,15 +51,15 @@ pub(crate) fn print() {
     verdicts();
 }
 
-fn first() -> Party {
+pub(crate) fn first() -> Party {
     at_round(1, 0, 0)
 }
 
-fn second() -> Party {
+pub(crate) fn second() -> Party {
     at_round(2, SUM, 23)
 }
 
-fn last() -> Party {
+pub(crate) fn last() -> Party {
     at_round(33, SUM, 108)
 }
 
@@ -72,7 +78,7 @@ fn at_round(round: u64, sum: u64, carry: u64) -> Party {
 }
 
 // The first search gave 1 in one probe, and the second probes the same index.
-fn exchanged(q: Party) -> Party {
+pub(crate) fn exchanged(q: Party) -> Party {
     let mut next = q;
     next.search = searches(2, 0, 2, 1, 1, 1);
     next
@@ -277,7 +283,7 @@ fn verdicts() {
 
 fn heard(q: Party, messages: &[u64]) {
     let sheets = dealt();
-    record(hearing::hear(q, &[2005, 4003], &sheets, messages));
+    record(hearing::hear(q, &[2005, 4003], &sheets, messages, &EVERYONE));
 }
 
 fn hears(q: Party, messages: &[u64]) {
@@ -299,11 +305,11 @@ fn of_sheet(q: Party, at: usize, word: u64, messages: &[u64])
 }
 
 fn call(q: Party, totals: &[u64], sheets: &[u64], messages: &[u64]) {
-    line::number(code(hearing::hear(q, totals, sheets, messages)));
+    line::number(code(hearing::hear(q, totals, sheets, messages, &EVERYONE)));
 }
 
 // Party 2's sheets, each dealt with bytes that follow a rule.
-fn dealt() -> [u64; 254] {
+pub(crate) fn dealt() -> [u64; 254] {
     let mut sheets = [0u64; 254];
     deal(&[7, 11], 37, 11, &mut sheets, 0);
     deal(&[9, 13], 41, 5, &mut sheets, 127);

@@ -5,11 +5,14 @@ use lib.ListN.{take, getD}
 use Rattle.fields.specs.Ring.{Ops}
 use Rattle.fields.specs.Amount.{p, amounts}
 use Rattle.fields.specs.Byte.{bytes}
+use Rattle.fields.specs.Gap.{amount-gap, byte-gap}
 
 -- a field to share in, with the weights of n parties in row n - 3
 pub record Scheme : Type 0 where
   pub ops : Ops ℕ
   pub size : ℕ
+  -- the inverse of a difference of points
+  pub gap : ℕ → ℕ → ℕ
   pub rows : List (List ℕ)
 
 abbrev pub weights : Scheme → ℕ → List ℕ
@@ -42,7 +45,7 @@ byte-rows =
     ∷ []
 
 abbrev pub amount-scheme : Scheme
-amount-scheme = record { ops = amounts; size = p; rows = amount-rows }
+amount-scheme = record { ops = amounts; size = p; gap = amount-gap; rows = amount-rows }
 
 abbrev pub byte-scheme : Scheme
-byte-scheme = record { ops = bytes; size = 256; rows = byte-rows }
+byte-scheme = record { ops = bytes; size = 256; gap = byte-gap; rows = byte-rows }

@@ -19,6 +19,7 @@ pub(crate) fn print() {
     code(Refusal::VerdictNotBit);
     code(Refusal::Malformed);
     code(Refusal::AlreadyEntered);
+    code(Refusal::TooFewPresent);
     report::end();
 }
 

@@ -1,21 +1,26 @@
 //! Whole auctions: every call is compared, shares that are split at once are
 //! checked against their entries, each verdict, what the first search gives and
 //! the answer against the totals of the bids, and damaged calls and bids that are
-//! sent again stand in between.
+//! sent again stand in between. Parties drop off in the middle of a probe and come
+//! back, or do not, and all who hear a round come to the same.
 
 use clockivy::Refusal;
+use clockivy_hearings::count;
+use clockivy_reference::field::amount::P;
 use clockivy_reference::{
     probe_limit, sheet_count, threshold, FIRST_SEARCH, LAST_ROUND, MAX_BIDS, RECORD, SECOND_SEARCH,
     SHEET,
 };
 
+use crate::attendance::Attendance;
 use crate::call::Call;
 use crate::damage::damage;
 use crate::differential::{Difference, Tally};
+use crate::generate;
 use crate::outcome::Totals;
 use crate::record::{
     has_bid, index, is_over, mark, BIDS, CARRY, FIRST, FIRST_PROBES, HI, LO, OWN, PROBES, ROLL,
-    SEARCH,
+    ROUND, SEARCH,
 };
 use crate::rng::Rng;
 
@@ -25,11 +30,41 @@ struct Bid {
     table: Vec<u64>,
 }
 
+/// How the parties of an auction attend.
+#[derive(Clone, Copy)]
+pub enum Attending {
+    /// All are present in every round.
+    Everybody,
+    /// All but t + 1 may drop off in any round, and come back later or not.
+    DroppingOff,
+}
+
 /// What one party keeps.
 struct Seat {
     record: Vec<u64>,
     totals: Vec<u64>,
     sheets: Vec<u64>,
+    /// Whether it takes part. Then it has heard every round.
+    there: bool,
+    /// The number of rounds that it has heard.
+    heard: usize,
+    /// Whether it has heard one late since it was last marked.
+    was_late: bool,
+}
+
+/// A round, as it is kept for those who come back.
+struct Round {
+    messages: Vec<u64>,
+    present: Vec<u8>,
+    /// What the first party that heard it has in common with all others then.
+    common: Vec<u64>,
+}
+
+/// How often a party that is there drops off, and one that is not comes back: once
+/// in so many rounds.
+struct Rates {
+    off: u64,
+    back: u64,
 }
 
 struct Auction<'a> {
@@ -41,6 +76,10 @@ struct Auction<'a> {
     /// The sums that nobody has, to hold the verdicts and the answer against.
     totals: Totals,
     seats: Vec<Seat>,
+    /// None where everybody attends.
+    rates: Option<Rates>,
+    rounds: Vec<Round>,
+    seen: Attendance,
 }
 
 /// Runs one auction of bids with these tables, at most 1,000, of as many bidders.
@@ -49,6 +88,7 @@ pub fn whole(
     n: u64,
     k: u64,
     tables: Vec<Vec<u64>>,
+    attending: Attending,
     tally: &mut Tally,
 ) -> Result<(), Difference> {
     let totals = Totals::of(k, tables.iter().map(Vec::as_slice));
@@ -58,6 +98,13 @@ pub fn whole(
         .zip(tables)
         .map(|(bidder, table)| Bid { bidder, table })
         .collect();
+    let rates = match attending {
+        Attending::Everybody => None,
+        Attending::DroppingOff => Some(Rates {
+            off: rng.pick(&[3, 20, 100]),
+            back: rng.pick(&[2, 10, 50, 10_000]),
+        }),
+    };
     let mut auction = Auction {
         rng,
         tally,
@@ -66,18 +113,27 @@ pub fn whole(
         bids,
         totals,
         seats: Vec::new(),
+        rates,
+        rounds: Vec::new(),
+        seen: Attendance::default(),
     };
     auction.open()?;
     auction.bid()?;
     auction.deal()?;
     let mut verdicts = 0;
-    while !is_over(&auction.seats[0].record) {
+    while !is_over(&auction.front().record) {
         auction.probe()?;
         verdicts += 1;
     }
+    auction.come_back_at_the_end()?;
     auction.ask(verdicts)?;
-    auction.tally.count_auction(&auction.totals);
+    auction.tally.count_auction(&auction.totals, &auction.seen);
     Ok(())
+}
+
+/// What a record has in common with those of the other parties.
+fn common(record: &[u64]) -> Vec<u64> {
+    [&record[..1], &record[2..CARRY], &record[ROLL..]].concat()
 }
 
 impl Auction<'_> {
@@ -91,6 +147,9 @@ impl Auction<'_> {
                 totals: left.words[0].to_vec(),
                 record: left.words[1].to_vec(),
                 sheets: Vec::new(),
+                there: true,
+                heard: 0,
+                was_late: false,
             });
         }
         Ok(())
@@ -213,14 +272,23 @@ impl Auction<'_> {
         Ok(())
     }
 
+    /// A party that has heard every round.
+    fn front(&self) -> &Seat {
+        let there = self.seats.iter().find(|seat| seat.there);
+        there.expect("t + 1 stay")
+    }
+
     /// One probe: all rounds, then the verdict against the totals.
     fn probe(&mut self) -> Result<(), Difference> {
-        let expected = self.probed(&self.seats[0].record);
+        let expected = self.probed(&self.front().record);
         for _ in 1..=LAST_ROUND {
             self.round()?;
         }
-        let after = &self.seats[0].record;
-        self.holds(*after == expected, "a verdict is not that of the totals")
+        let after = &self.front().record;
+        self.holds(
+            common(after) == common(&expected) && after[CARRY] == 0,
+            "a verdict is not that of the totals",
+        )
     }
 
     /// The record that a probe leaves, by the totals.
@@ -245,38 +313,178 @@ impl Auction<'_> {
         record
     }
 
-    /// One round: each party says its message, and each hears all of them.
+    /// One round: those who are there say their messages, and hear those that are
+    /// marked.
     fn round(&mut self) -> Result<(), Difference> {
+        for place in 0..self.seats.len() {
+            self.come_or_go(place)?;
+        }
+        let present = self.marks();
         let mut messages = Vec::new();
-        for own in 0..self.seats.len() {
-            let seat = &self.seats[own];
-            let call = Call::say(&seat.record, &seat.totals, &seat.sheets, self.rng.word());
-            let left = self.accepted(call)?;
-            messages.push(left.words[3][0]);
+        for (place, &mark) in present.iter().enumerate() {
+            let mut message = self.rng.word();
+            // One who is not marked may say something too: what it says where it
+            // stands.
+            if mark == 1 || self.rng.once_in(4) {
+                let seat = &self.seats[place];
+                let call = Call::say(&seat.record, &seat.totals, &seat.sheets, message);
+                message = self.accepted(call)?.words[3][0];
+            }
+            messages.push(message);
         }
-        for own in 0..self.seats.len() {
-            let seat = &self.seats[own];
-            let call = Call::hear(&seat.record, &seat.totals, &seat.sheets, &messages);
-            let left = self.accepted(call)?;
-            self.seats[own].record = left.words[0].to_vec();
+        self.rounds.push(Round {
+            messages,
+            present,
+            common: Vec::new(),
+        });
+        for place in 0..self.seats.len() {
+            // A party may be cut off between what it says and what it hears.
+            self.go(place);
+            if self.seats[place].there {
+                self.hear(place)?;
+            }
         }
-        let public = |Seat { record, .. }: &Seat| {
-            [&record[..1], &record[2..CARRY], &record[ROLL..]].concat()
-        };
-        let agree = self
-            .seats
-            .iter()
-            .all(|seat| public(seat) == public(&self.seats[0]));
-        self.holds(agree, "the parties' records differ")
+        Ok(())
     }
 
-    /// Asks every party for the answer.
+    /// How many more are there than have to be.
+    fn spare(&self) -> usize {
+        let there = self.seats.iter().filter(|seat| seat.there).count();
+        there - (threshold(self.n) + 1)
+    }
+
+    /// A party that is there may drop off, where enough are left.
+    fn go(&mut self, place: usize) {
+        let spare = self.spare();
+        if let Some(Rates { off, .. }) = self.rates {
+            if self.seats[place].there && spare > 0 && self.rng.once_in(off) {
+                self.seats[place].there = false;
+            }
+        }
+    }
+
+    /// A party that is there may drop off; one that is not may come back, or hear a
+    /// round that it has missed and stay away.
+    fn come_or_go(&mut self, place: usize) -> Result<(), Difference> {
+        let Some(Rates { back, .. }) = self.rates else {
+            return Ok(());
+        };
+        if self.seats[place].there {
+            self.go(place);
+        } else if self.rng.once_in(back) {
+            self.come_back(place)?;
+        } else if self.seats[place].heard < self.rounds.len() && self.rng.once_in(4 * back) {
+            self.hear(place)?;
+        }
+        Ok(())
+    }
+
+    /// A party hears all that it has missed, and is there again.
+    fn come_back(&mut self, place: usize) -> Result<(), Difference> {
+        while self.seats[place].heard < self.rounds.len() {
+            self.hear(place)?;
+        }
+        self.seats[place].there = true;
+        Ok(())
+    }
+
+    /// Marks those who are there, or now and then only some of them.
+    fn marks(&mut self) -> Vec<u8> {
+        let mut spare = self.spare();
+        let mut present = Vec::new();
+        for place in 0..self.seats.len() {
+            let there = self.seats[place].there;
+            let passed_over = self.rates.is_some() && there && spare > 0 && self.rng.once_in(16);
+            spare -= usize::from(passed_over);
+            present.push(u8::from(there && !passed_over));
+        }
+        let count = count(&present);
+        self.seen.rounds_without_some += u64::from(count < present.len());
+        self.seen.rounds_with_fewest += u64::from(count == threshold(self.n) + 1);
+        for (seat, &mark) in self.seats.iter_mut().zip(&present) {
+            if mark == 1 {
+                self.seen.marked_again += u64::from(seat.was_late);
+                seat.was_late = false;
+            }
+        }
+        present
+    }
+
+    /// A party hears the next round that it has not heard, with anything in the
+    /// places that are not marked. It comes to what the others have come to.
+    fn hear(&mut self, place: usize) -> Result<(), Difference> {
+        let number = self.seats[place].heard;
+        let Round {
+            messages, present, ..
+        } = &self.rounds[number];
+        let (mut messages, present) = (messages.clone(), present.clone());
+        for (message, &mark) in messages.iter_mut().zip(&present) {
+            if mark == 0 {
+                *message = self.rng.pick(&[*message, 0, 255, P, u64::MAX]);
+            }
+        }
+        let seat = &self.seats[place];
+        let call = Call::hear(
+            &seat.record,
+            &seat.totals,
+            &seat.sheets,
+            &messages,
+            &present,
+        );
+        self.count_hearing(place, present[place] == 1);
+        let record = self.accepted(call)?.words[0].to_vec();
+        let (found, kept) = (common(&record), &mut self.rounds[number].common);
+        if kept.is_empty() {
+            kept.clone_from(&found);
+        }
+        let agree = *kept == found;
+        self.holds(agree, "the parties' records differ")?;
+        self.seats[place].record = record;
+        self.seats[place].heard += 1;
+        Ok(())
+    }
+
+    /// Counts what a hearing is beside that of all who are there.
+    fn count_hearing(&mut self, place: usize, marked: bool) {
+        let seat = &mut self.seats[place];
+        if seat.there {
+            self.seen.heard_unmarked += u64::from(!marked);
+            return;
+        }
+        seat.was_late = true;
+        self.seen.heard_late += 1;
+        self.seen.heard_late_though_marked += u64::from(marked);
+        self.seen.verdicts_late += u64::from(seat.record[ROUND] == LAST_ROUND);
+    }
+
+    /// When there is an answer, some of those who are away come back for it.
+    fn come_back_at_the_end(&mut self) -> Result<(), Difference> {
+        for place in 0..self.seats.len() {
+            let behind = self.seats[place].heard < self.rounds.len();
+            if behind && self.rng.once_in(2) {
+                self.come_back(place)?;
+                self.seen.back_at_the_end += 1;
+            } else if behind {
+                self.seen.gone += 1;
+            }
+        }
+        Ok(())
+    }
+
+    /// Asks every party for the answer. Those that have heard every round have it.
     fn ask(&mut self, verdicts: u64) -> Result<(), Difference> {
         let (highest, price) = (self.totals.highest(), self.totals.price());
-        for own in 0..self.seats.len() {
-            let record = &self.seats[own].record;
-            self.holds(record[FIRST] == highest, "the first search is wrong")?;
-            let call = Call::answer(record, self.rng.word(), self.rng.word());
+        for place in 0..self.seats.len() {
+            let seat = &self.seats[place];
+            let call = Call::answer(&seat.record, self.rng.word(), self.rng.word());
+            if seat.heard < self.rounds.len() {
+                let (reply, _) = self.tally.compare(&call)?;
+                let out_of_turn = reply == Refusal::OutOfTurn.number();
+                self.holds(out_of_turn, "one that is behind has an answer")?;
+                continue;
+            }
+            let first = seat.record[FIRST];
+            self.holds(first == highest, "the first search is wrong")?;
             let left = self.accepted(call)?;
             let (index, probes) = (left.words[1][0], left.words[2][0]);
             self.holds(index == price, "the answer is wrong")?;
@@ -304,8 +512,9 @@ impl Auction<'_> {
         Ok(left)
     }
 
-    /// Calls on the parties' own buffers that are refused, or that change
-    /// nothing which a run receives.
+    /// Calls on copies of a party's buffers that are refused, or whose outcome is
+    /// thrown away: a bid before a round is heard may be accepted, and so may a
+    /// hearing with t + 1 marks, the party's own not among them.
     fn out_of_turn(&mut self) -> Result<(), Difference> {
         if self.seats.is_empty() {
             return Ok(());
@@ -318,10 +527,17 @@ impl Auction<'_> {
             self.bids[self.rng.place(self.bids.len())].bidder
         };
         let messages = self.rng.words(self.n as usize, |rng| rng.below(256));
+        let present = generate::present(self.rng, self.n as usize);
         let calls = [
             Call::answer(&seat.record, self.rng.word(), self.rng.word()),
             Call::add(&seat.record, &seat.totals, bidder, &shares),
-            Call::hear(&seat.record, &seat.totals, &seat.sheets, &messages),
+            Call::hear(
+                &seat.record,
+                &seat.totals,
+                &seat.sheets,
+                &messages,
+                &present,
+            ),
         ];
         for call in &calls {
             self.tally.compare(call)?;

@@ -17,13 +17,14 @@ pub enum Kind {
     Split,
     /// Splits one entry of a bid. Words: table, coins, shares.
     SplitEntry,
-    /// Writes preprocessing. Words: words, sheet.
+    /// Writes preprocessing. Words: words, sheet. Bytes: bytes.
     Deal,
     /// Adds a bid. Words: record, totals, shares.
     Add,
     /// Says a message. Words: record, totals, sheets, the message.
     Say,
-    /// Hears all messages. Words: record, totals, sheets, messages.
+    /// Hears the messages of those who were present. Words: record, totals,
+    /// sheets, messages. Bytes: the marks.
     Hear,
     /// Asks for the answer. Words: record, the index, the probes.
     Answer,
@@ -64,7 +65,7 @@ impl Kind {
             Kind::Deal => &[0, 1, 2, 5],
             Kind::Add => &[0, 1, 2, 3, 8, 14],
             Kind::Say => &[0, 1, 2, 3, 8],
-            Kind::Hear => &[0, 1, 2, 3, 8, 9, 10, 11, 12],
+            Kind::Hear => &[0, 1, 2, 3, 8, 9, 10, 11, 12, 15],
             Kind::Answer => &[0, 1, 2, 3],
         }
     }
@@ -99,6 +100,11 @@ impl Kind {
             Kind::Hear => 4,
             Kind::Answer => 1,
         }
+    }
+
+    /// Whether the call is lent bytes.
+    pub fn has_bytes(self) -> bool {
+        matches!(self, Kind::Deal | Kind::Hear)
     }
 }
 
@@ -158,7 +164,7 @@ pub struct Call {
     /// The slices of words, and then the single words, in the order of the C
     /// declaration.
     pub words: Vec<Lent<u64>>,
-    /// The bytes that [`Kind::Deal`] is lent.
+    /// The bytes that [`Kind::Deal`] is lent, or the marks that [`Kind::Hear`] is.
     pub bytes: Lent<u8>,
 }
 
@@ -222,9 +228,18 @@ impl Call {
         Call::new(Kind::Say, [0; 3], &[record, totals, sheets, &[message]])
     }
 
-    /// Hears all messages.
-    pub fn hear(record: &[u64], totals: &[u64], sheets: &[u64], messages: &[u64]) -> Call {
-        Call::new(Kind::Hear, [0; 3], &[record, totals, sheets, messages])
+    /// Hears the messages of those who were present.
+    pub fn hear(
+        record: &[u64],
+        totals: &[u64],
+        sheets: &[u64],
+        messages: &[u64],
+        present: &[u8],
+    ) -> Call {
+        Call {
+            bytes: Lent::new(present),
+            ..Call::new(Kind::Hear, [0; 3], &[record, totals, sheets, messages])
+        }
     }
 
     /// Asks for the answer, into words that hold `index` and `probes`.
@@ -254,7 +269,7 @@ impl Call {
                 E::say(record, totals, sheets, &mut message[0])
             }
             (Kind::Hear, [record, totals, sheets, messages]) => {
-                E::hear(record, totals, sheets, messages)
+                E::hear(record, totals, sheets, messages, &self.bytes)
             }
             (Kind::Answer, [record, index, probes]) => {
                 E::answer(record, &mut index[0], &mut probes[0])
@@ -279,7 +294,7 @@ impl fmt::Display for Call {
             let most = if is_record { RECORD } else { SHOWN };
             write!(f, "\n  {} words: {}", words.len(), start(words, most))?;
         }
-        if self.kind == Kind::Deal {
+        if self.kind.has_bytes() {
             let bytes = start(&self.bytes, SHOWN);
             write!(f, "\n  {} bytes: {bytes}", self.bytes.len())?;
         }

@@ -1,7 +1,7 @@
-//! Damage to a call: a number, a length, a field of the record, its roll or a
-//! word is changed, mostly to a value at or next to a limit, or a record is given
-//! one fault. Some damage leaves the call acceptable; that is for the comparison
-//! to find out.
+//! Damage to a call: a number, a length, a field of the record, its roll, a word
+//! or a mark of who was present is changed, mostly to a value at or next to a
+//! limit, or a record is given one fault. Some damage leaves the call acceptable;
+//! that is for the comparison to find out.
 
 use clockivy_reference::field::amount::P;
 use clockivy_reference::{
@@ -54,6 +54,7 @@ pub fn damage(rng: &mut Rng, call: &mut Call) {
         0..=2 if call.kind.record().is_some() => record(rng, call),
         3..=4 => length(rng, call),
         5 if call.kind == Kind::Hear => swap(rng, call),
+        6 if call.kind == Kind::Hear => marks_of_presence(rng, call),
         _ => word(rng, call),
     }
 }
@@ -87,7 +88,7 @@ fn bidder(rng: &mut Rng, call: &mut Call) {
 /// Makes a slice longer or shorter.
 fn length(rng: &mut Rng, call: &mut Call) {
     let filler = rng.pick(&EDGES);
-    if call.kind == Kind::Deal && rng.once_in(3) {
+    if call.kind.has_bytes() && rng.once_in(3) {
         let length = other_length(rng, call.bytes.len());
         call.bytes.resize(length, filler as u8);
     } else {
@@ -281,6 +282,31 @@ fn swap(rng: &mut Rng, call: &mut Call) {
     if !messages.is_empty() {
         let (one, other) = (rng.place(messages.len()), rng.place(messages.len()));
         messages.swap(one, other);
+    }
+}
+
+/// Changes who was present: one party more or less, the hearing one or any; some
+/// fewer; everybody; or a mark that is none.
+fn marks_of_presence(rng: &mut Rng, call: &mut Call) {
+    let own = call.words[0].get(OWN).copied().unwrap_or(0);
+    let marks = &mut call.bytes;
+    if marks.is_empty() {
+        return marks.resize(1, rng.byte());
+    }
+    let any = rng.place(marks.len());
+    let own = own.wrapping_sub(1) as usize;
+    match rng.below(8) {
+        0..=1 => marks[any] ^= 1,
+        2 if own < marks.len() => marks[own] ^= 1,
+        3..=4 => {
+            for _ in 0..marks.len() {
+                let place = rng.place(marks.len());
+                marks[place] = 0;
+            }
+        }
+        5 => marks.fill(1),
+        6 => marks[any] = rng.pick(&[2, 3, 127, 128, 254, 255]),
+        _ => marks[any] = rng.byte(),
     }
 }
 

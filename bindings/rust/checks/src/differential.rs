@@ -4,6 +4,8 @@ use std::fmt;
 
 use clockivy_reference::MAX_BIDS;
 
+use crate::attendance::{Attendance, Events};
+use crate::auction::Attending;
 use crate::call::{Call, Kind};
 use crate::damage::damage;
 use crate::engine::{ByteProduct, Engine, Plain, Verified};
@@ -11,24 +13,27 @@ use crate::meeting::meeting;
 use crate::outcome::{Endings, Totals};
 use crate::rng::Rng;
 use crate::soundness::{self, Found};
-use crate::{auction, generate};
+use crate::{auction, generate, presence};
 
 /// The two implementations differ, or an auction went wrong.
 pub struct Difference(pub String);
 
 /// One more than the highest reply.
-const REPLIES: usize = 15;
+const REPLIES: usize = 16;
 
 /// The reply to a record that is not sound.
 const OUT_OF_RANGE: u64 = 1;
 
-/// How many calls of each kind had each reply, and how many were lent a record in
-/// each condition; how the whole auctions ended; and how many byte products were
-/// the same.
+/// How many calls of each kind had each reply, how many were lent a record in each
+/// condition, and how many hearings had each reply by who was present; how the
+/// whole auctions ended, and who was there; and how many byte products were the
+/// same.
 pub struct Tally {
     counts: [[u64; REPLIES]; Kind::ALL.len()],
     records: [[u64; Kind::ALL.len()]; soundness::CONDITIONS],
+    hearings: [[u64; presence::REPLIES.len()]; presence::CONDITIONS],
     endings: Endings,
+    events: Events,
     byte_products: u64,
 }
 
@@ -37,7 +42,9 @@ impl Default for Tally {
         Tally {
             counts: Default::default(),
             records: [[0; Kind::ALL.len()]; soundness::CONDITIONS],
+            hearings: [[0; presence::REPLIES.len()]; presence::CONDITIONS],
             endings: Endings::default(),
+            events: Events::default(),
             byte_products: 0,
         }
     }
@@ -73,6 +80,9 @@ impl Tally {
         }
         self.counts[call.kind as usize][reply as usize] += 1;
         self.count_record(call, reply)?;
+        if call.kind == Kind::Hear {
+            self.count_hearing(call, reply)?;
+        }
         Ok((reply, verified))
     }
 
@@ -84,9 +94,14 @@ impl Tally {
         };
         let found = soundness::found(record);
         let sound = matches!(found, Found::Sound(_));
-        // Adding judges the bidder's number by the same refusal.
-        let nobody = call.kind == Kind::Add && !(1..=MAX_BIDS).contains(&call.bidder);
-        if (reply == OUT_OF_RANGE) == (sound && !nobody) {
+        // Adding judges the bidder's number by the same refusal, and hearing the
+        // marks.
+        let else_wrong = match call.kind {
+            Kind::Add => !(1..=MAX_BIDS).contains(&call.bidder),
+            Kind::Hear => call.bytes.iter().any(|&mark| mark > 1),
+            _ => false,
+        };
+        if (reply == OUT_OF_RANGE) == (sound && !else_wrong) {
             return Err(Difference(format!(
                 "both replied {reply} to a record of which is found {found:?}, given\n{call}"
             )));
@@ -94,6 +109,22 @@ impl Tally {
         if let Found::Sound(condition) | Found::Broken(condition) = found {
             self.records[condition][call.kind as usize] += 1;
         }
+        Ok(())
+    }
+
+    /// Counts a hearing by who was present, where its reply depends on that.
+    fn count_hearing(&mut self, call: &Call, reply: u64) -> Result<(), Difference> {
+        let Some(column) = presence::REPLIES.iter().position(|&one| one == reply) else {
+            return Ok(());
+        };
+        let condition = presence::found(&call.words[0], &call.bytes);
+        if !presence::can_reply(condition, reply) {
+            return Err(Difference(format!(
+                "both replied {reply} in {}, given\n{call}",
+                presence::name(condition)
+            )));
+        }
+        self.hearings[condition][column] += 1;
         Ok(())
     }
 
@@ -122,8 +153,9 @@ impl Tally {
     }
 
     /// Counts a whole auction.
-    pub fn count_auction(&mut self, totals: &Totals) {
+    pub fn count_auction(&mut self, totals: &Totals, attendance: &Attendance) {
         self.endings.count(totals);
+        self.events.count(attendance);
     }
 
     /// The whole auctions.
@@ -157,9 +189,23 @@ impl Tally {
             .collect()
     }
 
-    /// The endings that no auction had.
+    /// The replies that a hearing can give by who was present and that did not come
+    /// up.
+    pub fn unheard(&self) -> Vec<(String, u64)> {
+        let cell = |condition: usize| (0..presence::REPLIES.len()).map(move |c| (condition, c));
+        (0..presence::CONDITIONS)
+            .flat_map(cell)
+            .filter(|&(condition, column)| {
+                presence::can_reply(condition, presence::REPLIES[column])
+                    && self.hearings[condition][column] == 0
+            })
+            .map(|(condition, column)| (presence::name(condition), presence::REPLIES[column]))
+            .collect()
+    }
+
+    /// The endings that no auction had, and what did not come up in any.
     pub fn unended(&self) -> Vec<&'static str> {
-        let counts = self.endings.counts();
+        let counts = self.endings.counts().chain(self.events.counts());
         let none = counts.filter(|&(_, count)| count == 0);
         none.map(|(name, _)| name).collect()
     }
@@ -187,9 +233,26 @@ impl fmt::Display for Tally {
             "\n\nCalls by the record lent: sound, or with one fault\n"
         )?;
         self.write_records(f)?;
+        writeln!(f, "\n\nHearings by who was present, and by reply\n")?;
+        self.write_hearings(f)?;
         writeln!(f, "\n\nWhole auctions by the balanced prices\n")?;
-        self.write_endings(f)
+        write_counts(f, "balanced prices", self.endings.counts())?;
+        writeln!(f, "\n\nWhole auctions by who was there\n")?;
+        write_counts(f, "parties", self.events.counts())
     }
+}
+
+/// A table of auctions.
+fn write_counts(
+    f: &mut fmt::Formatter<'_>,
+    heading: &str,
+    counts: impl Iterator<Item = (&'static str, u64)>,
+) -> fmt::Result {
+    write!(f, "{heading:<50}{:>8}", "auctions")?;
+    for (name, count) in counts {
+        write!(f, "\n{name:<50}{count:>8}")?;
+    }
+    Ok(())
 }
 
 impl Tally {
@@ -240,10 +303,21 @@ impl Tally {
         Ok(())
     }
 
-    fn write_endings(&self, f: &mut fmt::Formatter<'_>) -> fmt::Result {
-        write!(f, "{:<50}{:>8}", "balanced prices", "auctions")?;
-        for (name, count) in self.endings.counts() {
-            write!(f, "\n{name:<50}{count:>8}")?;
+    /// By who was present in which round, and the reply.
+    fn write_hearings(&self, f: &mut fmt::Formatter<'_>) -> fmt::Result {
+        write!(f, "{:<42}{:>8}", "present", "done")?;
+        for reply in &presence::REPLIES[1..] {
+            write!(f, "{reply:>8}")?;
+        }
+        for (condition, counts) in self.hearings.iter().enumerate() {
+            write!(f, "\n{:<42}", presence::name(condition))?;
+            for (&reply, count) in presence::REPLIES.iter().zip(counts) {
+                if presence::can_reply(condition, reply) {
+                    write!(f, "{count:>8}")?;
+                } else {
+                    write!(f, "{:>8}", "-")?;
+                }
+            }
         }
         Ok(())
     }
@@ -253,23 +327,26 @@ impl Tally {
 const SHORT_LIST: u64 = 5;
 
 /// Every byte product by itself; whole auctions of every number of parties over
-/// the given numbers of prices, those in which the totals meet in every place of
-/// a short list, and one that fills the roll, with refused calls in between; then
-/// single calls, valid and damaged, until there are `calls` in all.
+/// the given numbers of prices, in which everybody attends and in which parties
+/// drop off, those in which the totals meet in every place of a short list, and
+/// one that fills the roll, with refused calls in between; then single calls,
+/// valid and damaged, until there are `calls` in all.
 pub fn run(seed: u64, prices: &[u64], calls: u64, tally: &mut Tally) -> Result<(), Difference> {
     tally.compare_byte_products()?;
     let mut rng = Rng::new(seed);
     for n in 3..=9 {
         for &k in prices {
-            let tables = tables(&mut rng, k);
-            auction::whole(&mut rng, n, k, tables, tally)?;
+            for attending in [Attending::Everybody, Attending::DroppingOff] {
+                let tables = tables(&mut rng, k);
+                auction::whole(&mut rng, n, k, tables, attending, tally)?;
+            }
         }
     }
     for k in 1..=SHORT_LIST {
         short_lists(&mut rng, k, tally)?;
     }
     let many = (0..MAX_BIDS).map(|_| rng.table(2)).collect();
-    auction::whole(&mut rng, 3, 2, many, tally)?;
+    auction::whole(&mut rng, 3, 2, many, Attending::Everybody, tally)?;
     while tally.calls() < calls {
         let call = single(&mut rng);
         tally.compare(&call)?;
@@ -297,11 +374,11 @@ fn short_lists(rng: &mut Rng, k: u64, tally: &mut Tally) -> Result<(), Differenc
         for low in 1..=high + 1 {
             let n = rng.between(3, 9);
             let tables = meeting(rng, k, low, high);
-            auction::whole(rng, n, k, tables, tally)?;
+            auction::whole(rng, n, k, tables, Attending::DroppingOff, tally)?;
         }
     }
     let n = rng.between(3, 9);
-    auction::whole(rng, n, k, Vec::new(), tally)
+    auction::whole(rng, n, k, Vec::new(), Attending::DroppingOff, tally)
 }
 
 /// One call with damage in up to three places. A hearing has the most to

@@ -27,8 +27,14 @@ pub trait Engine {
     fn add(record: &mut [u64], totals: &mut [u64], bidder: u64, shares: &[u64]) -> u64;
     /// Says a message.
     fn say(record: &[u64], totals: &[u64], sheets: &[u64], message: &mut u64) -> u64;
-    /// Hears all messages.
-    fn hear(record: &mut [u64], totals: &[u64], sheets: &[u64], messages: &[u64]) -> u64;
+    /// Hears the messages of those who were present.
+    fn hear(
+        record: &mut [u64],
+        totals: &[u64],
+        sheets: &[u64],
+        messages: &[u64],
+        present: &[u8],
+    ) -> u64;
     /// Asks for the answer.
     fn answer(record: &[u64], index: &mut u64, probes: &mut u64) -> u64;
 }
@@ -80,8 +86,14 @@ macro_rules! engine {
                 $library::say(record, totals, sheets, message)
             }
 
-            fn hear(record: &mut [u64], totals: &[u64], sheets: &[u64], messages: &[u64]) -> u64 {
-                $library::hear(record, totals, sheets, messages)
+            fn hear(
+                record: &mut [u64],
+                totals: &[u64],
+                sheets: &[u64],
+                messages: &[u64],
+                present: &[u8],
+            ) -> u64 {
+                $library::hear(record, totals, sheets, messages, present)
             }
 
             fn answer(record: &[u64], index: &mut u64, probes: &mut u64) -> u64 {

@@ -15,6 +15,9 @@ use crate::record::{
 };
 use crate::rng::Rng;
 
+/// The reply where a word that is used is no share.
+const SHARE_OUT_OF_RANGE: u64 = 8;
+
 /// The numbers that fix the lengths of all buffers.
 #[derive(Clone, Copy)]
 pub struct Shape {
@@ -205,19 +208,52 @@ fn silence(record: &[u64], totals: &mut [u64], sheets: &[u64]) {
 }
 
 /// A hearing with the record, totals and sheets of a saying, on messages that
-/// open, mostly, to something that is accepted.
+/// open, mostly, to something that is accepted. A party that was not present may
+/// have totals that are no shares.
 pub fn hear(rng: &mut Rng, said: &Call) -> Call {
     let [record, totals, sheets, _] = &said.words[..] else {
         unreachable!("it is a saying");
     };
+    let n = record.first().map_or(3, |&n| n.min(10) as usize);
+    let present = present(rng, n);
     let mut own_message = 0;
-    let messages = if reference::say(record, totals, sheets, &mut own_message) == 0 {
-        messages(rng, record, own_message)
+    let reply = reference::say(record, totals, sheets, &mut own_message);
+    let (mut messages, mut totals) = (Vec::new(), totals.to_vec());
+    if [0, SHARE_OUT_OF_RANGE].contains(&reply) {
+        if present[record[OWN] as usize - 1] != 1 {
+            // Its message is not compared, nor are its totals used.
+            own_message = in_range(rng, record[ROUND]);
+            if record[ROUND] == 1 && rng.once_in(2) {
+                let place = index(record) - 1 + rng.pick(&[0, record[K] as usize]);
+                totals[place] = rng.pick(&[amount::P, amount::P + 1, u64::MAX]);
+            }
+        }
+        messages = self::messages(rng, record, &present, own_message);
     } else {
-        let n = record.first().map_or(3, |&n| n.min(10) as usize);
-        rng.words(n, |rng| rng.below(256))
+        messages.resize_with(n, || rng.below(256));
+    }
+    Call::hear(record, &totals, sheets, &messages, &present)
+}
+
+/// Marks of who was present among so many: mostly enough, and now and then one
+/// that is no mark.
+pub fn present(rng: &mut Rng, n: usize) -> Vec<u8> {
+    let least = reference::threshold(n as u64) + 1;
+    let count = match rng.below(16) {
+        0 => rng.place(least),
+        1 => least - 1,
+        2..=5 => least,
+        6..=10 => rng.between(least.min(n) as u64, n as u64) as usize,
+        _ => n,
     };
-    Call::hear(record, totals, sheets, &messages)
+    let mut present = vec![0; n];
+    for party in rng.numbers(n as u64, count.min(n) as u64) {
+        present[party as usize - 1] = 1;
+    }
+    if n > 0 && rng.once_in(32) {
+        present[rng.place(n)] = rng.pick(&[2, 3, 128, 255]);
+    }
+    present
 }
 
 fn answer(rng: &mut Rng, shape: Shape) -> Call {
@@ -390,9 +426,19 @@ fn sheets(rng: &mut Rng, shape: Shape, record: &[u64]) -> Vec<u64> {
     sheets
 }
 
+/// A message of a round: any that is in range.
+fn in_range(rng: &mut Rng, round: u64) -> u64 {
+    match round {
+        1 => rng.amount_share(),
+        LAST_ROUND => rng.below(256),
+        _ => rng.below(65_536),
+    }
+}
+
 /// All parties' messages for a record whose own message is given: on a random
-/// polynomial through it or, one time in three, bent off it elsewhere.
-fn messages(rng: &mut Rng, record: &[u64], own_message: u64) -> Vec<u64> {
+/// polynomial through it or, one time in three, bent off it elsewhere. In the
+/// places that are not marked there often is something else.
+fn messages(rng: &mut Rng, record: &[u64], present: &[u8], own_message: u64) -> Vec<u64> {
     let places = Places {
         n: record[N],
         own: record[OWN],
@@ -430,7 +476,15 @@ fn messages(rng: &mut Rng, record: &[u64], own_message: u64) -> Vec<u64> {
         }
     };
     if rng.once_in(3) {
-        places.bend(rng, record[ROUND], &mut messages);
+        places.bend(rng, record[ROUND], present, &mut messages);
+    }
+    if rng.once_in(2) {
+        for (message, &mark) in messages.iter_mut().zip(present) {
+            let (word, fits) = (rng.word(), in_range(rng, record[ROUND]));
+            if mark != 1 {
+                *message = rng.pick(&[*message, fits, word, 0, amount::P, u64::MAX]);
+            }
+        }
     }
     messages
 }
@@ -479,19 +533,39 @@ impl Places {
         (1..=self.n as u8).map(share).collect()
     }
 
-    /// Adds a polynomial of a degree above t that vanishes at the own point
-    /// and at as many others as its degree allows. With degree n - 1 that
-    /// alters one message; with t + 1 the most that can be altered unnoticed
-    /// by a test that looks at too few messages.
-    fn bend(&self, rng: &mut Rng, round: u64, messages: &mut [u64]) {
+    /// Adds a polynomial of a degree above t that vanishes at the own point, if
+    /// that is marked, and at as many other marked ones as its degree allows. With
+    /// one less than are marked that alters one of their messages; with t + 1 the
+    /// most that can be altered unnoticed by a test that looks at too few. Where
+    /// no more than t + 1 are marked any words in range will do, and each but the
+    /// own one is another, or now and then just out of range.
+    fn bend(&self, rng: &mut Rng, round: u64, present: &[u8], messages: &mut [u64]) {
         let t = reference::threshold(self.n) as u64;
-        let degree = rng.between(t + 1, self.n - 1);
-        let mut roots = vec![self.own];
-        while (roots.len() as u64) < degree {
-            let point = rng.between(1, self.n);
-            if !roots.contains(&point) {
-                roots.push(point);
+        let mut marked: Vec<u64> = (1..=self.n)
+            .filter(|&point| present[point as usize - 1] == 1)
+            .collect();
+        let most = marked.len() as u64;
+        if most <= t + 1 {
+            for point in marked {
+                if point != self.own {
+                    messages[point as usize - 1] = match round {
+                        _ if !rng.once_in(8) => in_range(rng, round),
+                        1 => amount::P,
+                        LAST_ROUND => 256,
+                        _ => 65_536,
+                    };
+                }
             }
+            return;
+        }
+        let degree = rng.between(t + 1, most - 1);
+        let mut roots = Vec::new();
+        if let Some(place) = marked.iter().position(|&point| point == self.own) {
+            roots.push(marked.swap_remove(place));
+        }
+        while (roots.len() as u64) < degree {
+            let place = rng.place(marked.len());
+            roots.push(marked.swap_remove(place));
         }
         let factor = rng.between(1, 255);
         for (place, message) in messages.iter_mut().enumerate() {

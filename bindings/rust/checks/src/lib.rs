@@ -3,6 +3,7 @@
 
 #![forbid(unsafe_code)]
 
+pub mod attendance;
 pub mod auction;
 pub mod call;
 pub mod damage;
@@ -11,6 +12,7 @@ pub mod engine;
 pub mod generate;
 pub mod meeting;
 pub mod outcome;
+pub mod presence;
 pub mod record;
 pub mod rng;
 pub mod soundness;

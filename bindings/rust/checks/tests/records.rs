@@ -60,7 +60,7 @@ fn any_two_clauses_broken_are_refused() {
 }
 
 /// A search put into a sound record leaves it sound, and it is not refused with
-/// 1 but for a bidder's number.
+/// 1 but for a bidder's number or a mark.
 #[test]
 fn sound_searches() {
     let mut rng = Rng::new(2003);
@@ -70,6 +70,7 @@ fn sound_searches() {
                 let mut call = sound(&mut rng, kind);
                 search(&mut rng, &mut call.words[0]);
                 call.bidder = call.bidder.clamp(1, 1_000);
+                call.bytes.iter_mut().for_each(|mark| *mark %= 2);
                 assert!(matches!(found(&call.words[0]), Found::Sound(_)), "{call}");
                 assert_ne!(reply(&call), 1, "{call}");
             }

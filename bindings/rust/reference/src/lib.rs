@@ -25,6 +25,7 @@ const INCONSISTENT: u64 = 10;
 const SUM_OUT_OF_RANGE: u64 = 11;
 const VERDICT_NOT_BIT: u64 = 12;
 const ALREADY_ENTERED: u64 = 14;
+const TOO_FEW_PRESENT: u64 = 15;
 
 /// The words of a roll, with a bit for each bidder's number.
 pub const ROLL: usize = 16;
@@ -108,9 +109,16 @@ pub fn say(record: &[u64], totals: &[u64], sheets: &[u64], message: &mut u64) ->
     reply(try_say(record, totals, sheets, message))
 }
 
-/// Takes all parties' messages of the current round and steps the record.
-pub fn hear(record: &mut [u64], totals: &[u64], sheets: &[u64], messages: &[u64]) -> u64 {
-    reply(try_hear(record, totals, sheets, messages))
+/// Takes the messages of those who were present in the current round and steps
+/// the record.
+pub fn hear(
+    record: &mut [u64],
+    totals: &[u64],
+    sheets: &[u64],
+    messages: &[u64],
+    present: &[u8],
+) -> u64 {
+    reply(try_hear(record, totals, sheets, messages, present))
 }
 
 /// Writes the index of the price and the number of probes made.
@@ -299,7 +307,9 @@ fn try_add(record: &mut [u64], totals: &mut [u64], bidder: u64, shares: &[u64]) 
 fn try_say(record: &[u64], totals: &[u64], sheets: &[u64], message: &mut u64) -> Result<(), u64> {
     let party = Record::read(record)?;
     need(party.lengths_fit(totals, sheets), WRONG_LENGTH)?;
-    let sheet = party.current_sheet(totals, sheets)?;
+    need(!party.is_over(), OUT_OF_TURN)?;
+    need(party.totals_in_range(totals), SHARE_OUT_OF_RANGE)?;
+    let sheet = party.current_sheet(sheets)?;
     *message = party.message(totals, &sheet);
     Ok(())
 }
@@ -309,22 +319,32 @@ fn try_hear(
     totals: &[u64],
     sheets: &[u64],
     messages: &[u64],
+    present: &[u8],
 ) -> Result<(), u64> {
     let mut party = Record::read(record)?;
+    need(present.iter().all(|&mark| mark <= 1), OUT_OF_RANGE)?;
+    let n = party.n as usize;
     need(
-        party.lengths_fit(totals, sheets) && messages.len() == party.n as usize,
+        party.lengths_fit(totals, sheets) && messages.len() == n && present.len() == n,
         WRONG_LENGTH,
     )?;
-    let sheet = party.current_sheet(totals, sheets)?;
-    let own_message = messages[party.own as usize - 1];
+    need(!party.is_over(), OUT_OF_TURN)?;
+    let heard = Heard::of(messages, present);
+    need(heard.count > threshold(party.n), TOO_FEW_PRESENT)?;
+    let own = party.own as usize - 1;
+    // The totals are used in the own message alone, and that only where the
+    // party was present.
+    let here = present[own] == 1;
+    need(!here || party.totals_in_range(totals), SHARE_OUT_OF_RANGE)?;
+    let sheet = party.current_sheet(sheets)?;
     need(
-        own_message == party.message(totals, &sheet),
+        !here || messages[own] == party.message(totals, &sheet),
         OWN_MESSAGE_DIFFERS,
     )?;
     match party.round {
-        1 => party.hear_sum(&sheet, messages)?,
-        LAST_ROUND => party.hear_verdict(messages)?,
-        _ => party.hear_product(&sheet, messages)?,
+        1 => party.hear_sum(&sheet, &heard)?,
+        LAST_ROUND => party.hear_verdict(&heard)?,
+        _ => party.hear_product(&sheet, &heard)?,
     }
     party.write(record);
     Ok(())
@@ -393,6 +413,50 @@ impl Sheet<'_> {
     fn triple(&self, round: u64) -> [u8; 3] {
         let first = 34 + 3 * (round as usize - 2);
         [0, 1, 2].map(|place| self.words[first + place] as u8)
+    }
+}
+
+/// The messages of those who were present, and their points. Of the others
+/// nothing is kept.
+struct Heard {
+    count: usize,
+    points: [usize; 9],
+    words: [u64; 9],
+}
+
+impl Heard {
+    /// Of at most nine messages and as many marks.
+    fn of(messages: &[u64], present: &[u8]) -> Heard {
+        let mut heard = Heard {
+            count: 0,
+            points: [0; 9],
+            words: [0; 9],
+        };
+        for (place, (&word, &mark)) in messages.iter().zip(present).enumerate() {
+            if mark == 1 {
+                heard.points[heard.count] = place + 1;
+                heard.words[heard.count] = word;
+                heard.count += 1;
+            }
+        }
+        heard
+    }
+
+    fn points(&self) -> &[usize] {
+        &self.points[..self.count]
+    }
+
+    fn words(&self) -> &[u64] {
+        &self.words[..self.count]
+    }
+
+    /// Opens one byte of each word, the lowest where `shift` is 0.
+    fn open_bytes(&self, shift: u32, t: usize) -> Option<u8> {
+        let mut bytes = [0; 9];
+        for (byte, &word) in bytes.iter_mut().zip(self.words()) {
+            *byte = (word >> shift) as u8;
+        }
+        byte::open(self.points(), &bytes[..self.count], t)
     }
 }
 
@@ -523,14 +587,18 @@ impl Record {
         (totals[place], totals[self.k as usize + place])
     }
 
-    /// The preprocessing of the current probe, where it is this party's turn
-    /// and every word that the round uses is a share.
-    fn current_sheet<'a>(&self, totals: &[u64], sheets: &'a [u64]) -> Result<Sheet<'a>, u64> {
-        need(!self.is_over(), OUT_OF_TURN)?;
-        if self.round == 1 {
-            let (demand, supply) = self.totals_at_index(totals);
-            need(demand < amount::P && supply < amount::P, SHARE_OUT_OF_RANGE)?;
+    /// Whether the totals that the message of this round uses are shares. Only
+    /// that of round 1 uses any.
+    fn totals_in_range(&self, totals: &[u64]) -> bool {
+        if self.round != 1 {
+            return true;
         }
+        let (demand, supply) = self.totals_at_index(totals);
+        demand < amount::P && supply < amount::P
+    }
+
+    /// The preprocessing of the current probe, where every word of it is a share.
+    fn current_sheet<'a>(&self, sheets: &'a [u64]) -> Result<Sheet<'a>, u64> {
         let start = SHEET * self.probes as usize;
         let words = &sheets[start..start + SHEET];
         need(
@@ -570,9 +638,10 @@ impl Record {
     }
 
     /// Round 1: opens the masked sum and starts the carries.
-    fn hear_sum(&mut self, sheet: &Sheet, messages: &[u64]) -> Result<(), u64> {
-        need(messages.iter().all(|&word| word < amount::P), INCONSISTENT)?;
-        let sum = amount::open(messages, threshold(self.n)).ok_or(INCONSISTENT)?;
+    fn hear_sum(&mut self, sheet: &Sheet, heard: &Heard) -> Result<(), u64> {
+        let words = heard.words();
+        need(words.iter().all(|&word| word < amount::P), INCONSISTENT)?;
+        let sum = amount::open(heard.points(), words, threshold(self.n)).ok_or(INCONSISTENT)?;
         need((SUM_LOW..SUM_LIMIT).contains(&sum), SUM_OUT_OF_RANGE)?;
         let sum_bit = bit(sum, 1);
         let c = byte::add(sheet.bit(1), sum_bit);
@@ -583,18 +652,12 @@ impl Record {
     }
 
     /// Rounds 2 to 32: opens D and E and steps the carry.
-    fn hear_product(&mut self, sheet: &Sheet, messages: &[u64]) -> Result<(), u64> {
-        need(messages.iter().all(|&word| word <= 65_535), INCONSISTENT)?;
-        let mut low = [0; 9];
-        let mut high = [0; 9];
-        for (place, &word) in messages.iter().enumerate() {
-            low[place] = (word % 256) as u8;
-            high[place] = (word / 256) as u8;
-        }
-        let n = messages.len();
+    fn hear_product(&mut self, sheet: &Sheet, heard: &Heard) -> Result<(), u64> {
+        let words = heard.words();
+        need(words.iter().all(|&word| word <= 65_535), INCONSISTENT)?;
         let t = threshold(self.n);
-        let d = byte::open(&low[..n], t).ok_or(INCONSISTENT)?;
-        let e = byte::open(&high[..n], t).ok_or(INCONSISTENT)?;
+        let d = heard.open_bytes(0, t).ok_or(INCONSISTENT)?;
+        let e = heard.open_bytes(8, t).ok_or(INCONSISTENT)?;
         let [alpha, beta, gamma] = sheet.triple(self.round);
         let mut carry = gamma;
         carry = byte::add(carry, byte::mul(d, beta));
@@ -607,13 +670,10 @@ impl Record {
     }
 
     /// Round 33: opens the verdict and steps the search.
-    fn hear_verdict(&mut self, messages: &[u64]) -> Result<(), u64> {
-        need(messages.iter().all(|&word| word <= 255), INCONSISTENT)?;
-        let mut words = [0; 9];
-        for (place, &word) in messages.iter().enumerate() {
-            words[place] = word as u8;
-        }
-        let verdict = byte::open(&words[..messages.len()], threshold(self.n));
+    fn hear_verdict(&mut self, heard: &Heard) -> Result<(), u64> {
+        let words = heard.words();
+        need(words.iter().all(|&word| word <= 255), INCONSISTENT)?;
+        let verdict = heard.open_bytes(0, threshold(self.n));
         match (self.search, verdict.ok_or(INCONSISTENT)?) {
             (FIRST_SEARCH, 1) | (SECOND_SEARCH, 0) => self.lo = self.index(),
             (FIRST_SEARCH, 0) | (SECOND_SEARCH, 1) => self.hi = self.index(),

@@ -1,5 +1,6 @@
 //! Whole auctions by the plain calls, each against its totals in the clear: the
-//! verdicts, what the first search gives, and the price.
+//! verdicts, what the first search gives, and the price. In some of them parties
+//! drop off, and come back or do not.
 
 use clockivy_reference::{
     add, answer, deal, hear, open, probe_limit, say, sheet_count, split, threshold, FIRST_SEARCH,
@@ -79,7 +80,22 @@ struct Seat {
     record: [u64; RECORD],
     totals: Vec<u64>,
     sheets: Vec<u64>,
+    /// The rounds that it has heard.
+    heard: usize,
 }
+
+/// A round: all messages, and the marks of who was present.
+struct Round {
+    messages: Vec<u64>,
+    present: Vec<u8>,
+}
+
+/// Whether a party, from 1 to n, is away in a round, counted from 0 over all
+/// probes.
+type Away = fn(n: u64, party: u64, round: usize) -> bool;
+
+/// Everybody is there.
+const NOBODY: Away = |_, _, _| false;
 
 /// All parties of an auction with the bids added. No sheet is dealt yet, and
 /// what stands in its place is none.
@@ -94,6 +110,7 @@ fn seats(n: u64, k: u64, bids: &[Vec<u64>], coins: &mut Coins) -> Vec<Seat> {
                 record,
                 totals,
                 sheets,
+                heard: 0,
             }
         })
         .collect();
@@ -108,34 +125,60 @@ fn seats(n: u64, k: u64, bids: &[Vec<u64>], coins: &mut Coins) -> Vec<Seat> {
     seats
 }
 
-/// One probe on one sheet, which is the only one that is there meanwhile.
-fn probe(seats: &mut [Seat], coins: &mut Coins) {
+/// One probe. Its sheet is the only one of a party that has heard all before.
+fn probe(seats: &mut [Seat], rounds: &mut Vec<Round>, away: Away, coins: &mut Coins) {
     let n = seats.len() as u64;
     let t = threshold(n);
     let words = coins.words(1 + t);
     let bytes: Vec<u8> = (0..126 * t + 62).map(|_| coins.word() as u8).collect();
-    let start = SHEET * seats[0].record[PROBES] as usize;
+    let start = SHEET * front(seats, rounds).record[PROBES] as usize;
     for (own, seat) in (1..).zip(seats.iter_mut()) {
         let sheet = &mut seat.sheets[start..start + SHEET];
         assert_eq!(deal(n, own, &words, &bytes, sheet), 0);
     }
     for _ in 1..=LAST_ROUND {
-        let mut messages = vec![0; seats.len()];
-        for (seat, message) in seats.iter().zip(&mut messages) {
-            assert_eq!(say(&seat.record, &seat.totals, &seat.sheets, message), 0);
+        let number = rounds.len();
+        let mut round = Round {
+            messages: coins.words(seats.len()),
+            present: vec![0; seats.len()],
+        };
+        for (place, seat) in seats.iter_mut().enumerate() {
+            if !away(n, place as u64 + 1, number) {
+                // A party that comes back hears what it has missed, in order.
+                catch_up(seat, rounds);
+                round.present[place] = 1;
+                let message = &mut round.messages[place];
+                assert_eq!(say(&seat.record, &seat.totals, &seat.sheets, message), 0);
+            }
         }
-        for Seat {
-            record,
-            totals,
-            sheets,
-        } in seats.iter_mut()
-        {
-            assert_eq!(hear(record, totals, sheets, &messages), 0);
+        rounds.push(round);
+        for (own, seat) in (1..).zip(seats.iter_mut()) {
+            if !away(n, own, number) {
+                catch_up(seat, rounds);
+            }
         }
     }
-    for seat in seats {
-        seat.sheets[start..start + SHEET].fill(u64::MAX);
+}
+
+/// A party hears all rounds that it has not heard yet.
+fn catch_up(seat: &mut Seat, rounds: &[Round]) {
+    let Seat {
+        record,
+        totals,
+        sheets,
+        heard,
+    } = seat;
+    for Round { messages, present } in &rounds[*heard..] {
+        assert_eq!(hear(record, totals, sheets, messages, present), 0);
+        sheets[..SHEET * record[PROBES] as usize].fill(u64::MAX);
     }
+    *heard = rounds.len();
+}
+
+/// A party that has heard all rounds.
+fn front<'a>(seats: &'a [Seat], rounds: &[Round]) -> &'a Seat {
+    let heard_all = |seat: &&Seat| seat.heard == rounds.len();
+    seats.iter().find(heard_all).unwrap()
 }
 
 /// The search's numbers in a record: search, lo, hi, first, first probes.
@@ -143,18 +186,27 @@ fn search(record: &[u64; RECORD]) -> [u64; 5] {
     [SEARCH, LO, HI, FIRST, FIRST_PROBES].map(|place| record[place])
 }
 
-/// Runs an auction of these bids and checks it at every probe.
+/// Runs an auction of these bids with every party there, and checks it at every
+/// probe.
 fn run(n: u64, k: u64, bids: &[Vec<u64>]) {
+    assert_eq!(run_without(NOBODY, n, k, bids), n);
+}
+
+/// The same with some of the parties away at times. Gives how many have answered:
+/// those that were there in the last round.
+fn run_without(away: Away, n: u64, k: u64, bids: &[Vec<u64>]) -> u64 {
     let totals = Totals::of(k, bids);
     let mut coins = Coins(k + 1);
     let mut seats = seats(n, k, bids, &mut coins);
+    let mut rounds = Vec::new();
     let (mut lo, mut hi, mut probes) = (0, k + 1, 0);
     while hi - lo > 1 {
-        assert_eq!(search(&seats[0].record), [FIRST_SEARCH, lo, hi, 0, 0]);
-        assert_eq!(answer(&seats[0].record, &mut 0, &mut 0), 3);
+        let record = &front(&seats, &rounds).record;
+        assert_eq!(search(record), [FIRST_SEARCH, lo, hi, 0, 0]);
+        assert_eq!(answer(record, &mut 0, &mut 0), 3);
         let index = (lo + hi) / 2;
         let (demand, supply) = totals.at(index);
-        probe(&mut seats, &mut coins);
+        probe(&mut seats, &mut rounds, away, &mut coins);
         probes += 1;
         if demand >= supply {
             lo = index;
@@ -166,15 +218,16 @@ fn run(n: u64, k: u64, bids: &[Vec<u64>]) {
     assert_eq!(first, totals.highest());
     (lo, hi) = (0, first + 1);
     loop {
+        let record = &front(&seats, &rounds).record;
         let expected = [SECOND_SEARCH, lo, hi, first, first_probes];
-        assert_eq!(search(&seats[0].record), expected);
+        assert_eq!(search(record), expected);
         if hi - lo == 1 {
             break;
         }
-        assert_eq!(answer(&seats[0].record, &mut 0, &mut 0), 3);
+        assert_eq!(answer(record, &mut 0, &mut 0), 3);
         let index = (lo + hi) / 2;
         let (demand, supply) = totals.at(index);
-        probe(&mut seats, &mut coins);
+        probe(&mut seats, &mut rounds, away, &mut coins);
         probes += 1;
         if supply >= demand {
             hi = index;
@@ -184,20 +237,27 @@ fn run(n: u64, k: u64, bids: &[Vec<u64>]) {
     }
     assert!(first_probes <= probe_limit(k));
     assert!(probes - first_probes <= probe_limit(first));
+    let mut answered = 0;
     for seat in &seats {
         let (mut index, mut made) = (0, 0);
-        assert_eq!(answer(&seat.record, &mut index, &mut made), 0);
-        assert_eq!((index, made), (totals.price(), probes));
+        let reply = answer(&seat.record, &mut index, &mut made);
+        if seat.heard < rounds.len() {
+            assert_eq!(reply, 3);
+            continue;
+        }
+        assert_eq!((reply, index, made), (0, totals.price(), probes));
         assert_silent(seat, n as usize);
+        answered += 1;
     }
+    answered
 }
 
 /// When the auction is over, nothing is said or heard.
 fn assert_silent(seat: &Seat, parties: usize) {
     let (mut message, mut record) = (7, seat.record);
-    let messages = vec![0; parties];
+    let (messages, present) = (vec![0; parties], vec![1; parties]);
     let said = say(&record, &seat.totals, &seat.sheets, &mut message);
-    let heard = hear(&mut record, &seat.totals, &seat.sheets, &messages);
+    let heard = hear(&mut record, &seat.totals, &seat.sheets, &messages, &present);
     assert_eq!([said, heard], [3, 3]);
     assert_eq!((message, record), (7, seat.record));
 }
@@ -273,5 +333,44 @@ fn no_bids_give_the_middle_of_the_list() {
     for k in (1..=20).chain([63, 64, 255, 256, 1_023, 1_024]) {
         assert_eq!(Totals::of(k, &[]).price(), k.div_ceil(2));
         run(3, k, &[]);
+    }
+}
+
+/// The parties that can be away: n - t - 1 of them.
+fn spare(n: u64) -> u64 {
+    n - threshold(n) as u64 - 1
+}
+
+/// A window of so many parties as can be away moves on by one every third round,
+/// so that each comes back in the middle of a probe and drops off again.
+const IN_TURN: Away = |n, party, round| (party + round as u64 / 3) % n < spare(n);
+
+/// The first parties drop off in round 20 of the first probe and hear no more.
+const FOR_GOOD: Away = |n, party, round| party <= spare(n) && round >= 20;
+
+/// The last parties miss three rounds of each probe, the verdict's among them.
+const OVER_THE_END: Away = |n, party, round| party > n - spare(n) && (round + 2) % 33 < 3;
+
+/// The second party misses the whole first probe and more, and then the first two
+/// rounds of the fourth.
+const A_WHOLE_PROBE: Away =
+    |_, party, round| party == 2 && (round < 40 || (99..101).contains(&round));
+
+#[test]
+fn parties_that_drop_off() {
+    let bids = [
+        vec![9, 7, 7, 7, 3, 0, 0, 0, 0, 4],
+        vec![2, 2, 2, 2, 2, 1, 1, 1, 1, 1],
+        vec![0, 0, 0, 0, 0, 3, 8, 8, 8, 8],
+    ];
+    for n in 3..=9 {
+        for bids in [&bids[..], &bids[..2], &bids[2..], &[]] {
+            let answered = |away| run_without(away, n, 5, bids);
+            assert_eq!(answered(IN_TURN), n - spare(n));
+            assert_eq!(answered(FOR_GOOD), n - spare(n));
+            // The last round is among those that are missed.
+            assert_eq!(answered(OVER_THE_END), n - spare(n));
+            assert_eq!(answered(A_WHOLE_PROBE), n);
+        }
     }
 }

@@ -25,13 +25,13 @@ same-length c = search needs
 -- what is lent, once it is known whether there is a record
 module _ (c : tie.After-is-record) where
   abbrev start : tie.Start
-  start = c .before .before .before .before .before .before
+  start = c .before .before .before .before .before .before .before
 
   abbrev words : List ℕ
   words = start .args .words .now
 
   abbrev reply : Party → Reply
-  reply q = hear-reply q (start .args .totals .now) (start .args .sheets .now) (start .args .messages .now)
+  reply q = hear-reply q (start .args .totals .now) (start .args .sheets .now) (start .args .messages .now) (start .args .present .now)
 
 returns : tie.Need-returns
 returns c =

@@ -14,7 +14,9 @@
 //! call.
 //!
 //! A second table has one party's shares of a bid written entry by entry beside
-//! the same by one call, on either side, in the same way.
+//! the same by one call, on either side, in the same way. A third has hearings at
+//! which just t + 1 parties were present beside those of the same rounds at which
+//! all were.
 //!
 //! All inputs are drawn before the clock starts. Buffers that a call writes
 //! are not cleared between calls. The record that a call steps is set back
@@ -40,6 +42,10 @@ const ENTRY: u64 = K;
 const NEXT: u64 = MAX_BIDS / 2;
 /// The round that stands for rounds 2 to 32, which do the same work.
 const MIDDLE: u64 = 17;
+/// Marks of everybody, and of t + 1 parties with the timed one among them. These
+/// are not the first ones: nothing is known of them before.
+const ALL: [u8; N as usize] = [1; N as usize];
+const FEWEST: [u8; N as usize] = [0, 1, 0, 1, 1];
 
 /// The products of a chain.
 const CHAIN: u32 = 1_000;
@@ -85,17 +91,17 @@ struct Case {
 
 /// One call, or one auction, verified and beside that plain.
 macro_rules! case {
-    ($name:literal, $run:ident $(, $round:expr)?) => {
+    ($name:literal, $run:ident $(, $of:expr)*) => {
         Case {
             name: $name,
-            timed: $run::<Verified $(, { $round })?>,
-            beside: $run::<Plain $(, { $round })?>,
+            timed: $run::<Verified $(, { $of })*>,
+            beside: $run::<Plain $(, { $of })*>,
             parts: 1,
         }
     };
 }
 
-const CALLS: [Case; 10] = [
+const CALLS: [Case; 13] = [
     case!("split", split),
     case!("split_entry", split_entry),
     case!("deal", deal),
@@ -103,9 +109,12 @@ const CALLS: [Case; 10] = [
     case!("say, round 1", say, 1),
     case!("say, rounds 2 to 32", say, MIDDLE),
     case!("say, round 33", say, LAST_ROUND),
-    case!("hear, round 1", hear, 1),
-    case!("hear, rounds 2 to 32", hear, MIDDLE),
-    case!("hear, round 33", hear, LAST_ROUND),
+    case!("hear, round 1", hear, 1, false),
+    case!("hear, rounds 2 to 32", hear, MIDDLE, false),
+    case!("hear, round 33", hear, LAST_ROUND, false),
+    case!("hear, round 1, t + 1 present", hear, 1, true),
+    case!("hear, rounds 2 to 32, t + 1 present", hear, MIDDLE, true),
+    case!("hear, round 33, t + 1 present", hear, LAST_ROUND, true),
 ];
 
 const AUCTION: Case = case!("whole auction, 1,000 bids", auction);
@@ -128,6 +137,27 @@ const fn by_entries<E: Engine>() -> Case {
     }
 }
 
+/// A hearing at which t + 1 parties were present, beside one at which all were.
+macro_rules! fewest {
+    ($name:literal, $engine:ident, $round:expr) => {
+        Case {
+            name: $name,
+            timed: hear::<$engine, { $round }, true>,
+            beside: hear::<$engine, { $round }, false>,
+            parts: 1,
+        }
+    };
+}
+
+const HEARINGS_BY_FEWEST: [Case; 6] = [
+    fewest!("verified, round 1", Verified, 1),
+    fewest!("verified, rounds 2 to 32", Verified, MIDDLE),
+    fewest!("verified, round 33", Verified, LAST_ROUND),
+    fewest!("plain, round 1", Plain, 1),
+    fewest!("plain, rounds 2 to 32", Plain, MIDDLE),
+    fewest!("plain, round 33", Plain, LAST_ROUND),
+];
+
 fn main() -> ExitCode {
     let cores = available_parallelism().map_or(1, usize::from);
     println!("n = {N}, k = {K}, one thread, {cores} cores\n");
@@ -144,6 +174,12 @@ fn main() -> ExitCode {
     heading(["a bid for one party", "2,048 split_entry", "split"]);
     for case in &BIDS_BY_ENTRIES {
         println!("{}", measure(case, &mut inputs, &BID_PLAN));
+    }
+
+    println!();
+    heading(["hear", "t + 1 present", "all present"]);
+    for case in &HEARINGS_BY_FEWEST {
+        println!("{}", measure(case, &mut inputs, &CALL_PLAN));
     }
 
     let verified = outcome::<Verified>(&mut inputs);
@@ -372,11 +408,18 @@ fn say<E: Engine, const ROUND: u64>(inputs: &mut Inputs) {
     assert_eq!(message, round.messages[OWN as usize - 1]);
 }
 
-fn hear<E: Engine, const ROUND: u64>(inputs: &mut Inputs) {
+fn hear<E: Engine, const ROUND: u64, const BY_FEWEST: bool>(inputs: &mut Inputs) {
     let round = &inputs.rounds[ROUND as usize - 1];
     let Seat { totals, sheets, .. } = &inputs.seat;
+    let present = if BY_FEWEST { &FEWEST } else { &ALL };
     let mut record = round.record;
-    done(E::hear(&mut record, totals, sheets, &round.messages));
+    done(E::hear(
+        &mut record,
+        totals,
+        sheets,
+        &round.messages,
+        present,
+    ));
 }
 
 /// A chain of products, each made from the one before.
@@ -452,6 +495,7 @@ fn round<E: Engine>(seats: &mut [Seat]) -> Vec<u64> {
             &seat.totals,
             &seat.sheets,
             &messages,
+            &ALL,
         ));
     }
     messages

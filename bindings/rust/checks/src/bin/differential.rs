@@ -3,10 +3,11 @@
 //!     cargo run --release --bin differential [CALLS [SEED]]
 //!
 //! It passes where no call and no byte product made a difference, every reply has
-//! come up, every fault of a record has met every call that judges one, and whole
-//! auctions have ended in every way. All byte products and the whole auctions
-//! come first, however few calls are asked for, and single calls fill up the
-//! number; without enough of these, something may not come up.
+//! come up, those of a hearing by who was present, every fault of a record has met
+//! every call that judges one, and whole auctions have ended in every way, with and
+//! without parties that drop off. All byte products and the whole auctions come
+//! first, however few calls are asked for, and single calls fill up the number;
+//! without enough of these, something may not come up.
 
 use std::env;
 use std::process::ExitCode;
@@ -74,8 +75,11 @@ fn missing(tally: &Tally) -> Vec<String> {
     for (kind, condition) in tally.unmet() {
         lines.push(format!("{} met no such record: {condition}", kind.name()));
     }
+    for (present, reply) in tally.unheard() {
+        lines.push(format!("hear never replied {reply} in {present}"));
+    }
     for ending in tally.unended() {
-        lines.push(format!("no whole auction ended so: {ending}"));
+        lines.push(format!("no whole auction was such: {ending}"));
     }
     lines
 }

@@ -1,5 +1,5 @@
 -- `step` meets its contract: a walk of its MIR, by hand. The borrow is opened, the record is copied out and passed to `hear` with the
--- three slices, the record of what `hear` returns is stored through the reference, and the borrow is closed at it.
+-- four slices, the record of what `hear` returns is stored through the reference, and the borrow is closed at it.
 -- Assumes nothing.
 use mathlib.Core.Path.{_≡_, refl, ap}
 use Prim.Native.Nat.{ℕ}
@@ -25,7 +25,7 @@ use sound.WpLaws.{FmC, fmOf, WpFn-mono}
 use denote.RattleType.{owns}
 use denote.Laws.{Is, shows}
 use denote.Memory.{mem}
-use denote.Builtin.{u64}
+use denote.Builtin.{u8, u64}
 use denote.Ref.{RefT, now, MutRef, ptr-vals, mut-tells}
 use denote.Slice.{sliceVal, ShrSlice, slice-vals, shr-slice-tells, shr-slice-lawful, shr-slice-copy}
 use denote.Signature.{plain}
@@ -64,7 +64,7 @@ abbrev Slice : Type 0
 Slice = RefT (List ℕ)
 
 abbrev Arg : Type 0
-Arg = RefT Party × (Slice × (Slice × (Slice × Unit {0})))
+Arg = RefT Party × (Slice × (Slice × (Slice × (Slice × Unit {0}))))
 
 abbrev judged-as : Reply → Judgement
 judged-as r = r .judgement
@@ -74,15 +74,15 @@ record-of r = r .party
 
 abbrev stayed : Stays (step.ended .signature .params) (step.ended .kept)
 stayed =
-    (stay-ref (0 ∷ []) tt (plain (λ _. T.the-row)), (stay-none-slice (1 ∷ []) tt (plain (λ _. u64)) yes, (stay-none-slice (2 ∷ []) tt (plain (λ _. u64)) yes, (stay-none-slice (3 ∷ []) tt (plain (λ _. u64)) yes, tt))))
+    (stay-ref (0 ∷ []) tt (plain (λ _. T.the-row)), (stay-none-slice (1 ∷ []) tt (plain (λ _. u64)) yes, (stay-none-slice (2 ∷ []) tt (plain (λ _. u64)) yes, (stay-none-slice (3 ∷ []) tt (plain (λ _. u64)) yes, (stay-none-slice (4 ∷ []) tt (plain (λ _. u8)) yes, tt)))))
 
 -- the contract that the proof cites
 abbrev Callee : {M : Type 1} (𝓤 : URA M) (H : Heap 𝓤) (A : Atoms 𝓤) (at-mem : Memory → SProp 𝓤) (run : Routine → Fun 𝓤) → Contract 𝓤
 Callee 𝓤 H A at-mem run = tripleOf 𝓤 H A callee.signature (callee.spec 𝓤 H A at-mem run)
 
-module _ {M : Type 1} (𝓤 : URA M) (H : Heap 𝓤) (A : Atoms 𝓤) (W : Given 𝓤 H A) (at-mem : Memory → SProp 𝓤) (run : Routine → Fun 𝓤) (κ κ₁ κ₂ κ₃ : Lft) (q q₁ q₂ q₃ : Share) (b o : ℕ) (γ : GName) (h : Party) (ts ss ms : Slice) where
+module _ {M : Type 1} (𝓤 : URA M) (H : Heap 𝓤) (A : Atoms 𝓤) (W : Given 𝓤 H A) (at-mem : Memory → SProp 𝓤) (run : Routine → Fun 𝓤) (κ κ₁ κ₂ κ₃ κ₄ : Lft) (q q₁ q₂ q₃ q₄ : Share) (b o : ℕ) (γ : GName) (h : Party) (ts ss ms ps : Slice) where
   abbrev x : Arg
-  x = (record { ptr = (b, o); name = γ; now = h }, (ts, (ss, (ms, tt))))
+  x = (record { ptr = (b, o); name = γ; now = h }, (ts, (ss, (ms, (ps, tt)))))
 
   abbrev vt : Val
   vt = sliceVal (ts .ptr) (length (ts .now))
@@ -93,8 +93,11 @@ module _ {M : Type 1} (𝓤 : URA M) (H : Heap 𝓤) (A : Atoms 𝓤) (W : Given
   abbrev vm : Val
   vm = sliceVal (ms .ptr) (length (ms .now))
 
-  abbrev at : List Val × (List Val × (List Val × (List Val × Unit {0})))
-  at = (vptr b o ∷ [], (vt ∷ [], (vs ∷ [], (vm ∷ [], tt))))
+  abbrev vp : Val
+  vp = sliceVal (ps .ptr) (length (ps .now))
+
+  abbrev at : List Val × (List Val × (List Val × (List Val × (List Val × Unit {0}))))
+  at = (vptr b o ∷ [], (vt ∷ [], (vs ∷ [], (vm ∷ [], (vp ∷ [], tt)))))
 
   -- the record's machine value at entry, and those of what the callee returns
   abbrev mach : Val
@@ -108,17 +111,17 @@ module _ {M : Type 1} (𝓤 : URA M) (H : Heap 𝓤) (A : Atoms 𝓤) (W : Given
 
   -- what the callee says of its result
   abbrev Said : Reply → Type 0
-  Said r = r ≡ hear-reply h (now ts) (now ss) (now ms)
+  Said r = r ≡ hear-reply h (now ts) (now ss) (now ms) (now ps)
 
   -- the tokens of the slices, and what the slices own
   abbrev toks : Item 𝓤
-  toks = ‵ (flft κ₁ q₁) ⊛ ‵ (flft κ₂ q₂) ⊛ ‵ (flft κ₃ q₃) ⊛ ‵ ftrue
+  toks = ‵ (flft κ₁ q₁) ⊛ ‵ (flft κ₂ q₂) ⊛ ‵ (flft κ₃ q₃) ⊛ ‵ (flft κ₄ q₄) ⊛ ‵ ftrue
 
   abbrev Rest : Fml
-  Rest = owns (ShrSlice (named 1) κ₁ u64 ∷ ShrSlice (named 2) κ₂ u64 ∷ ShrSlice (named 3) κ₃ u64 ∷ []) (ts, (ss, (ms, tt))) (vt ∷ [], (vs ∷ [], (vm ∷ [], tt)))
+  Rest = owns (ShrSlice (named 1) κ₁ u64 ∷ ShrSlice (named 2) κ₂ u64 ∷ ShrSlice (named 3) κ₃ u64 ∷ ShrSlice (named 4) κ₄ u8 ∷ []) (ts, (ss, (ms, (ps, tt)))) (vt ∷ [], (vs ∷ [], (vm ∷ [], (vp ∷ [], tt))))
 
   abbrev Post : Val → SProp 𝓤
-  Post = walkOf 𝓤 H A step.ended stayed (step.clauses 𝓤 H A at-mem run) .post (((κ, (κ₁, (κ₂, (κ₃, tt)))), (q, (q₁, (q₂, (q₃, tt)))), tt, x, at), tt)
+  Post = walkOf 𝓤 H A step.ended stayed (step.clauses 𝓤 H A at-mem run) .post (((κ, (κ₁, (κ₂, (κ₃, (κ₄, tt))))), (q, (q₁, (q₂, (q₃, (q₄, tt))))), tt, x, at), tt)
 
   -- a slice behind a `&` is kept while it is passed
   twice : ent 𝓤 (sem 𝓤 H A Rest) (sep 𝓤 (sem 𝓤 H A Rest) (sem 𝓤 H A Rest))
@@ -127,77 +130,79 @@ module _ {M : Type 1} (𝓤 : URA M) (H : Heap 𝓤) (A : Atoms 𝓤) (W : Given
       fsplit ! $ use1 W (‵ (ShrSlice (named 1) κ₁ u64 .own ts (vt ∷ [])) ⊛ ‵ (ShrSlice (named 1) κ₁ u64 .own ts (vt ∷ []))) (shr-slice-copy 𝓤 H A W (named 1) κ₁ u64 .twice ts (vt ∷ [])) $ split ! $
       move ! (2 ∷ []) $ fsplit ! $ use1 W (‵ (ShrSlice (named 2) κ₂ u64 .own ss (vs ∷ [])) ⊛ ‵ (ShrSlice (named 2) κ₂ u64 .own ss (vs ∷ []))) (shr-slice-copy 𝓤 H A W (named 2) κ₂ u64 .twice ss (vs ∷ [])) $ split ! $
       move ! (2 ∷ []) $ fsplit ! $ use1 W (‵ (ShrSlice (named 3) κ₃ u64 .own ms (vm ∷ [])) ⊛ ‵ (ShrSlice (named 3) κ₃ u64 .own ms (vm ∷ []))) (shr-slice-copy 𝓤 H A W (named 3) κ₃ u64 .twice ms (vm ∷ [])) $ split ! $
-      -- [m; m; true; s; s; t; t]
-      move ! (0 ∷ 2 ∷ []) $ fjoin ! $ move ! (2 ∷ 0 ∷ []) $ fjoin ! $ move ! (3 ∷ 0 ∷ []) $ fjoin ! $
-      -- [what the slices own; m; s; t]
-      nothing ! $ move ! (2 ∷ 0 ∷ []) $ fjoin ! $ move ! (2 ∷ 0 ∷ []) $ fjoin ! $ move ! (2 ∷ 0 ∷ []) $ fjoin ! $ frame ! $ done !
+      move ! (2 ∷ []) $ fsplit ! $ use1 W (‵ (ShrSlice (named 4) κ₄ u8 .own ps (vp ∷ [])) ⊛ ‵ (ShrSlice (named 4) κ₄ u8 .own ps (vp ∷ []))) (shr-slice-copy 𝓤 H A W (named 4) κ₄ u8 .twice ps (vp ∷ [])) $ split ! $
+      -- [p; p; true; m; m; s; s; t; t]
+      move ! (0 ∷ 2 ∷ []) $ fjoin ! $ move ! (2 ∷ 0 ∷ []) $ fjoin ! $ move ! (3 ∷ 0 ∷ []) $ fjoin ! $ move ! (4 ∷ 0 ∷ []) $ fjoin ! $
+      -- [what the slices own; p; m; s; t]
+      nothing ! $ move ! (2 ∷ 0 ∷ []) $ fjoin ! $ move ! (2 ∷ 0 ∷ []) $ fjoin ! $ move ! (2 ∷ 0 ∷ []) $ fjoin ! $ move ! (2 ∷ 0 ∷ []) $ fjoin ! $ frame ! $ done !
 
   exits : (r : Reply) → Is J.the-row (r .judgement) (machJ r ∷ []) → Said r
       → ent 𝓤 (⋆ 𝓤 H A (‵ (fobs γ (T.the-row .coded .code (r .party))) ∷ ‵ (fbor κ (Body (mem T.the-row) b o γ)) ∷ ‵ (flft κ q) ∷ toks ∷ ‵ Rest ∷ [])) (Post (machJ r))
   exits r is e =
       qed W (‵ (fobs γ (T.the-row .coded .code (r .party))) ∷ ‵ (fbor κ (Body (mem T.the-row) b o γ)) ∷ ‵ (flft κ q) ∷ toks ∷ ‵ Rest ∷ []) ∵
-      suffices ! _ (ends-at 𝓤 H A step.ended stayed (step.clauses 𝓤 H A at-mem run) W (((κ, (κ₁, (κ₂, (κ₃, tt)))), (q, (q₁, (q₂, (q₃, tt)))), tt, x, at), tt) (machJ r) (r .judgement) (r .party, (tt, (tt, (tt, tt)))) (tt, (tt, (tt, (tt, tt))))) $
+      suffices ! _ (ends-at 𝓤 H A step.ended stayed (step.clauses 𝓤 H A at-mem run) W (((κ, (κ₁, (κ₂, (κ₃, (κ₄, tt))))), (q, (q₁, (q₂, (q₃, (q₄, tt))))), tt, x, at), tt) (machJ r) (r .judgement) (r .party, (tt, (tt, (tt, (tt, tt))))) (tt, (tt, (tt, (tt, (tt, tt)))))) $
       says ! (ap judged-as e, ap record-of e) $ move ! (2 ∷ 3 ∷ []) $ join ! $ frame ! $
       feqI ! (List Val) (vptr b o ∷ []) (vptr b o ∷ []) refl $ fjoin3 ! $ fjoin ! $ frame ! $ owned ! J.the-row (Is J.the-row) ((EL.makes J.the-type J′.the-plain) 𝓤 H A) (r .judgement) _ is $ done !
 
   abbrev to : Callee 𝓤 H A at-mem run .Ghost
-  to = (((κ₁, (κ₂, (κ₃, tt))), (q₁, (q₂, (q₃, tt))), tt, (h, (ts, (ss, (ms, tt)))), (mach ∷ [], (vt ∷ [], (vs ∷ [], (vm ∷ [], tt))))), tt)
+  to = (((κ₁, (κ₂, (κ₃, (κ₄, tt)))), (q₁, (q₂, (q₃, (q₄, tt)))), tt, (h, (ts, (ss, (ms, (ps, tt))))), (mach ∷ [], (vt ∷ [], (vs ∷ [], (vm ∷ [], (vp ∷ [], tt)))))), tt)
 
   goes-in : ent 𝓤 (⋆ 𝓤 H A (toks ∷ ‵ (T.the-row .own h (mach ∷ [])) ∷ ‵ Rest ∷ [])) (Callee 𝓤 H A at-mem run .pre to)
   goes-in = qed W (toks ∷ ‵ (T.the-row .own h (mach ∷ [])) ∷ ‵ Rest ∷ []) ∵ move ! (1 ∷ 2 ∷ []) $ fjoin ! $ move ! (1 ∷ 0 ∷ []) $ join ! $ frame ! $ done !
 
   -- of the callee's `ensured`, the clause alone
-  got : (r : Reply) → ent 𝓤 (ensured 𝓤 H A callee.ended (callee.clauses 𝓤 H A at-mem run) (κ₁, (κ₂, (κ₃, tt))) (h, (ts, (ss, (ms, tt)))) tt r) (fact 𝓤 (Said r))
-  got r = exE 𝓤 _ (λ ls. snd∗ 𝓤 (sem 𝓤 H A (lasts callee.ended (κ₁, (κ₂, (κ₃, tt))) (h, (ts, (ss, (ms, tt)))) ls)) (fact 𝓤 (Said r)))
+  got : (r : Reply) → ent 𝓤 (ensured 𝓤 H A callee.ended (callee.clauses 𝓤 H A at-mem run) (κ₁, (κ₂, (κ₃, (κ₄, tt)))) (h, (ts, (ss, (ms, (ps, tt))))) tt r) (fact 𝓤 (Said r))
+  got r = exE 𝓤 _ (λ ls. snd∗ 𝓤 (sem 𝓤 H A (lasts callee.ended (κ₁, (κ₂, (κ₃, (κ₄, tt)))) (h, (ts, (ss, (ms, (ps, tt))))) ls)) (fact 𝓤 (Said r)))
 
   module _ (C : Calls 𝓤 H) (Λ : Loops 𝓤 H) (fm : FmC 𝓤 H (W .laws) C) (known : Triple 𝓤 (C #callee) (Callee 𝓤 H A at-mem run)) where
-    walk : Is (ShrSlice (named 1) κ₁ u64) ts (vt ∷ []) → Is (ShrSlice (named 2) κ₂ u64) ss (vs ∷ []) → Is (ShrSlice (named 3) κ₃ u64) ms (vm ∷ [])
-        → ent 𝓤 (onEntry 𝓤 H A step.signature (κ, (κ₁, (κ₂, (κ₃, tt)))) (q, (q₁, (q₂, (q₃, tt)))) x at) (WpFn 𝓤 H C Λ code.function (vptr b o ∷ vt ∷ vs ∷ vm ∷ []) Post)
-    walk ist iss ism =
-        qed W ((‵ (flft κ q) ⊛ toks) ∷ ‵ (owns (MutRef (named 0) κ T.the-row ∷ ShrSlice (named 1) κ₁ u64 ∷ ShrSlice (named 2) κ₂ u64 ∷ ShrSlice (named 3) κ₃ u64 ∷ []) x at) ∷ []) ∵ split ! $ move ! (2 ∷ []) $ fsplit ! $ fsplit3 ! $ drop ! $
+    walk : Is (ShrSlice (named 1) κ₁ u64) ts (vt ∷ []) → Is (ShrSlice (named 2) κ₂ u64) ss (vs ∷ []) → Is (ShrSlice (named 3) κ₃ u64) ms (vm ∷ []) → Is (ShrSlice (named 4) κ₄ u8) ps (vp ∷ [])
+        → ent 𝓤 (onEntry 𝓤 H A step.signature (κ, (κ₁, (κ₂, (κ₃, (κ₄, tt))))) (q, (q₁, (q₂, (q₃, (q₄, tt))))) x at) (WpFn 𝓤 H C Λ code.function (vptr b o ∷ vt ∷ vs ∷ vm ∷ vp ∷ []) Post)
+    walk ist iss ism isp =
+        qed W ((‵ (flft κ q) ⊛ toks) ∷ ‵ (owns (MutRef (named 0) κ T.the-row ∷ ShrSlice (named 1) κ₁ u64 ∷ ShrSlice (named 2) κ₂ u64 ∷ ShrSlice (named 3) κ₃ u64 ∷ ShrSlice (named 4) κ₄ u8 ∷ []) x at) ∷ []) ∵ split ! $ move ! (2 ∷ []) $ fsplit ! $ fsplit3 ! $ drop ! $
         move ! (2 ∷ []) $ use1 W (‵ Rest ⊛ ‵ Rest) twice $ split ! $ move ! (2 ∷ 3 ∷ 4 ∷ []) $
         -- [obs; the borrow; the token; what the slices own; the same; their tokens]
-        enter ! C Λ code.function (vptr b o ∷ vt ∷ vs ∷ vm ∷ []) _ $
-        alloc1 ! (λ l₀. alloc1 ! (λ l₁. alloc1 ! (λ l₂. alloc1 ! (λ l₃. alloc1 ! (λ l₄. alloc1 ! (λ l₅. alloc1 ! (λ l₆. alloc0 ! $ params1 ! $
-        pass1 ! (init ! 10 refl (tt, tt)) $
-        pass1 ! (init ! 8 refl (shr-slice-lawful 𝓤 H A W (named 1) κ₁ u64 .typed ts (vt ∷ []) ist .0)) $
-        pass1 ! (init ! 6 refl (shr-slice-lawful 𝓤 H A W (named 2) κ₂ u64 .typed ss (vs ∷ []) iss .0)) $
-        pass1 ! (init ! 4 refl (shr-slice-lawful 𝓤 H A W (named 3) κ₃ u64 .typed ms (vm ∷ []) ism .0)) $ pass0 ! $
-        move ! (14 ∷ 15 ∷ 16 ∷ []) $ opens ! tt T.the-row {h = h} b o (λ was-vals. spelt ! T.the-row (Is T.the-row) (shows 𝓤 H A T.the-row) (LL.vals T.the-type T′.the-laws) (LL.tells T.the-type T′.the-laws) fullShare h was-vals b o $
+        enter ! C Λ code.function (vptr b o ∷ vt ∷ vs ∷ vm ∷ vp ∷ []) _ $
+        alloc1 ! (λ l₀. alloc1 ! (λ l₁. alloc1 ! (λ l₂. alloc1 ! (λ l₃. alloc1 ! (λ l₄. alloc1 ! (λ l₅. alloc1 ! (λ l₆. alloc1 ! (λ l₇. alloc0 ! $ params1 ! $
+        pass1 ! (init ! 12 refl (tt, tt)) $
+        pass1 ! (init ! 10 refl (shr-slice-lawful 𝓤 H A W (named 1) κ₁ u64 .typed ts (vt ∷ []) ist .0)) $
+        pass1 ! (init ! 8 refl (shr-slice-lawful 𝓤 H A W (named 2) κ₂ u64 .typed ss (vs ∷ []) iss .0)) $
+        pass1 ! (init ! 6 refl (shr-slice-lawful 𝓤 H A W (named 3) κ₃ u64 .typed ms (vm ∷ []) ism .0)) $
+        pass1 ! (init ! 4 refl (shr-slice-lawful 𝓤 H A W (named 4) κ₄ u8 .typed ps (vp ∷ []) isp .0)) $ pass0 ! $
+        move ! (16 ∷ 17 ∷ 18 ∷ []) $ opens ! tt T.the-row {h = h} b o (λ was-vals. spelt ! T.the-row (Is T.the-row) (shows 𝓤 H A T.the-row) (LL.vals T.the-type T′.the-laws) (LL.tells T.the-type T′.the-laws) fullShare h was-vals b o $
         move ! (1 ∷ []) $ peeks ! T.the-row (Is T.the-row) (shows 𝓤 H A T.the-row) h (mach ∷ []) (λ was. move ! (1 ∷ 0 ∷ []) $
-        -- [the cell; what a Party owns; the open borrow; obs; auth; _6; …; _5; …; _4; …; _3; …; _2; …; _1; …; room for _0; …; what the slices own; the same; their tokens]
-        assigns ! (of-opd ! (load ! (from ! (hop ! (look ! 15 refl) (stop !))) (look-raw ! 0 refl))) (from ! (stop !)) (init ! 5 refl (LL.lawful T.the-type T′.the-laws 𝓤 H A W .typed h _ was .0)) $
-        move ! (21 ∷ 1 ∷ 19 ∷ []) $ use3 W (raw (Callee 𝓤 H A at-mem run .pre to)) goes-in $
+        -- [the cell; what a Party owns; the open borrow; obs; auth; _7; …; _6; …; _5; …; _4; …; _3; …; _2; …; _1; …; room for _0; …; what the slices own; the same; their tokens]
+        assigns ! (of-opd ! (load ! (from ! (hop ! (look ! 17 refl) (stop !))) (look-raw ! 0 refl))) (from ! (stop !)) (init ! 5 refl (LL.lawful T.the-type T′.the-laws 𝓤 H A W .typed h _ was .0)) $
+        move ! (23 ∷ 1 ∷ 21 ∷ []) $ use3 W (raw (Callee 𝓤 H A at-mem run .pre to)) goes-in $
         calls-at ! fm (Callee 𝓤 H A at-mem run) known to
-        (and-then ! (load ! (from ! (stop !)) (look ! 5 refl)) (and-then ! (load ! (from ! (stop !)) (look ! 13 refl)) (and-then ! (load ! (from ! (stop !)) (look ! 11 refl)) (and-then ! (load ! (from ! (stop !)) (look ! 9 refl)) (no-more !))))) (λ v.
-        use1 W (later (some (λ (r : Reply). (toks ⊛ ‵ (R.the-row .own r (v ∷ []))) ⊛ raw (ensured 𝓤 H A callee.ended (callee.clauses 𝓤 H A at-mem run) (κ₁, (κ₂, (κ₃, tt))) (h, (ts, (ss, (ms, tt)))) tt r)))) (id⊢ 𝓤 _) $ await ! tt $ pick ! (λ r.
+        (and-then ! (load ! (from ! (stop !)) (look ! 5 refl)) (and-then ! (load ! (from ! (stop !)) (look ! 15 refl)) (and-then ! (load ! (from ! (stop !)) (look ! 13 refl)) (and-then ! (load ! (from ! (stop !)) (look ! 11 refl)) (and-then ! (load ! (from ! (stop !)) (look ! 9 refl)) (no-more !)))))) (λ v.
+        use1 W (later (some (λ (r : Reply). (toks ⊛ ‵ (R.the-row .own r (v ∷ []))) ⊛ raw (ensured 𝓤 H A callee.ended (callee.clauses 𝓤 H A at-mem run) (κ₁, (κ₂, (κ₃, (κ₄, tt)))) (h, (ts, (ss, (ms, (ps, tt))))) tt r)))) (id⊢ 𝓤 _) $ await ! tt $ pick ! (λ r.
         split ! $ move ! (1 ∷ []) $ use1 W (raw (fact 𝓤 (Said r))) (got r) $ heard ! (Said r) (λ e. split ! $ move ! (1 ∷ []) $
         peeks ! R.the-row (Is R.the-row) (shows 𝓤 H A R.the-row) r (v ∷ []) (λ is.
-        -- [what r owns; the slices' tokens; the cell; the open borrow; obs; auth; _6; …; _5; …; _4; …; _3; …; _2; …; _1; …; room for _0; …; what the slices own]
+        -- [what r owns; the slices' tokens; the cell; the open borrow; obs; auth; _7; …; _6; …; _5; …; _4; …; _3; …; _2; …; _1; …; room for _0; …; what the slices own]
         land ! (from ! (stop !)) (init ! 8 refl (LL.lawful R.the-type R′.the-laws 𝓤 H A W .typed r _ is .0)) $
-        rewrite ! 8 (λ (u : Val). ‵ (fat fullShare R′.mir l₅ 0 u)) (ap only (LL.tells R.the-type R′.the-laws r (v ∷ []) is)) refl $
-        assigns ! (of-opd ! (load ! (from ! (fld ! refl (stop !))) (look-in ! 8 (sub ! 1 refl (whole !))))) (from ! (hop ! (look ! 16 refl) (stop !)))
+        rewrite ! 8 (λ (u : Val). ‵ (fat fullShare R′.mir l₆ 0 u)) (ap only (LL.tells R.the-type R′.the-laws r (v ∷ []) is)) refl $
+        assigns ! (of-opd ! (load ! (from ! (fld ! refl (stop !))) (look-in ! 8 (sub ! 1 refl (whole !))))) (from ! (hop ! (look ! 18 refl) (stop !)))
         (store-raw ! 2 refl (LL.lawful T.the-type T′.the-laws 𝓤 H A W .typed (r .party) _ (LL.owed R.the-type R′.the-laws r _ is .1 .0) .0)) $
         assigns ! (of-opd ! (load ! (from ! (fld ! refl (stop !))) (look-in ! 8 (sub ! 0 refl (whole !))))) (from ! (stop !))
-        (init ! 18 refl (EL.lawful J.the-type J′.the-laws 𝓤 H A W tt .typed (r .judgement) _ (LL.owed R.the-type R′.the-laws r _ is .0) .0)) $
+        (init ! 20 refl (EL.lawful J.the-type J′.the-laws 𝓤 H A W tt .typed (r .judgement) _ (LL.owed R.the-type R′.the-laws r _ is .0) .0)) $
         drop ! $ owned ! T.the-row (Is T.the-row) ((LL.makes T.the-type T′.the-plain) 𝓤 H A) (r .party) _ (LL.owed R.the-type R′.the-laws r _ is .1 .0) $
         move ! (2 ∷ 0 ∷ 3 ∷ 4 ∷ 5 ∷ []) $ closes ! tt T.the-row (r .party) (machP r ∷ []) b o $
-        -- [obs; the borrow; the token; the slices' tokens; _6; …; _5; …; _4; …; _3; …; _2; …; _1; …; _0; …; what the slices own]
-        returns ! (look ! 16 refl) $ forget ! 4 refl $ forget ! 6 refl $ forget ! 8 refl $ forget ! 10 refl $ forget ! 12 refl $ forget ! 14 refl $ forget ! 16 refl $
-        move ! (16 ∷ 17 ∷ []) $ free1 ! $ move ! (14 ∷ 15 ∷ []) $ free1 ! $ move ! (12 ∷ 13 ∷ []) $ free1 ! $ move ! (10 ∷ 11 ∷ []) $ free1 ! $ move ! (8 ∷ 9 ∷ []) $ free1 ! $ move ! (6 ∷ 7 ∷ []) $ free1 ! $ move ! (4 ∷ 5 ∷ []) $ free1 ! $ free0 ! $
-        keep ! (0 ∷ 1 ∷ 2 ∷ 3 ∷ 4 ∷ []) $ by ! (exits r (LL.owed R.the-type R′.the-laws r _ is .0) e))))))))))))))
+        -- [obs; the borrow; the token; the slices' tokens; _7; …; _6; …; _5; …; _4; …; _3; …; _2; …; _1; …; _0; …; what the slices own]
+        returns ! (look ! 18 refl) $ forget ! 4 refl $ forget ! 6 refl $ forget ! 8 refl $ forget ! 10 refl $ forget ! 12 refl $ forget ! 14 refl $ forget ! 16 refl $ forget ! 18 refl $
+        move ! (18 ∷ 19 ∷ []) $ free1 ! $ move ! (16 ∷ 17 ∷ []) $ free1 ! $ move ! (14 ∷ 15 ∷ []) $ free1 ! $ move ! (12 ∷ 13 ∷ []) $ free1 ! $ move ! (10 ∷ 11 ∷ []) $ free1 ! $ move ! (8 ∷ 9 ∷ []) $ free1 ! $ move ! (6 ∷ 7 ∷ []) $ free1 ! $ move ! (4 ∷ 5 ∷ []) $ free1 ! $ free0 ! $
+        keep ! (0 ∷ 1 ∷ 2 ∷ 3 ∷ 4 ∷ []) $ by ! (exits r (LL.owed R.the-type R′.the-laws r _ is .0) e)))))))))))))))
 
 module _ {M : Type 1} (𝓤 : URA M) (H : Heap 𝓤) (A : Atoms 𝓤) (W : Given 𝓤 H A) (at-mem : Memory → SProp 𝓤) (run : Routine → Fun 𝓤) where
   step-walks : (C : Calls 𝓤 H) (Λ : Loops 𝓤 H) → FmC 𝓤 H (W .laws) C → Triple 𝓤 (C #callee) (Callee 𝓤 H A at-mem run) → Walks 𝓤 H A step.ended stayed (WpFn 𝓤 H C Λ code.function) (step.clauses 𝓤 H A at-mem run)
   step-walks C Λ fm known =
-      walked 𝓤 H A step.ended stayed (step.clauses 𝓤 H A at-mem run) (WpFn 𝓤 H C Λ code.function) (λ κs. (ptr-vals, (slice-vals, (slice-vals, (slice-vals, tt)))))
-      (λ κs. (mut-tells (named 0) (κs .0) T.the-row, (shr-slice-tells (named 1) (κs .1 .0) u64, (shr-slice-tells (named 2) (κs .1 .1 .0) u64, (shr-slice-tells (named 3) (κs .1 .1 .1 .0) u64, tt)))))
+      walked 𝓤 H A step.ended stayed (step.clauses 𝓤 H A at-mem run) (WpFn 𝓤 H C Λ code.function) (λ κs. (ptr-vals, (slice-vals, (slice-vals, (slice-vals, (slice-vals, tt))))))
+      (λ κs. (mut-tells (named 0) (κs .0) T.the-row, (shr-slice-tells (named 1) (κs .1 .0) u64, (shr-slice-tells (named 2) (κs .1 .1 .0) u64, (shr-slice-tells (named 3) (κs .1 .1 .1 .0) u64, (shr-slice-tells (named 4) (κs .1 .1 .1 .1 .0) u8, tt))))))
       (λ κs qs bounds a _ are. via 𝓤 _ (fst∗ 𝓤 _ (emp 𝓤))
-      (walk 𝓤 H A W at-mem run (κs .0) (κs .1 .0) (κs .1 .1 .0) (κs .1 .1 .1 .0) (qs .0) (qs .1 .0) (qs .1 .1 .0) (qs .1 .1 .1 .0) (a .0 .ptr .0) (a .0 .ptr .1) (a .0 .name) (a .0 .now) (a .1 .0) (a .1 .1 .0) (a .1 .1 .1 .0) C Λ fm known (are .1 .0) (are .1 .1 .0) (are .1 .1 .1 .0)))
+      (walk 𝓤 H A W at-mem run (κs .0) (κs .1 .0) (κs .1 .1 .0) (κs .1 .1 .1 .0) (κs .1 .1 .1 .1 .0) (qs .0) (qs .1 .0) (qs .1 .1 .0) (qs .1 .1 .1 .0) (qs .1 .1 .1 .1 .0) (a .0 .ptr .0) (a .0 .ptr .1) (a .0 .name) (a .0 .now) (a .1 .0) (a .1 .1 .0) (a .1 .1 .1 .0) (a .1 .1 .1 .1 .0) C Λ fm known (are .1 .0) (are .1 .1 .0) (are .1 .1 .1 .0) (are .1 .1 .1 .1 .0)))
 
-  goes : AllGo 𝓤 H A W 4 (step.signature .params) (step.ended .kept) stayed
+  goes : AllGo 𝓤 H A W 5 (step.signature .params) (step.ended .kept) stayed
   goes =
-      (goes-ref 𝓤 H A W 4 0 tt (plain (λ _. T.the-row)), (goes-none-slice 𝓤 H A W 4 (1 ∷ []) tt (plain (λ _. u64)) yes, (goes-none-slice 𝓤 H A W 4 (2 ∷ []) tt (plain (λ _. u64)) yes, (goes-none-slice 𝓤 H A W 4 (3 ∷ []) tt (plain (λ _. u64)) yes, tt))))
+      (goes-ref 𝓤 H A W 5 0 tt (plain (λ _. T.the-row)), (goes-none-slice 𝓤 H A W 5 (1 ∷ []) tt (plain (λ _. u64)) yes, (goes-none-slice 𝓤 H A W 5 (2 ∷ []) tt (plain (λ _. u64)) yes, (goes-none-slice 𝓤 H A W 5 (3 ∷ []) tt (plain (λ _. u64)) yes, (goes-none-slice 𝓤 H A W 5 (4 ∷ []) tt (plain (λ _. u8)) yes, tt)))))
 
 step-meets : {M : Type 1} (𝓤 : URA M) (H : Heap 𝓤) (A : Atoms 𝓤) → Given 𝓤 H A → (at-mem : Memory → SProp 𝓤) (run : Routine → Fun 𝓤) (𝓣 : Tables 𝓤 H) → Triple 𝓤 (𝓣 .C #callee) (Callee 𝓤 H A at-mem run)
     → Meets 𝓤 H A step.signature (WpFn 𝓤 H (𝓣 .C) (𝓣 .Λ) code.function) (step.spec 𝓤 H A at-mem run)

@@ -33,7 +33,7 @@ returns c i h =
     let s = c .before .before .before .before .before .before .before in
     let a = s .args in
     c .hear-all .ensures i h
-    ∙ ap (λ (x : List ℕ). heard-by (a .k) (a .parties) (a .totals .now) (a .sheets .now) x i)
+    ∙ ap (λ (x : List ℕ). heard-by (a .n) (a .k) (a .parties) (a .totals .now) (a .sheets .now) x i)
     (prefix-is _ _ (c .before .before .before .say-all .last .1 .1 .1 .1 .1 .0) (s .pre .0) (c .before .before .messages2 .given) ∙ c .before .before .before .say-all .ensures)
 
 pub round-spec : {M : Type 1} → statement M

@@ -26,21 +26,21 @@ mul-at c = search needs
 
 -- there is room for the party's sheets
 fits : (c : tie.After-most-probes)
-    → c .before .before .before .before .args .i * (127 * c .most-probes .result) + 127 * c .most-probes .result ≤ length (c .before .before .before .before .args .sheets .now)
+    → c .before .before .before .before .before .args .i * (127 * c .most-probes .result) + 127 * c .most-probes .result ≤ length (c .before .before .before .before .before .args .sheets .now)
 fits c =
-    let s = c .before .before .before .before in
+    let s = c .before .before .before .before .before in
     let e : s .args .i * (127 * most-probes (s .args .k)) + 127 * most-probes (s .args .k) ≡ s .args .i * (127 * c .most-probes .result) + 127 * c .most-probes .result =
     ap (λ (z : ℕ). s .args .i * (127 * z) + 127 * z) (sym (c .most-probes .ensures)) in
     omega (arith, e, s .pre .3)
 
 mul-from : tie.Need-mul-from
-mul-from c = omega (arith, fits c, c .before .before .before .before .good)
+mul-from c = omega (arith, fits c, c .before .before .before .before .before .good)
 
 add-next : tie.Need-add-next
 add-next c = search needs
 
 add-to : tie.Need-add-to
-add-to c = omega (arith, fits c, c .before .before .before .before .good)
+add-to c = omega (arith, fits c, c .before .before .before .before .before .good)
 
 mul-hear : tie.Need-mul-hear
 mul-hear c = search needs
@@ -75,12 +75,12 @@ returned-requires c κs = search needs
 returns : tie.Need-returns
 returns c =
     let m = c .before .before .before .before .most-probes in
-    let a = c .before .before .before .before .before .before .before .before .args in
+    let a = c .before .before .before .before .before .before .before .before .before .args in
     let v : a .i * (2 * a .k) + 2 * a .k - a .i * (2 * a .k) ≡ 2 * a .k = omega arith in
     let w : a .i * (127 * m .result) + 127 * m .result - a .i * (127 * m .result) ≡ 127 * most-probes (a .k) = omega (arith, m .ensures) in
     let x = part-read (2 * a .k) (a .i) (a .i * (2 * a .k)) _ (a .totals .now) refl v in
     let y = part-read (127 * most-probes (a .k)) (a .i) (a .i * (127 * m .result)) _ (a .sheets .now) (ap (λ (z : ℕ). a .i * (127 * z)) (m .ensures)) w in
-    c .returned .ensures ∙ ap (λ (r : Reply). r .party) (c .before .hear .ensures) ∙ ap₂ (λ (x y : List ℕ). hear-reply (a .q) x y (a .messages .now) .party) x y
+    c .returned .ensures ∙ ap (λ (r : Reply). r .party) (c .before .hear .ensures) ∙ ap₂ (λ (x y : List ℕ). hear-reply (a .q) x y (a .messages .now) (a .present .now) .party) x y
 
 pub hear-one-spec : {M : Type 1} → statement M
 hear-one-spec =

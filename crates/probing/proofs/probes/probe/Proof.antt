@@ -46,7 +46,7 @@ loop-again c =
     let a = c .before .before .before .before .before .args in (
       omega arith,
       λ bids d A C here s ss R H.
-          round-stands _ d _ _ _ (step-at _ d A C here s ss R (l .i) (c .before .loop-test .taken)) (l .after) (a .totals .now) (a .sheets .now) (l .inv .1 bids d A C here s ss R H) (c .round .result) (c .round .ensures),
+          round-stands _ d A _ _ _ _ (step-at _ d A C here s ss R (l .i) (c .before .loop-test .taken)) (l .after) (a .totals .now) (a .sheets .now) (l .inv .1 bids d A C here s ss R H) (c .round .result) (c .round .ensures),
     )
 
 round-requires-2 : tie.Need-round-requires-2 Inv-loop μ-loop
@@ -57,7 +57,7 @@ returns c = λ bids d A C here s ss R H.
     let l = c .before .before .loop in
     let a = c .before .before .before .before .before .args in
     let e : l .i ≡ 32 = omega (arith, c .before .loop-test .left, l .inv .0) in
-    round-stands _ d _ _ _ (step-last _ d A C here s ss R) (l .after) (a .totals .now) (a .sheets .now) (rw e at (l .inv .1 bids d A C here s ss R H)) (c .round2 .result) (c .round2 .ensures)
+    round-stands _ d A _ _ _ _ (step-last _ d A C here s ss R) (l .after) (a .totals .now) (a .sheets .now) (rw e at (l .inv .1 bids d A C here s ss R H)) (c .round2 .result) (c .round2 .ensures)
 
 pub probe-spec : {M : Type 1} → statement M
 probe-spec =

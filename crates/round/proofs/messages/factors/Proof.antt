@@ -5,14 +5,14 @@ use Rattle.round.specs.Round.{factors-of}
 use Rattle.round.proofs.messages.factors.Statement.{statement}
 use Rattle.round.proofs.messages.factors.Tie as tie
 
-open-pair-requires : tie.Need-open-pair-requires
-open-pair-requires c κs = search needs
+open-present-pair-requires : tie.Need-open-present-pair-requires
+open-present-pair-requires c κs = search needs
 
 factors-of-requires : tie.Need-factors-of-requires
 factors-of-requires c κs = search needs
 
 returns : tie.Need-returns
-returns c = c .factors-of .ensures ∙ ap₂ factors-of (c .before .open-pair .ensures .0) (c .before .open-pair .ensures .1)
+returns c = c .factors-of .ensures ∙ ap₂ factors-of (c .before .open-present-pair .ensures .0) (c .before .open-present-pair .ensures .1)
 
 pub factors-spec : {M : Type 1} → statement M
-factors-spec = tie.close (tie.spec open-pair-requires factors-of-requires returns)
+factors-spec = tie.close (tie.spec open-present-pair-requires factors-of-requires returns)

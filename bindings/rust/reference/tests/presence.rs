@@ -1,0 +1,237 @@
+//! Hearing by marks: which words count, and in what order a hearing is judged.
+
+use clockivy_hearings::{choices, count, refused, Hearing};
+use clockivy_reference::field::amount::P;
+use clockivy_reference::field::{amount, byte};
+use clockivy_reference::{hear, say, sheet_count, threshold, LAST_ROUND, RECORD, SHEET};
+
+/// The places of a record's fields.
+const ROUND: usize = 7;
+const SUM: usize = 8;
+const SEARCH: usize = 26;
+
+/// A hearing of this round over two prices. The messages open to these, the two
+/// bytes apart in rounds 2 to 32; all are present.
+fn hearing(n: u64, own: u64, round: u64, opened: u64) -> Hearing {
+    let mut record = vec![0; RECORD];
+    record[..ROUND].copy_from_slice(&[n, own, 2, 0, 0, 3, 0]);
+    record[ROUND] = round;
+    record[SEARCH] = 1;
+    let t = threshold(n);
+    let messages = (1..=n)
+        .map(|point| {
+            let bytes: Vec<u8> = (0..t).map(|i| 0x35 + 7 * i as u8).collect();
+            let share = |secret: u64| byte::share(secret as u8, &bytes, point as u8);
+            let low = u64::from(share(opened % 256));
+            match round {
+                1 => amount::share(opened, &vec![P / 3; t], point),
+                LAST_ROUND => low,
+                _ => low + 256 * u64::from(share(opened / 256)),
+            }
+        })
+        .collect();
+    let mut hearing = Hearing {
+        record,
+        totals: vec![0; 4],
+        sheets: vec![0; SHEET * sheet_count(2) as usize],
+        messages,
+        present: vec![1; n as usize],
+    };
+    // The own word is what the party says, by its sheet.
+    let wanted = hearing.messages[own as usize - 1];
+    let word = said(&hearing);
+    match round {
+        1 => hearing.sheets[0] = amount::sub(word, wanted),
+        LAST_ROUND => hearing.sheets[33] = word ^ wanted,
+        _ => {
+            let triple = 34 + 3 * (round as usize - 2);
+            hearing.sheets[triple] = (word ^ wanted) % 256;
+            hearing.sheets[triple + 1] = (word ^ wanted) / 256;
+        }
+    }
+    assert_eq!(said(&hearing), wanted);
+    hearing
+}
+
+fn said(h: &Hearing) -> u64 {
+    let mut message = 0;
+    assert_eq!(say(&h.record, &h.totals, &h.sheets, &mut message), 0);
+    message
+}
+
+/// The reply, and the record that is left: as it was, where it is refused.
+fn heard(h: &Hearing) -> (u64, Vec<u64>) {
+    let mut record = h.record.clone();
+    let reply = hear(&mut record, &h.totals, &h.sheets, &h.messages, &h.present);
+    assert!(reply == 0 || record == h.record);
+    (reply, record)
+}
+
+fn reply(h: &Hearing) -> u64 {
+    heard(h).0
+}
+
+/// What the messages of each kind of round open to, and are accepted.
+const ROUNDS: [(u64, u64); 4] = [(1, (1 << 59) + 77), (2, 0x5A_C3), (32, 0), (33, 1)];
+
+#[test]
+fn any_t_plus_1_or_more_open_to_the_same_and_fewer_are_refused() {
+    for n in 3..=9 {
+        for (round, opened) in ROUNDS {
+            for own in [1, n / 2, n] {
+                let mut hearing = hearing(n, own, round, opened);
+                let (done, left) = heard(&hearing);
+                assert_eq!(done, 0);
+                if round == 1 {
+                    assert_eq!(left[SUM], opened);
+                }
+                for present in choices(n) {
+                    hearing.present = present;
+                    let count = count(&hearing.present);
+                    if count > threshold(n) {
+                        assert_eq!(heard(&hearing), (0, left.clone()));
+                    } else {
+                        assert_eq!(reply(&hearing), 15);
+                    }
+                }
+            }
+        }
+    }
+}
+
+#[test]
+fn what_stands_in_an_unmarked_place_changes_nothing() {
+    for n in 3..=9 {
+        for (round, opened) in ROUNDS {
+            let hearing = hearing(n, 1, round, opened);
+            for present in choices(n) {
+                let mut changed = hearing.clone();
+                changed.present = present;
+                let expected = heard(&changed);
+                for word in [0, 255, 256, 65_536, P - 1, P, u64::MAX] {
+                    for (message, mark) in changed.messages.iter_mut().zip(&changed.present) {
+                        if *mark == 0 {
+                            *message = word;
+                        }
+                    }
+                    assert_eq!(heard(&changed), expected);
+                }
+            }
+        }
+    }
+}
+
+#[test]
+fn one_altered_word_is_noticed_where_more_than_t_plus_1_are_present() {
+    for n in 3..=9 {
+        for (round, opened) in ROUNDS {
+            let hearing = hearing(n, 1, round, opened);
+            for present in choices(n) {
+                let count = count(&present);
+                if count <= threshold(n) {
+                    continue;
+                }
+                for place in (1..n as usize).filter(|&place| present[place] == 1) {
+                    let mut altered = hearing.clone();
+                    altered.present = present.clone();
+                    altered.messages[place] ^= 1;
+                    if count > threshold(n) + 1 {
+                        assert_eq!(reply(&altered), 10);
+                    } else {
+                        // It opens, to something else, which may be no sum and
+                        // no verdict.
+                        assert!([0, 11, 12].contains(&reply(&altered)));
+                    }
+                    // Out of range is out of range with any number.
+                    altered.messages[place] = u64::MAX;
+                    assert_eq!(reply(&altered), 10);
+                }
+            }
+        }
+    }
+}
+
+/// A hearing of five parties in round 1 whose messages open to this: the third is
+/// away and the fourth hears.
+fn of_five(opened: u64) -> Hearing {
+    let mut hearing = hearing(5, 4, 1, opened);
+    hearing.present[2] = 0;
+    hearing.messages[2] = u64::MAX;
+    hearing
+}
+
+#[test]
+fn every_way_to_be_refused_and_any_two() {
+    let good = of_five(ROUNDS[0].1);
+    assert_eq!(reply(&good), 0);
+    for (hearing, number) in refused(&good) {
+        assert_eq!(reply(&hearing), number, "{hearing:?}");
+    }
+    // What the messages open to is judged last.
+    let no_sum = of_five(7);
+    assert_eq!(reply(&no_sum), 11);
+    for (hearing, number) in refused(&no_sum) {
+        assert_eq!(reply(&hearing), number, "{hearing:?}");
+    }
+}
+
+#[test]
+fn a_verdict_that_is_no_bit() {
+    for opened in [2, 3, 128, 255] {
+        for present in choices(5) {
+            let mut hearing = hearing(5, 2, LAST_ROUND, opened);
+            hearing.present = present;
+            let many = count(&hearing.present);
+            assert_eq!(reply(&hearing), if many > 2 { 12 } else { 15 });
+        }
+    }
+}
+
+/// The length of a record comes before all else.
+#[test]
+fn a_record_that_is_none() {
+    for length in [0, RECORD - 1, RECORD + 1] {
+        let mut hearing = of_five(ROUNDS[0].1);
+        hearing.record.resize(length, u64::MAX);
+        hearing.present[0] = 2;
+        assert_eq!(reply(&hearing), 2);
+    }
+}
+
+/// A party that was away compares no own word, and uses no word of the totals.
+#[test]
+fn an_own_place_that_is_not_marked() {
+    for (round, opened) in ROUNDS {
+        let here = hearing(5, 4, round, opened);
+        let mut away = here.clone();
+        away.present[3] = 0;
+        assert_eq!(heard(&away), heard(&here));
+        away.messages[3] = u64::MAX;
+        away.totals.fill(u64::MAX);
+        assert_eq!(heard(&away), heard(&here));
+        // The sheet is judged as ever.
+        away.sheets[0] = P;
+        assert_eq!(reply(&away), 8);
+    }
+    let mut here = hearing(5, 4, 1, ROUNDS[0].1);
+    here.totals[0] = P;
+    assert_eq!(reply(&here), 8);
+}
+
+/// Two hearings of one round with other words, t + 1 of them each, step to two
+/// sums, and nothing tells: all parties have to hear a round with the same marks.
+#[test]
+fn other_marks_may_lead_elsewhere() {
+    let mut one = hearing(5, 4, 1, ROUNDS[0].1);
+    // Of points 1, 2 and 4, the first has weight 8/3 at 0.
+    one.messages[0] += 3;
+    let mut other = one.clone();
+    one.present = vec![1, 1, 0, 1, 0];
+    other.present = vec![0, 1, 0, 1, 1];
+    let (left, right) = (heard(&one), heard(&other));
+    assert_eq!((left.0, right.0), (0, 0));
+    assert_eq!(left.1[SUM], right.1[SUM] + 8);
+    // With one more it is noticed.
+    one.present[4] = 1;
+    assert_eq!(reply(&one), 10);
+}

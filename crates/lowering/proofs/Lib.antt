@@ -1,0 +1,4 @@
+-- Laws of lowered words, which the crates that open by them cite.
+pub mod Descent
+pub mod Lowering
+mod Crossing

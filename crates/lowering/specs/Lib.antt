@@ -1,0 +1,3 @@
+-- Lowering words by lines: what the contracts and the laws cite.
+pub mod Lines
+pub mod Both

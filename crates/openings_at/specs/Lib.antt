@@ -1,0 +1,2 @@
+-- Opening words at any different points: what the contracts and the laws cite.
+pub mod At

@@ -1,0 +1,2 @@
+-- Who was present: what the contracts and the laws cite.
+pub mod Presence

@@ -1,0 +1,2 @@
+-- The record after a heard round, in laws.
+pub mod Next

@@ -1,0 +1,68 @@
+// What a heard round makes of the record.
+ghost use mathlib.Core.Path.{_≡_};
+ghost use mathlib.Core.Bool.{true};
+ghost use lib.Dec.{ltb};
+ghost use lib.ListN.{length, drop};
+ghost use Rattle.ranges.specs.Lists.{every};
+ghost use Rattle.record.specs.Record.{sound};
+ghost use Rattle.record.specs.Updates.{in-round, decided};
+ghost use Rattle.round.specs.Round.{Possible};
+ghost use Rattle.stepping.specs.After.{after};
+use comparison::first_carry;
+use comparison::next_carry;
+use fields::BitShare;
+use record::Party;
+use round::Heard;
+use saying::byte_share;
+use saying::triple_share;
+use search::Search;
+use search::next;
+
+// Round 1 gives the first carry, rounds 2 to 32 the next one, round 33 the verdict.
+pub fn after(q: Party, sheet: &[u64], heard: Heard) -> Party
+    requires { ⌜ (sound q ≡ true) × (length (now sheet) ≡ 127) × (every (λ w. ltb w 256) (drop 1 (now sheet)) ≡ true)
+        × Possible (q .round) heard ⌝ }
+    ensures { λ r. ⌜ r ≡ after q (now (sheet .entry)) heard ⌝ }
+{
+    match heard {
+        Heard::Sum(sum) => in_round(q, 2, sum, first_carry(sum, byte_share(sheet, 1))),
+        Heard::Factors(d, e) => multiplied(q, sheet, d, e),
+        Heard::Verdict(v) => decided(q, next(q.search, v)),
+        Heard::Unopened => q,
+    }
+}
+
+// D and E are opened, so every party makes its share of the product with its shares of the triple.
+fn multiplied(q: Party, sheet: &[u64], d: u64, e: u64) -> Party
+    requires { ⌜ (length (now sheet) ≡ 127) × (every (λ w. ltb w 256) (drop 1 (now sheet)) ≡ true) × Possible (q .round) (Heard.Factors d e) ⌝ }
+    ensures { λ r. ⌜ r ≡ after q (now (sheet .entry)) (Heard.Factors d e) ⌝ }
+{
+    let i = q.round;
+    let alpha = triple_share(sheet, i, 0);
+    let beta = triple_share(sheet, i, 1);
+    let gamma = triple_share(sheet, i, 2);
+    let carry = next_carry(q.sum, i, d as u8, e as u8, alpha, beta, gamma);
+    in_round(q, i + 1, q.sum, carry)
+}
+
+fn in_round(q: Party, round: u64, sum: u64, carry: BitShare) -> Party
+    ensures { λ r. ⌜ r ≡ in-round q round sum (carry .0) ⌝ }
+{
+    let mut next = q;
+    next.round = round;
+    next.sum = sum;
+    next.carry = carry.0 as u64;
+    next
+}
+
+// The searches have moved, and the next probe starts with a round 1 of its own.
+fn decided(q: Party, s: Search) -> Party
+    ensures { λ r. ⌜ r ≡ decided q s ⌝ }
+{
+    let mut next = q;
+    next.search = s;
+    next.round = 1;
+    next.sum = 0;
+    next.carry = 0;
+    next
+}
