@@ -1,7 +1,6 @@
 /*
  * clockivy.h - a sealed-bid uniform-price auction among parties who hold every
- * amount in shares, as eight calls. Link with libexchange.a, which is for
- * x86-64.
+ * amount in shares, as nine calls. Link with libexchange.a, which is for x86-64.
  *
  * Terms
  *   n       the number of parties, 3 to 9; t is (n - 1) / 2 rounded down
@@ -27,7 +26,9 @@
  *   number. The dealer writes every party's sheets for 2P probes, as many as two
  *   searches may make, from new coins for each probe. Then, round after round,
  *   each party says a message and hears those of all who are present, t + 1 or
- *   more of the n, 33 rounds to a probe, until the answer is there.
+ *   more of the n: 33 rounds to a probe and, where there is a price, two more for
+ *   the totals there. Then the answer is there, and a bidder that buys works out
+ *   how many hours it gets.
  *
  * The two searches
  *   A probe compares total demand with total supply at one index, which is
@@ -39,18 +40,44 @@
  *   - The hearing that ends the first search begins the second, at lo 0 and
  *     hi i + 1; the record keeps i, as first. It compares with the sides
  *     exchanged: its verdict is 1 where supply is at least demand, and then hi
- *     becomes the index; on 0 lo does. Once hi - lo is 1 the auction is over,
- *     and hi is j: the lowest index from 1 to i at which supply is at least
- *     demand. Where there is none, hi is i + 1.
+ *     becomes the index; on 0 lo does. Once hi - lo is 1 it has ended, and hi is
+ *     j: the lowest index from 1 to i at which supply is at least demand. Where
+ *     there is none, hi is i + 1.
  *   Where there is a j, demand equals supply from j to i and nowhere else, and
- *   the answer is the middle of these, (i + j) / 2 rounded down; where there is
- *   none, the answer is i. With i 0 the second search is over as it begins, and
- *   there is no price. Without bids demand and supply are 0 everywhere, and the
- *   answer is (k + 1) / 2 rounded down.
+ *   the answer m is the middle of these, (i + j) / 2 rounded down; where there is
+ *   none, m is i. With i 0 the second search is over as it begins, m is 0, and
+ *   there is no price. Without bids demand and supply are 0 everywhere, and m is
+ *   (k + 1) / 2 rounded down.
  *   The first search makes at most P probes, and the second at most
  *   log2(i + 1) rounded up. Sheets are taken in turn, with no gap between the
  *   searches: with q probes done, of both together, sheet q + 1 is the current
  *   one. Those that no probe came to stay unused.
+ *
+ * Hours at the price
+ *   Where the searches end with a price, the parties open total demand D and
+ *   total supply S at m, in rounds 34 and 35: each says its share of the one, and
+ *   then of the other. No sheet is read. Then the round is 36 and the auction is
+ *   over, with D and S in the record; S is at most D. Without a price nothing more
+ *   is opened, and the auction is over with the searches.
+ *   A seller sells all that its table offers at m, so that it has nothing to ask.
+ *   A buyer whose table wants the amount a at m gets a times S divided by D,
+ *   rounded down, and is told the remainder (clockivy_fill); where D is 0, that is
+ *   0 and 0. Over all bids, what they get times D plus their remainders is D times
+ *   S, and where D is not 0 fewer tenths of an hour are left over than there are
+ *   buyers with an a above 0. What the fleets and the parties have to see to:
+ *   - A fleet works out its own hours. Whoever tells a party its amount, to have
+ *     the party do it, tells it that amount. The record of any party that is over
+ *     will do: it holds no share and no amount of anybody, but its roll tells who
+ *     has bid. D and S alone will do too (clockivy_party_cleared).
+ *   - Hours and remainder are as secret as the amount: hours times D plus the
+ *     remainder is the amount times S, and the hours alone tell it but for D / S
+ *     tenths or so.
+ *   - clockivy_fill does not know what was bid. It answers to any amount, and what
+ *     is said above of all bids holds of the amounts in their tables.
+ *   - What a party says in rounds 34 and 35 is its share of a total, with no mask,
+ *     at the index that its record has come to. A record that somebody else has
+ *     altered may make it say its shares at another index, so keep it where nobody
+ *     else writes.
  *
  * Buffers
  *   Every buffer is the caller's and is lent for the length of the call; no
@@ -113,7 +140,8 @@
  *     of those present, or split anew for some, hearing round 1 is all but
  *     surely 10 if they are more than t + 1, and by then no bid may be added:
  *     start anew, with new sheets. If they are t + 1 it is 11 seven times in
- *     eight; else the price may be wrong and nothing tells.
+ *     eight; else the price may be wrong, and if there is one at all, then round
+ *     34 or 35 all but surely is 11.
  *   - A bid that is in is not replaced: another bid of its bidder is 14 too,
  *     whoever sends it. A call does not know its sender, so see that a bid
  *     comes from the bidder whose number it has, before it is added: a number
@@ -148,14 +176,14 @@
  *     of them hears it. A call does not know what others hear. With t + 1 marked
  *     any messages that are in range open, to one thing or another. So a party
  *     that hears a round with other marks than the rest, a late one say, or with
- *     another message in a marked place, may step to another sum, carry or
- *     verdict without a refusal, and from there on what it says and answers is
+ *     another message in a marked place, may step to another sum, carry, verdict
+ *     or total without a refusal, and from there on what it says and answers is
  *     wrong. Only where every message is right do any marks open to the same.
  *   - With t + 1 marked only the range of what the others said is checked (10).
  *     A wrong message that is in range, one of a party which has not heard every
  *     round before say, opens to something else, and is refused only if that is
- *     no sum (11) or no verdict (12). With more than t + 1 marked, one wrong
- *     message of another party is always 10. So mark everybody who is there.
+ *     no sum or no total (11) or no verdict (12). With more than t + 1 marked, one
+ *     wrong message of another party is always 10. So mark everybody who is there.
  *   - A party hears a round once; a refused hearing is none. Heard anew from a
  *     stored record, with other messages or marks, it makes the party say other
  *     messages from the same sheet, and that gives bids away: see "Three uses
@@ -168,18 +196,23 @@
  *   Coins are drawn by the caller: each uniform over its range, independent,
  *   used once. A party's shares, totals, sheets and record are for that party
  *   alone, but for the roll: who bids, and in which order, is not hidden from
- *   the other parties, nor who was present. The dealer must see neither the
- *   messages nor the sum that those of round 1 open to: it knows the mask and
- *   the triples, and so would learn total demand minus total supply at the
- *   probed index, in either search.
+ *   the other parties, nor who was present. Once the auction is over, the record
+ *   holds no share. The dealer must see neither the messages nor the sum that
+ *   those of round 1 open to: it knows the mask and the triples, and so would
+ *   learn total demand minus total supply at the probed index, in either search.
  *   What the parties open is not hidden: every verdict of both searches, and
  *   with them i, j and the answer. That is more than the price alone: it tells
  *   at which prices demand is above supply, at which it equals it, and at which
  *   it is below. What any t parties receive together fits any other bids of the
  *   same bidders, entered in the same order, that come to the same i and the
- *   same j, or like them to none, for exactly one choice of the coins, with the
- *   same parties present in each round; but for masks that leave their range, at
- *   most 2^33 - 2 of 2^58 at each probe.
+ *   same j, or like them to none, and to the same D and S, for exactly one choice
+ *   of the coins, with the same parties present in each round; but for masks that
+ *   leave their range, at most 2^33 - 2 of 2^58 at each probe.
+ *   Nor are D and S at the price hidden, or what follows from them. Where one
+ *   fleet buys there, D is what it wants; where two do, each knows what the other
+ *   wants; so it is with S and those who sell. An auction that is held again with
+ *   one bid more and comes to the same price opens totals that differ by the
+ *   amounts of that bid.
  *   Time is not hidden. clockivy_hear and clockivy_deal read products of bytes
  *   from tables, at places that depend on shares and coins. Whoever can watch
  *   the cache of the processor that a call runs on, or time it closely, may
@@ -246,10 +279,13 @@ enum {
     CLOCKIVY_INCONSISTENT = 10,       /* of those present a message out of range, or
                                          no polynomial of degree at most t through
                                          their messages */
-    CLOCKIVY_SUM_OUT_OF_RANGE = 11,   /* the opened sum of round 1 */
+    CLOCKIVY_SUM_OUT_OF_RANGE = 11,   /* the opened sum of round 1; an opened total of
+                                         2^32 or more, or supply above demand */
     CLOCKIVY_VERDICT_NOT_BIT = 12,    /* the opened verdict is above 1 */
     CLOCKIVY_ALREADY_ENTERED = 14,    /* a bid of this bidder has been added */
-    CLOCKIVY_TOO_FEW_PRESENT = 15     /* fewer than t + 1 parties were present */
+    CLOCKIVY_TOO_FEW_PRESENT = 15,    /* fewer than t + 1 parties were present */
+    CLOCKIVY_NOT_CLEARED = 16         /* a fill before the totals are open, or without
+                                         a price */
 };
 
 /* Limits. */
@@ -259,11 +295,17 @@ enum {
 #define CLOCKIVY_MAX_PRICES 1024
 #define CLOCKIVY_MAX_BIDS 1000 /* the most bids held, and the highest bidder number */
 #define CLOCKIVY_MAX_AMOUNT 4194303
-#define CLOCKIVY_ROUNDS 33
+#define CLOCKIVY_TOTAL_LIMIT (((uint64_t)1) << 32) /* D and S are below it */
+
+/* Rounds. */
+#define CLOCKIVY_ROUNDS 33       /* those of a probe are 1 to 33 */
+#define CLOCKIVY_ROUND_DEMAND 34 /* total demand at the price is opened */
+#define CLOCKIVY_ROUND_SUPPLY 35 /* total supply at the price is opened */
+#define CLOCKIVY_ROUND_OVER 36   /* there is a price, and both totals are open */
 
 /* Lengths, for n and k within their ranges. */
 #define CLOCKIVY_ROLL_LEN 16
-#define CLOCKIVY_RECORD_LEN 29
+#define CLOCKIVY_RECORD_LEN 31
 #define CLOCKIVY_SHEET_LEN 127
 #define CLOCKIVY_THRESHOLD(n) (((n) - 1) / 2)
 #define CLOCKIVY_TABLE_LEN(k) (2 * (k))
@@ -277,7 +319,8 @@ enum {
  *   totals  2k words, written
  *   record  CLOCKIVY_RECORD_LEN words, written: n, own, k, bids 0, lo 0,
  *           hi k + 1, probes 0, round 1, sum 0, carry 0, then the roll, 16
- *           words of 0, then search 1, first 0, first_probes 0
+ *           words of 0, then search 1, first 0, first_probes 0, demand 0,
+ *           supply 0
  *
  *   1  n, own or k is out of range
  *   2  totals has not 2k words, or record not CLOCKIVY_RECORD_LEN
@@ -398,8 +441,9 @@ uint64_t clockivy_add(uint64_t *record, size_t record_len,
  *      127 times 2P
  *   3  the auction is over
  *   8  round 1: a word of totals at the probed index is at or above the prime;
- *      any round: in the current sheet, the mask's share is at or above the
- *      prime or another word above 255
+ *      rounds 1 to 33: in the current sheet, the mask's share is at or above the
+ *      prime or another word above 255; rounds 34 and 35, which read no sheet:
+ *      the word of totals that is said is at or above the prime
  */
 uint64_t clockivy_say(const uint64_t *record, size_t record_len,
                       const uint64_t *totals, size_t totals_len,
@@ -411,7 +455,8 @@ uint64_t clockivy_say(const uint64_t *record, size_t record_len,
  * the record to the next round. Round 33 opens the verdict and moves lo or hi to
  * the probed index, as under "The two searches": in the first search 1 moves lo,
  * in the second 1 moves hi. Then the next probe begins, or the second search in
- * place of the first, or the auction is over.
+ * place of the first; or both have ended, and the totals at the price are opened
+ * in rounds 34 and 35, or the auction is over for want of a price.
  *
  * Any t + 1 messages open the round. All parties hear it with the same marks,
  * and a marked party has heard every round before: see "A party that drops off".
@@ -427,14 +472,17 @@ uint64_t clockivy_say(const uint64_t *record, size_t record_len,
  *       127 times 2P, messages not n, or present not n bytes
  *   3   the auction is over
  *   15  fewer than t + 1 are marked
- *   8   as in clockivy_say; but in round 1 the totals are judged only if the
- *       party itself is marked
+ *   8   as in clockivy_say; but the totals are judged only if the party itself is
+ *       marked
  *   9   the party is marked, and its own place holds another message than it says
- *   10  a marked message is at or above the prime (round 1), above 65,535 (2 to
- *       32) or above 255 (33); or no polynomial of degree at most t passes
- *       through the marked ones (rounds 2 to 32: through the low bytes, and
- *       through the high). With t + 1 of them there always is one
- *   11  round 1: the opened sum is outside 2^58 + 2 to 2^59 + 2^33 - 1
+ *   10  a marked message is at or above the prime (rounds 1, 34 and 35), above
+ *       65,535 (2 to 32) or above 255 (33); or no polynomial of degree at most t
+ *       passes through the marked ones (rounds 2 to 32: through the low bytes,
+ *       and through the high). With t + 1 of them there always is one
+ *   11  round 1: the opened sum is outside 2^58 + 2 to 2^59 + 2^33 - 1; rounds 34
+ *       and 35: the opened total is 2^32 or more; round 34: it is below the
+ *       supply in the record, which is 0 unless somebody has put it there;
+ *       round 35: it is above the demand in the record
  *   12  round 33: the opened verdict is above 1
  */
 uint64_t clockivy_hear(uint64_t *record, size_t record_len,
@@ -448,7 +496,8 @@ uint64_t clockivy_hear(uint64_t *record, size_t record_len,
  * together, at most 2P. The index is the middle of those at which total demand
  * equals total supply, rounded down; where there are none, the highest at which
  * demand is above supply, or 0 for no price. The highest index at which demand
- * is at least supply is in the record, as first.
+ * is at least supply is in the record, as first. Where there is a price, the
+ * auction is over when the totals there are open too.
  *
  *   record  as it was last written
  *   index   one word, written
@@ -460,6 +509,26 @@ uint64_t clockivy_hear(uint64_t *record, size_t record_len,
  */
 uint64_t clockivy_answer(const uint64_t *record, size_t record_len,
                          uint64_t *index, uint64_t *probes);
+
+/*
+ * Writes what a buyer gets at the price: its amount times total supply, divided by
+ * total demand and rounded down, and the remainder of that division; 0 and 0 where
+ * total demand is 0. A seller sells all and needs no call. For a fleet to make
+ * itself: see "Hours at the price".
+ *
+ *   record     of any party that is over, or of clockivy_party_cleared
+ *   amount     what the buyer wants at the price, in tenths of an hour: the one in
+ *              its table at place index - 1, index being that of the answer
+ *   hours      one word, written: what it gets, in tenths of an hour
+ *   remainder  one word, written: below total demand, or 0
+ *
+ *   1   a field of the record is out of range
+ *   2   record has not CLOCKIVY_RECORD_LEN words
+ *   16  the totals are not open yet, or there is no price
+ *   6   amount is above 4,194,303
+ */
+uint64_t clockivy_fill(const uint64_t *record, size_t record_len, uint64_t amount,
+                       uint64_t *hours, uint64_t *remainder);
 
 #ifdef __cplusplus
 }
@@ -474,9 +543,11 @@ uint64_t clockivy_answer(const uint64_t *record, size_t record_len,
  *
  * A field is out of range (refusal 1) where n, own or k is; bids is not the
  * number of marks on the roll; the roll has a mark of no bidder, which is bit 0
- * of the first word or one past bidder 1,000, bits 41 to 63 of the last; round
- * is outside 1 to 33; sum is at or above 2^59 + 2^33; carry is above 255; search
- * is neither 1 nor 2. In the first search also where not lo < hi <= k + 1;
+ * of the first word or one past bidder 1,000, bits 41 to 63 of the last; round is
+ * outside 34 to 36 where the searches have ended with a price, and outside 1 to 33
+ * where they have not; sum is at or above 2^59 + 2^33; carry is above 255; demand
+ * or supply is 2^32 or more, or supply above demand; search is neither 1 nor 2. In
+ * the first search also where not lo < hi <= k + 1;
  * hi - lo is 1, since the second begins with that; probes is P or more; first
  * or first_probes is not 0. In the second where first is above k; first_probes
  * is above P or above probes; not lo < hi <= first + 1; probes - first_probes,
@@ -499,7 +570,8 @@ typedef struct clockivy_party {
                         than supply, or k + 1; in search 2 supply at least
                         demand, or first + 1 */
     uint64_t probes; /* probes done, of both searches */
-    uint64_t round;  /* the round to be said and heard next */
+    uint64_t round;  /* the round to be said and heard next: 1 to 33 in a probe,
+                        then, where there is a price, 34 and 35, and 36 when over */
     uint64_t sum;    /* the opened sum of this probe's round 1, else 0 */
     uint64_t carry;  /* this party's share of the carry, else 0 */
     uint64_t roll[CLOCKIVY_ROLL_LEN]; /* who is in: bidder b is bit b % 64, the
@@ -507,6 +579,8 @@ typedef struct clockivy_party {
     uint64_t search; /* which search is on: 1 or 2 */
     uint64_t first;  /* i, what the first search gave; 0 until it ends */
     uint64_t first_probes; /* the probes of the first search; 0 until it ends */
+    uint64_t demand; /* D, total demand at the price; 0 until round 34 opens it */
+    uint64_t supply; /* S, total supply at the price; 0 until round 35 opens it */
 } clockivy_party;
 
 /* The struct is the record's words, in their order. */
@@ -596,6 +670,43 @@ CLOCKIVY_INLINE uint64_t clockivy_party_answer(const clockivy_party *party,
                                                uint64_t *index, uint64_t *probes)
 {
     return clockivy_answer((const uint64_t *)party, CLOCKIVY_RECORD_LEN, index, probes);
+}
+
+CLOCKIVY_INLINE uint64_t clockivy_party_fill(const clockivy_party *party, uint64_t amount,
+                                             uint64_t *hours, uint64_t *remainder)
+{
+    return clockivy_fill((const uint64_t *)party, CLOCKIVY_RECORD_LEN,
+                         amount, hours, remainder);
+}
+
+/*
+ * Writes a record for clockivy_party_fill from D and S alone, for a fleet that was
+ * told these and no record: that of an auction of one price, which is over. It is
+ * good for nothing else. Any numbers may be given; where they are no totals, the
+ * fill is 1.
+ */
+CLOCKIVY_INLINE void clockivy_party_cleared(clockivy_party *party,
+                                            uint64_t demand, uint64_t supply)
+{
+    int i;
+
+    party->n = 3;
+    party->own = 1;
+    party->k = 1;
+    party->bids = 0;
+    party->lo = 0;
+    party->hi = 1;
+    party->probes = 2;
+    party->round = CLOCKIVY_ROUND_OVER;
+    party->sum = 0;
+    party->carry = 0;
+    for (i = 0; i < CLOCKIVY_ROLL_LEN; i++)
+        party->roll[i] = 0;
+    party->search = 2;
+    party->first = 1;
+    party->first_probes = 1;
+    party->demand = demand;
+    party->supply = supply;
 }
 
 #endif /* CLOCKIVY_H */

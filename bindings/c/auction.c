@@ -4,9 +4,10 @@
  * the bid is sent again when the others are in. A party drops off in the middle
  * of a probe; the others go on, and it hears what it has missed when it comes
  * back. Demand equals supply at four neighbouring prices, and the middle one is
- * taken, rounded down. Prints the bid sent again, each probe, the party that
- * comes back and the price, and checks all of it against the tables, which only a
- * program that plays every role can add up.
+ * taken, rounded down; the totals there are opened, and each fleet works out its
+ * hours. Prints the bid sent again, each probe, the party that comes back, the
+ * price, the totals and every bidder's hours, and checks all of it against the
+ * tables, which only a program that plays every role can add up.
  *
  *   cc -O2 -I../../include auction.c -L../../target/staticlib -lexchange -o auction
  *
@@ -331,6 +332,43 @@ static uint64_t expected_index(void)
     return lowest <= highest ? (highest + lowest) / 2 : highest;
 }
 
+/* Tenths of an hour as hours. */
+static void print_hours(const char *before, uint64_t tenths)
+{
+    printf("%s%d.%d", before, (int)(tenths / 10), (int)(tenths % 10));
+}
+
+/*
+ * Every fleet is told the index and the totals, and has its own table: what it
+ * sells there is sold, and what it gets of what it wants it works out for itself.
+ */
+static void share_out(uint64_t index, uint64_t total_demand, uint64_t total_supply)
+{
+    clockivy_party cleared;
+    uint64_t bought = 0;
+    uint64_t remainders = 0;
+    size_t i;
+
+    clockivy_party_cleared(&cleared, total_demand, total_supply);
+    for (i = 0; i < BIDS; i++) {
+        const uint64_t wants = tables[i][index - 1];
+        const uint64_t sells = tables[i][K + index - 1];
+        uint64_t hours;
+        uint64_t remainder;
+
+        done(clockivy_party_fill(&cleared, wants, &hours, &remainder), "fill");
+        printf("bidder %d", (int)bidders[i]);
+        print_hours(" buys ", hours);
+        print_hours(" of ", wants);
+        print_hours(", sells ", sells);
+        printf("\n");
+        bought += hours;
+        remainders += remainder;
+    }
+    check(bought * total_demand + remainders == total_demand * total_supply,
+          "something is left that is in no remainder");
+}
+
 int main(void)
 {
     const clockivy_party *party = &seats[0].party;
@@ -364,6 +402,11 @@ int main(void)
         const uint64_t probed = (party->lo + party->hi) / 2;
         int opened;
 
+        if (party->round > CLOCKIVY_ROUNDS) {
+            /* There is a price: two more rounds, for the totals. */
+            exchange_round(rounds++);
+            continue;
+        }
         for (i = 0; i < CLOCKIVY_ROUNDS; i++)
             exchange_round(rounds++);
         opened = verdict(search, probed, party);
@@ -374,11 +417,20 @@ int main(void)
     for (i = 0; i < N; i++) {
         done(clockivy_party_answer(&seats[i].party, &index, &probes), "answer");
         check(index == expected_index(), "the answer is wrong");
+        check(index == 0 || (seats[i].party.demand == demand(index)
+                             && seats[i].party.supply == supply(index)),
+              "the totals are wrong");
     }
-    if (index == 0)
+    check(rounds == CLOCKIVY_ROUNDS * probes + (index == 0 ? 0 : 2),
+          "the number of rounds is wrong");
+    if (index == 0) {
         printf("clears 0 none\n");
-    else
-        printf("clears %d %d\n", (int)index, prices[index - 1]);
-    printf("rounds %d\n", (int)(CLOCKIVY_ROUNDS * probes));
+        printf("rounds %d\n", (int)rounds);
+        return EXIT_SUCCESS;
+    }
+    printf("clears %d %d\n", (int)index, prices[index - 1]);
+    printf("demand %d supply %d\n", (int)party->demand, (int)party->supply);
+    printf("rounds %d\n", (int)rounds);
+    share_out(index, party->demand, party->supply);
     return EXIT_SUCCESS;
 }

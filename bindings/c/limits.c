@@ -1,8 +1,8 @@
 /*
  * Tries clockivy_probe_limit, and the count and length of the sheets, on numbers
  * around powers of two; clockivy_party_has_bid on every place of the roll and on
- * numbers past it, up to the largest there is; and where the fields of a record
- * stand.
+ * numbers past it, up to the largest there is; where the fields of a record stand;
+ * and that clockivy_party_cleared writes all of them and nothing else.
  */
 #include <stdio.h>
 #include <stdlib.h>
@@ -77,9 +77,39 @@ static void try_fields(void)
         || party->lo != 5 || party->hi != 6 || party->probes != 7 || party->round != 8
         || party->sum != 9 || party->carry != 10 || party->roll[0] != 11
         || party->roll[CLOCKIVY_ROLL_LEN - 1] != 26 || party->search != 27
-        || party->first != 28 || party->first_probes != 29) {
+        || party->first != 28 || party->first_probes != 29
+        || party->demand != 30 || party->supply != 31) {
         fprintf(stderr, "a field of the record is in another place\n");
         wrong = 1;
+    }
+}
+
+/* A record made from any totals is whole, whatever stood there before. */
+static void try_cleared(void)
+{
+    static const uint64_t totals[] = {0, 7, POWER(32) - 1, POWER(32), UINT64_MAX};
+    const uint64_t expected[] = {3, 1, 1, 0, 0, 1, 2, 36, 0, 0};
+    uint64_t words[CLOCKIVY_RECORD_LEN];
+    size_t i;
+    int j;
+
+    for (i = 0; i < sizeof totals / sizeof totals[0]; i++) {
+        memset(&kept, 0xA5, sizeof kept);
+        clockivy_party_cleared(&kept.party, totals[i], ~totals[i]);
+        memcpy(words, &kept.party, sizeof words);
+        for (j = 0; j < 26; j++)
+            if (words[j] != (j < 10 ? expected[j] : 0))
+                wrong = 1;
+        if (words[26] != 2 || words[27] != 1 || words[28] != 1
+            || words[29] != totals[i] || words[30] != ~totals[i])
+            wrong = 1;
+        for (j = 0; j < 4; j++)
+            if (kept.after[j] / 256 % 256 != 0xA5)
+                wrong = 1;
+        if (wrong) {
+            fprintf(stderr, "a record made from totals is wrong\n");
+            return;
+        }
     }
 }
 
@@ -118,6 +148,7 @@ int main(void)
 {
     try_limits();
     try_fields();
+    try_cleared();
     try_marks();
     if (wrong)
         return EXIT_FAILURE;

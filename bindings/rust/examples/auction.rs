@@ -3,9 +3,10 @@
 //! the bid is sent again when the others are in. A party drops off in the middle
 //! of a probe; the others go on, and it hears what it has missed when it comes
 //! back. Demand equals supply at four neighbouring prices, and the middle one is
-//! taken, rounded down. Prints the bid sent again, each probe, the party that
-//! comes back and the price, and checks all of it against the tables, which only a
-//! program that plays every role can add up.
+//! taken, rounded down; the totals there are opened, and each fleet works out its
+//! hours. Prints the bid sent again, each probe, the party that comes back, the
+//! price, the totals and every bidder's hours, and checks all of it against the
+//! tables, which only a program that plays every role can add up.
 //!
 //! The coins here come from a small generator with a fixed seed. A real bidder
 //! or dealer draws them from the operating system.
@@ -15,8 +16,8 @@ mod coins;
 use std::ops::Range;
 
 use clockivy::{
-    coins_len, deal, deal_bytes_len, deal_words_len, sheets_len, split, table_len, Collecting,
-    Entries, Record, Refusal, Speaking, MASK_LIMIT, MAX_BIDS, ROUNDS, SHEET_LEN,
+    coins_len, deal, deal_bytes_len, deal_words_len, sheets_len, split, table_len, Answer, Cleared,
+    Collecting, Entries, Fill, Record, Refusal, Speaking, MASK_LIMIT, MAX_BIDS, ROUNDS, SHEET_LEN,
 };
 use coins::Coins;
 
@@ -83,12 +84,13 @@ fn main() -> Result<(), Refusal> {
         .map(|((session, totals), sheets)| session.speak(totals, sheets))
         .collect();
 
-    let mut rounds = 0..;
+    let mut rounds = 0;
     let mut missed = Vec::new();
-    while !parties[0].is_over() {
+    while is_searching(&parties[0]) {
         let (search, index) = (parties[0].record().search, parties[0].index());
-        for number in rounds.by_ref().take(ROUNDS as usize) {
-            exchange(&mut parties, number, &mut missed)?;
+        for _ in 0..ROUNDS {
+            exchange(&mut parties, rounds, &mut missed)?;
+            rounds += 1;
         }
         let after = parties[0].record();
         let verdict = verdict(search, index, after);
@@ -99,18 +101,66 @@ fn main() -> Result<(), Refusal> {
         );
         assert_eq!(verdict, compared(search, index));
     }
+    // Two more, for the totals, where there is a price.
+    while !parties[0].is_over() {
+        exchange(&mut parties, rounds, &mut missed)?;
+        rounds += 1;
+    }
 
-    let answer = parties[0].answer()?;
+    let Answer { index, probes } = parties[0].answer()?;
+    assert_eq!(index, expected_index());
+    let extra = if index > 0 { 2 } else { 0 };
+    assert_eq!(rounds, ROUNDS * probes + extra);
     for party in &parties {
-        assert_eq!(party.answer()?, answer);
+        assert_eq!(party.answer()?, Answer { index, probes });
     }
-    match answer.index {
-        0 => println!("clears 0 none"),
-        index => println!("clears {index} {}", PRICES[index as usize - 1]),
+    if index == 0 {
+        println!("clears 0 none");
+        println!("rounds {rounds}");
+        return Ok(());
     }
-    println!("rounds {}", ROUNDS * answer.probes);
-    assert_eq!(answer.index, expected_index());
+    println!("clears {index} {}", PRICES[index as usize - 1]);
+    let cleared = parties[0].cleared()?;
+    for party in &parties {
+        assert_eq!(party.cleared()?, cleared);
+    }
+    let totals = [cleared.demand(), cleared.supply()];
+    assert_eq!(totals, [demand(index), supply(index)]);
+    println!("demand {} supply {}", totals[0], totals[1]);
+    println!("rounds {rounds}");
+    share_out(index, cleared)
+}
+
+/// Whether there is another probe.
+fn is_searching(party: &Speaking) -> bool {
+    party.record().round <= ROUNDS && !party.is_over()
+}
+
+/// Every fleet is told the index and the totals, and has its own table: what it sells
+/// there is sold, and what it gets of what it wants it works out for itself.
+fn share_out(index: u64, cleared: Cleared) -> Result<(), Refusal> {
+    let (mut bought, mut remainders) = (0, 0);
+    for (bidder, table) in BIDDERS.into_iter().zip(&BIDS) {
+        let [wants, sells] = [index, K + index].map(|entry| table[entry as usize - 1]);
+        let Fill { hours, remainder } = cleared.fill(wants)?;
+        println!(
+            "bidder {bidder} buys {} of {}, sells {}",
+            shown(hours),
+            shown(wants),
+            shown(sells)
+        );
+        bought += hours;
+        remainders += remainder;
+    }
+    // Nothing is lost: what is left over is in the remainders.
+    let [demand, supply] = [cleared.demand(), cleared.supply()];
+    assert_eq!(bought * demand + remainders, demand * supply);
     Ok(())
+}
+
+/// Tenths of an hour as hours.
+fn shown(tenths: u64) -> String {
+    format!("{}.{}", tenths / 10, tenths % 10)
 }
 
 fn open_sessions(totals: &mut [Vec<u64>]) -> Result<Vec<Collecting>, Refusal> {

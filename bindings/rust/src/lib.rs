@@ -1,7 +1,7 @@
 //! A sealed-bid uniform-price auction among n parties who hold every amount in
-//! shares. The parties find the index of the price and nobody adds up the bids.
-//! The work is done by a verified library for x86-64 behind a C ABI; this crate
-//! calls it from safe Rust.
+//! shares. The parties find the index of the price, and open total demand and total
+//! supply there; nobody adds up the bids. The work is done by a verified library
+//! for x86-64 behind a C ABI; this crate calls it from safe Rust.
 //!
 //! # The roles
 //!
@@ -18,10 +18,12 @@
 //!   bidder: it keeps a roll of who is in. Then it is [`Speaking`]
 //!   ([`Collecting::speak`]): it says a message ([`Speaking::say`]) and hears
 //!   those of all who are present, t + 1 or more of the n ([`Speaking::hear`]),
-//!   33 rounds for each probe of two binary searches, until [`Speaking::answer`]
-//!   gives the index of the price: the middle, rounded down, of those at which
-//!   total demand equals total supply; where there are none, the highest at which
-//!   demand is above supply, or 0 for no price.
+//!   33 rounds for each probe of two binary searches and two more for the totals,
+//!   until [`Speaking::answer`] gives the index of the price: the middle, rounded
+//!   down, of those at which total demand equals total supply; where there are
+//!   none, the highest at which demand is above supply, or 0 for no price.
+//! * A bidder that **buys** at the price is told the totals there ([`Cleared`]), and
+//!   works out by them how many hours it gets ([`Cleared::fill`]).
 //!
 //! A call judges all that it is lent, and where something is wrong it answers a
 //! [`Refusal`] and changes nothing. Drawing coins, networks and signatures are
@@ -40,20 +42,49 @@
 //! * The hearing that ends the first search begins the second, at `lo` 0 and
 //!   `hi` i + 1; the record keeps i ([`Record::first`]). It compares with the
 //!   sides exchanged: its verdict is 1 where supply is at least demand, and then
-//!   `hi` becomes the index; on 0 `lo` does. Once `hi` - `lo` is 1 the auction is
-//!   over, and `hi` is j: the lowest index from 1 to i at which supply is at
-//!   least demand. Where there is none, `hi` is i + 1.
+//!   `hi` becomes the index; on 0 `lo` does. Once `hi` - `lo` is 1 it has ended,
+//!   and `hi` is j: the lowest index from 1 to i at which supply is at least
+//!   demand. Where there is none, `hi` is i + 1.
 //!
 //! Where there is a j, demand equals supply from j to i and nowhere else, and the
-//! answer is the middle of these, (i + j) / 2 rounded down; where there is none,
-//! the answer is i. With i 0 the second search is over as it begins, and there is
-//! no price. Without bids demand and supply are 0 everywhere, and the answer is
-//! (k + 1) / 2 rounded down.
+//! answer m is the middle of these, (i + j) / 2 rounded down; where there is none,
+//! m is i. With i 0 the second search is over as it begins, m is 0, and there is no
+//! price. Without bids demand and supply are 0 everywhere, and m is (k + 1) / 2
+//! rounded down.
 //!
 //! The first search makes at most [`probe_limit`]`(k)` probes, and the second at
 //! most `probe_limit(i)`. Sheets are taken in turn, with no gap between the
 //! searches: with q probes done, of both together, sheet q + 1 is the current
 //! one. Those that no probe came to stay unused.
+//!
+//! # Hours at the price
+//!
+//! Where the searches end with a price, the parties open total demand D and total
+//! supply S at m, in rounds 34 and 35: each says its share of the one, and then of
+//! the other. No sheet is read. Then the auction is over, and D and S are in the
+//! record; S is at most D. Without a price nothing more is opened, and the auction
+//! is over with the searches ([`Speaking::is_over`]).
+//!
+//! A seller sells all that its table offers at m, so that it has nothing to ask. A
+//! buyer whose table wants the amount a at m gets a times S divided by D, rounded
+//! down, and is told the remainder ([`Cleared::fill`]); where D is 0, that is 0 and
+//! 0. Over all bids, what they get times D plus their remainders is D times S, and
+//! where D is not 0 fewer tenths of an hour are left over than there are buyers with
+//! an a above 0. What the fleets and the parties have to see to:
+//!
+//! * A fleet works out its own hours, by D and S ([`Cleared`]). Whoever tells a party
+//!   its amount, to have the party do it, tells it that amount. On plain words
+//!   ([`words::fill`]) the record of any party that is over will do: it holds no
+//!   share and no amount of anybody, but its roll tells who has bid.
+//! * Hours and remainder are as secret as the amount: hours times D plus the
+//!   remainder is the amount times S, and the hours alone tell it but for D / S
+//!   tenths or so.
+//! * A fill does not know what was bid. It is given for any amount, and what is said
+//!   above of all bids holds of the amounts in their tables.
+//! * What a party says in rounds 34 and 35 is its share of a total, with no mask, at
+//!   the index that its session has come to. A stored session that somebody else has
+//!   altered may say its shares at another index, so keep it where nobody else
+//!   writes.
 //!
 //! # A bid entry by entry
 //!
@@ -111,7 +142,8 @@
 //!   surely [`Inconsistent`](Refusal::Inconsistent) if they are more than t + 1,
 //!   and by then no bid may be added: start anew, with new sheets. If they are
 //!   t + 1 it is [`SumOutOfRange`](Refusal::SumOutOfRange) seven times in eight;
-//!   else the price may be wrong and nothing tells.
+//!   else the price may be wrong, and if there is one at all, then round 34 or 35
+//!   all but surely is `SumOutOfRange`.
 //! * A bid that is in is not replaced: another bid of its bidder is
 //!   `AlreadyEntered` too, whoever sends it. A call does not know its sender, so
 //!   see that a bid comes from the bidder whose number it has, before it is
@@ -151,13 +183,13 @@
 //!   of them hears it. A call does not know what others hear. With t + 1 marked
 //!   any messages that are in range open, to one thing or another. So a party
 //!   that hears a round with other marks than the rest, a late one say, or with
-//!   another message in a marked place, may step to another sum, carry or verdict
-//!   without a refusal, and from there on what it says and answers is wrong. Only
-//!   where every message is right do any marks open to the same.
+//!   another message in a marked place, may step to another sum, carry, verdict or
+//!   total without a refusal, and from there on what it says and answers is wrong.
+//!   Only where every message is right do any marks open to the same.
 //! * With t + 1 marked only the range of what the others said is checked
 //!   ([`Inconsistent`](Refusal::Inconsistent)). A wrong message that is in range,
 //!   one of a party which has not heard every round before say, opens to something
-//!   else, and is refused only if that is no sum
+//!   else, and is refused only if that is no sum or no total
 //!   ([`SumOutOfRange`](Refusal::SumOutOfRange)) or no verdict
 //!   ([`VerdictNotBit`](Refusal::VerdictNotBit)). With more than t + 1 marked, one
 //!   wrong message of another party is always `Inconsistent`. So mark everybody
@@ -174,11 +206,11 @@
 //!
 //! With t being (n - 1) / 2 rounded down: what any t parties together receive
 //! fits any other bids of the same bidders, entered in the same order, that come
-//! to the same [i and the same j](crate#the-two-searches), or like them to none,
-//! for exactly one choice of the coins, with the same parties
-//! [present](crate#a-party-that-drops-off) in each round, but for masks that leave
-//! their range (at most 2^33 - 2 of 2^58 at each probe). Fewer than t parties see
-//! a part of that. It rests on this:
+//! to the same [i and the same j](crate#the-two-searches), or like them to none, and
+//! to the same [D and S](crate#hours-at-the-price), for exactly one choice of the
+//! coins, with the same parties [present](crate#a-party-that-drops-off) in each
+//! round, but for masks that leave their range (at most 2^33 - 2 of 2^58 at each
+//! probe). Fewer than t parties see a part of that. It rests on this:
 //!
 //! * Coins are drawn uniformly, independently and used once.
 //! * The parties follow the protocol.
@@ -199,6 +231,11 @@
 //! answer. That is more than the price alone: total demand is below total supply
 //! at every index above i, equals it from j to i, and is above it at every lower
 //! one; where there is no j, it is above it at every index up to i.
+//!
+//! Nor are D and S at the price, or what follows from them. Where one fleet buys
+//! there, D is what it wants; where two do, each knows what the other wants; so it is
+//! with S and those who sell. An auction that is held again with one bid more and
+//! comes to the same price opens totals that differ by the amounts of that bid.
 //!
 //! # Three uses that give bids away
 //!
@@ -235,7 +272,7 @@
 //! # A small auction
 //!
 //! ```
-//! use clockivy::{deal, sheets_len, split, Collecting, Refusal, Speaking, SHEET_LEN};
+//! use clockivy::{deal, sheets_len, split, Collecting, Fill, Refusal, Speaking, SHEET_LEN};
 //!
 //! # fn main() -> Result<(), Refusal> {
 //! // Three parties and one listed price, at which 5 are wanted and 3 offered.
@@ -270,16 +307,24 @@
 //! for party in &parties {
 //!     assert_eq!(party.answer()?.index, 1);
 //! }
+//!
+//! // Anybody may know the totals at the price. The fleet that wants 5 works out
+//! // for itself that it gets 3.
+//! let cleared = parties[0].cleared()?;
+//! assert_eq!((cleared.demand(), cleared.supply()), (5, 3));
+//! assert_eq!(cleared.fill(5)?, Fill { hours: 3, remainder: 0 });
 //! # Ok(())
 //! # }
 //! ```
 
+mod cleared;
 mod entries;
 mod record;
 mod refusal;
 mod session;
 pub mod words;
 
+pub use cleared::{Cleared, Fill};
 pub use entries::Entries;
 pub use record::Record;
 pub use refusal::Refusal;
@@ -304,12 +349,21 @@ pub const MAX_BIDS: u64 = 1_000;
 pub const MAX_AMOUNT: u64 = 4_194_303;
 /// The rounds of a probe.
 pub const ROUNDS: u64 = 33;
+/// The round in which total demand at the price is opened.
+pub const DEMAND_ROUND: u64 = 34;
+/// The round in which total supply at the price is opened.
+pub const SUPPLY_ROUND: u64 = 35;
+/// What stands for the round once the totals are open. Without a price it is 1 to
+/// the end.
+pub const OVER_ROUND: u64 = 36;
+/// Total demand and total supply at the price are below this, 2^32.
+pub const TOTAL_LIMIT: u64 = 1 << 32;
 /// The words of a party's preprocessing for one probe.
 pub const SHEET_LEN: usize = 127;
 /// The words of a roll, with a bit for each bidder's number.
 pub const ROLL_LEN: usize = 16;
-/// The words of a party's record: ten numbers, the roll, then three numbers.
-pub const RECORD_LEN: usize = 10 + ROLL_LEN + 3;
+/// The words of a party's record: ten numbers, the roll, then five numbers.
+pub const RECORD_LEN: usize = 10 + ROLL_LEN + 5;
 /// The words of a stored session: which of the two types it is, then its record.
 pub const STORED_LEN: usize = 1 + RECORD_LEN;
 

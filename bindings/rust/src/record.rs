@@ -6,8 +6,9 @@ use crate::{RECORD_LEN, ROLL_LEN};
 ///
 /// A record is for its party alone. `carry` is this party's share, and `sum`,
 /// which all parties know, gives the dealer total demand minus total supply at
-/// the probed index. The roll is no secret among the parties: before they speak
-/// they compare theirs, which have to be the same.
+/// the probed index; both are 0 again when the auction is over, and then the record
+/// holds no share. The roll is no secret among the parties: before they speak they
+/// compare theirs, which have to be the same.
 ///
 /// What `lo` and `hi` tell depends on which of [the two
 /// searches](crate#the-two-searches) is on. A probe's verdict can be read off
@@ -35,7 +36,9 @@ pub struct Record {
     pub hi: u64,
     /// Probes done, of both searches.
     pub probes: u64,
-    /// The round to be said and heard next, 1 to 33.
+    /// The round to be said and heard next: 1 to 33 in a probe, then, where the
+    /// searches have ended with a price, [34](crate::DEMAND_ROUND) and
+    /// [35](crate::SUPPLY_ROUND), and [36](crate::OVER_ROUND) when it is over.
     pub round: u64,
     /// The opened sum of this probe's round 1, else 0.
     pub sum: u64,
@@ -51,6 +54,10 @@ pub struct Record {
     pub first: u64,
     /// The probes of the first search; 0 until it ends.
     pub first_probes: u64,
+    /// Total demand at the price; 0 until round 34 opens it.
+    pub demand: u64,
+    /// Total supply at the price, at most `demand`; 0 until round 35 opens it.
+    pub supply: u64,
 }
 
 impl Record {
@@ -64,7 +71,7 @@ impl Record {
     pub(crate) fn to_words(&self) -> [u64; RECORD_LEN] {
         let mut words = [0; RECORD_LEN];
         let (numbers, rest) = words.split_at_mut(10);
-        let (roll, searches) = rest.split_at_mut(ROLL_LEN);
+        let (roll, others) = rest.split_at_mut(ROLL_LEN);
         numbers.copy_from_slice(&[
             self.n,
             self.own,
@@ -78,14 +85,20 @@ impl Record {
             self.carry,
         ]);
         roll.copy_from_slice(&self.roll);
-        searches.copy_from_slice(&[self.search, self.first, self.first_probes]);
+        others.copy_from_slice(&[
+            self.search,
+            self.first,
+            self.first_probes,
+            self.demand,
+            self.supply,
+        ]);
         words
     }
 
     /// The record of these words. Each call judges what they say.
     pub(crate) fn from_words(words: [u64; RECORD_LEN]) -> Record {
         let [n, own, k, bids, lo, hi, probes, round, sum, carry, rest @ ..] = words;
-        let [roll @ .., search, first, first_probes] = rest;
+        let [roll @ .., search, first, first_probes, demand, supply] = rest;
         Record {
             n,
             own,
@@ -101,6 +114,8 @@ impl Record {
             search,
             first,
             first_probes,
+            demand,
+            supply,
         }
     }
 

@@ -12,7 +12,8 @@ pub enum Refusal {
     /// session, or a mark of who was present is above 1; `bids` is not the number
     /// of marks on the roll, or the roll marks a number outside 1 to 1,000; the
     /// numbers of the two searches do not fit, as where the first has ended and
-    /// the second has not begun.
+    /// the second has not begun; the round is none of those that the searches
+    /// have come to; or total supply is above total demand.
     OutOfRange = 1,
     /// 2: a slice has not the length that the call states.
     WrongLength = 2,
@@ -35,7 +36,8 @@ pub enum Refusal {
     /// 10: a message of those who were present is out of range, or no polynomial
     /// of degree at most t passes through all of theirs.
     Inconsistent = 10,
-    /// 11: the opened sum of round 1 is outside its range.
+    /// 11: the opened sum of round 1 is outside its range; or a total that is
+    /// opened in round 34 or 35 is 2^32 or more, or supply would be above demand.
     SumOutOfRange = 11,
     /// 12: the opened verdict is neither 0 nor 1.
     VerdictNotBit = 12,
@@ -43,11 +45,14 @@ pub enum Refusal {
     AlreadyEntered = 14,
     /// 15: fewer than t + 1 parties are marked as present.
     TooFewPresent = 15,
+    /// 16: a fill is wanted before the totals at the price are open, or there is
+    /// no price.
+    NotCleared = 16,
 }
 
 impl Refusal {
     /// Every refusal, in the order of the numbers.
-    pub const ALL: [Refusal; 13] = [
+    pub const ALL: [Refusal; 14] = [
         Refusal::OutOfRange,
         Refusal::WrongLength,
         Refusal::OutOfTurn,
@@ -61,9 +66,10 @@ impl Refusal {
         Refusal::VerdictNotBit,
         Refusal::AlreadyEntered,
         Refusal::TooFewPresent,
+        Refusal::NotCleared,
     ];
 
-    /// The refusal's number, 1 to 15. The calls give neither 4 nor 13.
+    /// The refusal's number, 1 to 16. The calls give neither 4 nor 13.
     pub fn number(self) -> u64 {
         self as u64
     }
@@ -88,10 +94,11 @@ impl fmt::Display for Refusal {
             Refusal::ShareOutOfRange => "a share is out of range",
             Refusal::OwnMessageDiffers => "the party's own message is not what it says",
             Refusal::Inconsistent => "the messages lie on no polynomial of the degree",
-            Refusal::SumOutOfRange => "the opened sum is out of range",
+            Refusal::SumOutOfRange => "the opened sum or total is out of range",
             Refusal::VerdictNotBit => "the opened verdict is not a bit",
             Refusal::AlreadyEntered => "a bid of this bidder has been added already",
             Refusal::TooFewPresent => "too few parties were present",
+            Refusal::NotCleared => "no totals are open, or there is no price",
         };
         write!(f, "refusal {}: {text}", self.number())
     }

@@ -4,16 +4,17 @@
 
 use std::fmt;
 
+use crate::cleared::Cleared;
 use crate::record::Record;
 use crate::refusal::{outcome, Refusal};
-use crate::{words, RECORD_LEN, STORED_LEN};
+use crate::{words, OVER_ROUND, RECORD_LEN, ROUNDS, STORED_LEN};
 
 /// The first word of a stored session that collects.
 const COLLECTING: u64 = 0;
 /// The first word of a stored session that speaks.
 const SPEAKING: u64 = 1;
 
-/// The search whose end is that of the auction.
+/// The search whose end is that of both.
 const SECOND_SEARCH: u64 = 2;
 
 /// A party's session while it collects bids. The totals are kept beside it and
@@ -209,7 +210,8 @@ impl<'a> Speaking<'a> {
     /// Takes the messages of the current round, of those who were present, and
     /// goes on to the next round. Round 33 opens the verdict, moves `lo` or
     /// `hi` and ends the probe; where that ends the first search, the second
-    /// [begins](crate#the-two-searches).
+    /// [begins](crate#the-two-searches). Where it ends the second with a price,
+    /// rounds 34 and 35 [open the totals](crate#hours-at-the-price).
     ///
     /// Both slices have a place for each of the n parties, party 1's first. In
     /// `present` it is 1 for a party that was present, else 0; what stands in
@@ -267,7 +269,8 @@ impl<'a> Speaking<'a> {
             .step(|record| words::hear(record, self.totals, self.sheets, messages, present))
     }
 
-    /// The index of the price, once the auction is over.
+    /// The index of the price, once the auction is over: where there is one, when
+    /// the totals there are open too.
     ///
     /// Refused: [`OutOfRange`](Refusal::OutOfRange),
     /// [`OutOfTurn`](Refusal::OutOfTurn).
@@ -278,16 +281,45 @@ impl<'a> Speaking<'a> {
         Ok(Answer { index, probes })
     }
 
-    /// Whether the second search has ended. Then [`answer`](Speaking::answer)
-    /// answers, unless the record is out of range, as a resumed one may be.
-    pub fn is_over(&self) -> bool {
-        self.record.search == SECOND_SEARCH && self.record.hi.wrapping_sub(self.record.lo) == 1
+    /// The totals at the price, once the auction is over: every fleet that is told
+    /// them works out its own hours by them. See
+    /// [hours at the price](crate#hours-at-the-price).
+    ///
+    /// Refused: [`OutOfRange`](Refusal::OutOfRange),
+    /// [`NotCleared`](Refusal::NotCleared) before the auction is over, and where
+    /// there is no price.
+    pub fn cleared(&self) -> Result<Cleared, Refusal> {
+        Cleared::of_record(&self.record)
     }
 
-    /// The index that the current probe asks about; of no meaning once the
-    /// auction is over.
+    /// Whether the auction is over: both searches have ended and, where there is a
+    /// price, both totals there are open. Then [`answer`](Speaking::answer)
+    /// answers, unless the record is out of range, as a resumed one may be.
+    pub fn is_over(&self) -> bool {
+        let ended = self.record.hi.checked_sub(self.record.lo) == Some(1);
+        // There is no price exactly where the first search has found none.
+        let nothing_to_open = self.record.first == 0;
+        self.record.search == SECOND_SEARCH
+            && ended
+            && (nothing_to_open || self.record.round == OVER_ROUND)
+    }
+
+    /// The index that the current round is about: the one that the probe asks
+    /// about or, once the searches have ended, that of the price, and 0 where there
+    /// is none.
     pub fn index(&self) -> u64 {
-        self.record.lo.midpoint(self.record.hi)
+        let Record {
+            lo,
+            hi,
+            round,
+            first,
+            ..
+        } = self.record;
+        match round {
+            ..=ROUNDS => lo.midpoint(hi),
+            _ if hi <= first => first.midpoint(hi),
+            _ => first,
+        }
     }
 
     /// Where the party stands.

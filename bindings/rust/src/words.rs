@@ -1,4 +1,4 @@
-//! The eight calls on plain words, as the C library has them. The reply is 0,
+//! The nine calls on plain words, as the C library has them. The reply is 0,
 //! or the number of the [refusal](crate::Refusal), and then nothing that was
 //! lent has changed. Each call's refusals are listed in the order in which it
 //! judges them. But a record may have any length here, and where it has not
@@ -99,6 +99,13 @@ extern "C" {
         record_len: usize,
         index: *mut u64,
         probes: *mut u64,
+    ) -> u64;
+    fn clockivy_fill(
+        record: *const u64,
+        record_len: usize,
+        amount: u64,
+        hours: *mut u64,
+        remainder: *mut u64,
     ) -> u64;
 }
 
@@ -238,4 +245,10 @@ pub fn hear(
 /// Refusals 1, 2, 3.
 pub fn answer(record: &[u64], index: &mut u64, probes: &mut u64) -> u64 {
     unsafe { clockivy_answer(record.as_ptr(), record.len(), index, probes) }
+}
+
+/// Writes what a buyer of this amount gets at the price, in tenths of an hour, and
+/// the remainder. Refusals 1, 2, 16, 6.
+pub fn fill(record: &[u64], amount: u64, hours: &mut u64, remainder: &mut u64) -> u64 {
+    unsafe { clockivy_fill(record.as_ptr(), record.len(), amount, hours, remainder) }
 }

@@ -2,8 +2,9 @@
 
 use clockivy::{
     coins_len, deal, deal_bytes_len, deal_words_len, probe_limit, sheet_count, sheets_len, split,
-    table_len, threshold, Answer, Collecting, Refusal, Speaking, MASK_LIMIT, MAX_AMOUNT, PRIME,
-    RECORD_LEN, ROLL_LEN, ROUNDS, SHEET_LEN, STORED_LEN,
+    table_len, threshold, Answer, Collecting, Refusal, Speaking, DEMAND_ROUND, MASK_LIMIT,
+    MAX_AMOUNT, OVER_ROUND, PRIME, RECORD_LEN, ROLL_LEN, ROUNDS, SHEET_LEN, STORED_LEN,
+    SUPPLY_ROUND,
 };
 
 /// All parties' shares of one amount, written as demand at the only price.
@@ -113,7 +114,7 @@ fn probe(search: u64, demand: u64, supply: u64, mask: u64) -> (u64, bool) {
             let sheet = &mut sheets[left as usize * SHEET_LEN..][..SHEET_LEN];
             deal(n, own, &words, &bytes, sheet).unwrap();
             let numbers = [1, n, own, 1, 0, 0, 2, left, 1, 0, 0];
-            (stored(numbers, [search, left, left]), totals, sheets)
+            (stored(numbers, [search, left, left, 0, 0]), totals, sheets)
         })
         .collect();
     let mut parties: Vec<Speaking> = kept
@@ -135,17 +136,18 @@ fn probe(search: u64, demand: u64, supply: u64, mask: u64) -> (u64, bool) {
         1 => record.first == 1,
         _ => record.hi == 1,
     };
-    // The second search ends at lo 0 and hi 1, or at lo 1 and hi 2. The first
-    // ends with 0, and with that the second, or the second begins over 1 price.
-    let (lo, hi, first) = match (search, verdict) {
-        (1, _) => (0, 1 + u64::from(verdict), u64::from(verdict)),
-        (_, true) => (0, 1, 1),
-        (_, false) => (1, 2, 1),
+    // The second search ends at lo 0 and hi 1, or at lo 1 and hi 2, and the totals
+    // are next. The first ends with 0, and with that all, or the second begins over
+    // 1 price.
+    let (lo, hi, round, first) = match (search, verdict) {
+        (1, _) => (0, 1 + u64::from(verdict), 1, u64::from(verdict)),
+        (_, true) => (0, 1, DEMAND_ROUND, 1),
+        (_, false) => (1, 2, DEMAND_ROUND, 1),
     };
     for (own, party) in (1..).zip(&parties) {
-        let numbers = [1, n, own, 1, 0, lo, hi, search, 1, 0, 0];
-        assert_eq!(party.store(), stored(numbers, [2, first, 1]));
-        assert_eq!(party.is_over(), hi - lo == 1);
+        let numbers = [1, n, own, 1, 0, lo, hi, search, round, 0, 0];
+        assert_eq!(party.store(), stored(numbers, [2, first, 1, 0, 0]));
+        assert_eq!(party.is_over(), first == 0);
     }
     (sum, verdict)
 }
@@ -247,11 +249,11 @@ fn bidders_are_numbered_from_1_to_1000() {
 }
 
 /// A stored session of nobody's bids: its words before the roll, and those of
-/// the searches behind it.
-fn stored(numbers: [u64; 11], searches: [u64; 3]) -> [u64; STORED_LEN] {
+/// the searches and the totals behind it.
+fn stored(numbers: [u64; 11], others: [u64; 5]) -> [u64; STORED_LEN] {
     let mut words = [0; STORED_LEN];
     words[..11].copy_from_slice(&numbers);
-    words[11 + ROLL_LEN..].copy_from_slice(&searches);
+    words[11 + ROLL_LEN..].copy_from_slice(&others);
     words
 }
 
@@ -262,7 +264,7 @@ fn limits_of_a_session() {
         Collecting::open(n, own, k, &mut totals).map(|session| (session.store(), totals))
     };
     for n in 3..=9 {
-        let opened = stored([0, n, n, 1_024, 0, 0, 1_025, 0, 1, 0, 0], [1, 0, 0]);
+        let opened = stored([0, n, n, 1_024, 0, 0, 1_025, 0, 1, 0, 0], [1, 0, 0, 0, 0]);
         assert_eq!(open(n, n, 1_024), Ok((opened, vec![0; 2_048])));
         assert_eq!(open(n, n + 1, 1), Err(Refusal::OutOfRange));
         assert_eq!(open(n, 0, 1), Err(Refusal::OutOfRange));
@@ -281,30 +283,45 @@ fn limits_of_a_session() {
 
 #[test]
 fn answers_wait_for_the_end() {
-    let answer = |[lo, hi, probes]: [u64; 3], searches: [u64; 3], carry| {
-        let stored = stored([1, 3, 1, 1, 0, lo, hi, probes, 1, 0, carry], searches);
+    let answer = |[lo, hi, probes, round]: [u64; 4], [search, first, spent]: [u64; 3], carry| {
+        let numbers = [1, 3, 1, 1, 0, lo, hi, probes, round, 0, carry];
+        let stored = stored(numbers, [search, first, spent, 9, 7]);
         let party = Speaking::resume(&stored, &[], &[]).unwrap();
-        assert_eq!(party.is_over(), searches[0] == 2 && hi - lo == 1);
+        let ended = search == 2 && hi - lo == 1;
+        assert_eq!(party.is_over(), ended && (first == 0 || round == 36));
         party
             .answer()
             .map(|Answer { index, probes }| (index, probes))
     };
     let out_of_turn = Err(Refusal::OutOfTurn);
-    assert_eq!(answer([0, 2, 0], [1, 0, 0], 0), out_of_turn);
-    assert_eq!(answer([0, 2, 1], [2, 1, 1], 0), out_of_turn);
-    // No price; a balanced one; one that is not.
-    assert_eq!(answer([0, 1, 1], [2, 0, 1], 0), Ok((0, 1)));
-    assert_eq!(answer([0, 1, 2], [2, 1, 1], 0), Ok((1, 2)));
-    assert_eq!(answer([1, 2, 2], [2, 1, 1], 0), Ok((1, 2)));
+    assert_eq!(answer([0, 2, 0, 1], [1, 0, 0], 0), out_of_turn);
+    assert_eq!(answer([0, 2, 1, 1], [2, 1, 1], 0), out_of_turn);
+    // No price; a balanced one; one that is not. With a price both totals are
+    // opened first.
+    assert_eq!(answer([0, 1, 1, 1], [2, 0, 1], 0), Ok((0, 1)));
+    for round in [DEMAND_ROUND, SUPPLY_ROUND] {
+        assert_eq!(answer([0, 1, 2, round], [2, 1, 1], 0), out_of_turn);
+        assert_eq!(answer([1, 2, 2, round], [2, 1, 1], 0), out_of_turn);
+    }
+    assert_eq!(answer([0, 1, 2, OVER_ROUND], [2, 1, 1], 0), Ok((1, 2)));
+    assert_eq!(answer([1, 2, 2, OVER_ROUND], [2, 1, 1], 0), Ok((1, 2)));
     let out_of_range = Err(Refusal::OutOfRange);
-    assert_eq!(answer([1, 2, 2], [2, 1, 1], 256), out_of_range);
+    assert_eq!(answer([1, 2, 2, 36], [2, 1, 1], 256), out_of_range);
     // A first search that has ended has begun the second.
-    assert_eq!(answer([1, 2, 1], [1, 0, 0], 0), out_of_range);
+    assert_eq!(answer([1, 2, 1, 1], [1, 0, 0], 0), out_of_range);
+    // Once the searches have ended with a price no probe goes on, and before that
+    // no total is opened.
+    assert_eq!(answer([0, 1, 2, 1], [2, 1, 1], 0), out_of_range);
+    assert_eq!(answer([0, 1, 2, 33], [2, 1, 1], 0), out_of_range);
+    assert_eq!(answer([0, 1, 2, 37], [2, 1, 1], 0), out_of_range);
+    assert_eq!(answer([0, 1, 1, 36], [2, 0, 1], 0), out_of_range);
+    assert_eq!(answer([0, 2, 1, 34], [2, 1, 1], 0), out_of_range);
+    assert_eq!(answer([0, 2, 0, 36], [1, 0, 0], 0), out_of_range);
 }
 
 #[test]
 fn refusals_by_number() {
-    let numbers = [1, 2, 3, 5, 6, 7, 8, 9, 10, 11, 12, 14, 15];
+    let numbers = [1, 2, 3, 5, 6, 7, 8, 9, 10, 11, 12, 14, 15, 16];
     assert_eq!(Refusal::ALL.map(Refusal::number), numbers);
     for (number, refusal) in numbers.into_iter().zip(Refusal::ALL) {
         assert_eq!(Refusal::from_number(number), Some(refusal));
@@ -312,7 +329,7 @@ fn refusals_by_number() {
             .to_string()
             .starts_with(&format!("refusal {number}: ")));
     }
-    for number in [0, 4, 13, 16, u64::MAX] {
+    for number in [0, 4, 13, 17, u64::MAX] {
         assert_eq!(Refusal::from_number(number), None);
     }
 }
@@ -330,7 +347,7 @@ fn sizes() {
     );
     assert_eq!((deal_words_len(9), deal_bytes_len(9)), (5, 566));
     assert_eq!((coins_len(9, 1_024), sheets_len(1_024)), (8_192, 2_794));
-    assert_eq!((RECORD_LEN, STORED_LEN), (29, 30));
+    assert_eq!((RECORD_LEN, STORED_LEN), (31, 32));
 }
 
 #[test]

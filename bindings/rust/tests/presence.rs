@@ -3,8 +3,8 @@
 
 use clockivy::{
     coins_len, deal, deal_bytes_len, deal_words_len, sheets_len, split, table_len, threshold,
-    words, Answer, Collecting, Record, Refusal, Speaking, PARTIES, PRIME, RECORD_LEN, ROUNDS,
-    SHEET_LEN, STORED_LEN,
+    words, Answer, Cleared, Collecting, Record, Refusal, Speaking, DEMAND_ROUND, PARTIES, PRIME,
+    RECORD_LEN, ROUNDS, SHEET_LEN, STORED_LEN, SUPPLY_ROUND,
 };
 use clockivy_hearings::{choices, count, refused, Hearing};
 
@@ -15,10 +15,20 @@ const ANSWER: Answer = Answer {
     index: 1,
     probes: 3,
 };
+/// The rounds until then: those of the probes, and two of the totals.
+const ALL_ROUNDS: usize = 3 * ROUNDS as usize + 2;
 
 /// The places of a record's fields.
 const LO: usize = 4;
 const HI: usize = 5;
+const ROUND: usize = 7;
+const SEARCH: usize = 26;
+
+/// A party that has come to the answer has the totals there too.
+fn assert_answered(party: &Speaking) {
+    assert_eq!(party.answer(), Ok(ANSWER));
+    assert_eq!(party.cleared(), Cleared::new(5, 1));
+}
 
 /// What one party keeps beside its session.
 struct Kept {
@@ -92,7 +102,7 @@ fn first(n: u64, count: usize) -> Vec<u8> {
 }
 
 /// What all parties' records have in common.
-fn common(record: &Record) -> [u64; 9] {
+fn common(record: &Record) -> [u64; 11] {
     let Record {
         bids,
         lo,
@@ -103,6 +113,8 @@ fn common(record: &Record) -> [u64; 9] {
         search,
         first,
         first_probes,
+        demand,
+        supply,
         ..
     } = *record;
     [
@@ -115,17 +127,20 @@ fn common(record: &Record) -> [u64; 9] {
         search,
         first,
         first_probes,
+        demand,
+        supply,
     ]
 }
 
 #[test]
 fn t_plus_1_parties_come_to_the_answer_without_the_others() {
     for n in PARTIES {
-        // From the first round on, and from the middle of the second probe.
-        for gone_from in [0, 33 + 16] {
+        // From the first round on, from the middle of the second probe, and from
+        // either round of the totals.
+        for gone_from in [0, 33 + 16, ALL_ROUNDS - 2, ALL_ROUNDS - 1] {
             parties(n, |parties, _| {
                 let there = threshold(n) + 1;
-                for number in 0..3 * ROUNDS as usize {
+                for number in 0..ALL_ROUNDS {
                     let gone = number >= gone_from;
                     let round = said(parties, first(n, if gone { there } else { n as usize }));
                     for (party, mark) in parties.iter_mut().zip(&round.present) {
@@ -136,10 +151,15 @@ fn t_plus_1_parties_come_to_the_answer_without_the_others() {
                 }
                 for (place, party) in parties.iter().enumerate() {
                     if place < there {
-                        assert_eq!(party.answer(), Ok(ANSWER));
+                        assert_answered(party);
                     } else {
                         assert_eq!(party.answer(), Err(Refusal::OutOfTurn));
-                        let heard = ROUNDS * party.record().probes + party.record().round - 1;
+                        assert_eq!(party.cleared(), Err(Refusal::NotCleared));
+                        let Record { probes, round, .. } = *party.record();
+                        let heard = match round {
+                            ..=ROUNDS => ROUNDS * probes + round - 1,
+                            _ => ROUNDS * probes + round - DEMAND_ROUND,
+                        };
                         assert_eq!(heard as usize, gone_from);
                     }
                 }
@@ -154,10 +174,10 @@ fn t_plus_1_parties_come_to_the_answer_without_the_others() {
 fn who_comes_back_hears_what_it_has_missed_and_is_marked_again() {
     let n = 5;
     for present in choices(n).filter(|present| count(present) > threshold(n)) {
-        for away in [0..1, 5..9, 30..40, 20..75] {
+        for away in [0..1, 5..9, 30..40, 20..75, 95..99, 98..100, 99..100] {
             parties(n, |parties, _| {
                 let mut missed = Vec::new();
-                for number in 0..3 * ROUNDS as usize {
+                for number in 0..ALL_ROUNDS {
                     if away.contains(&number) {
                         let round = said(parties, present.clone());
                         for (party, mark) in parties.iter_mut().zip(&present) {
@@ -185,7 +205,7 @@ fn who_comes_back_hears_what_it_has_missed_and_is_marked_again() {
                     }
                 }
                 for party in parties {
-                    assert_eq!(party.answer(), Ok(ANSWER));
+                    assert_answered(party);
                 }
             });
         }
@@ -209,7 +229,7 @@ fn who_comes_back_when_the_auction_is_over_answers_too() {
             assert_eq!(late.answer(), Err(Refusal::OutOfTurn));
             hear(late, round).unwrap();
         }
-        assert_eq!(late.answer(), Ok(ANSWER));
+        assert_answered(late);
         assert_eq!(hear(late, &rounds[0]), Err(Refusal::OutOfTurn));
     });
 }
@@ -230,7 +250,7 @@ fn a_marked_party_may_hear_late() {
             }
             hear(&mut parties[4], &one).unwrap();
             hear(&mut parties[4], &other).unwrap();
-            // Three probes have an odd number of rounds.
+            // A probe has an odd number of rounds.
             if parties[0].record().round == ROUNDS {
                 let last = said(parties, vec![1; 5]);
                 for party in parties.iter_mut() {
@@ -239,7 +259,7 @@ fn a_marked_party_may_hear_late() {
             }
         }
         for party in parties {
-            assert_eq!(party.answer(), Ok(ANSWER));
+            assert_answered(party);
         }
     });
 }
@@ -267,7 +287,7 @@ fn what_stands_in_an_unmarked_place_changes_nothing() {
             number += 1;
         }
         for party in parties {
-            assert_eq!(party.answer(), Ok(ANSWER));
+            assert_answered(party);
         }
     });
 }
@@ -282,8 +302,8 @@ fn again<'a>(stored: &[u64; STORED_LEN], kept: &'a Kept) -> Speaking<'a> {
 fn any_t_plus_1_or_more_open_to_the_same_and_fewer_are_too_few() {
     for n in PARTIES {
         parties(n, |parties, kept| {
-            // The rounds of one probe, each heard by one party in every way.
-            for _ in 1..=ROUNDS {
+            // Each round is heard by one party in every way.
+            while !parties[0].is_over() {
                 let all = said(parties, vec![1; n as usize]);
                 let own = parties[0].record().round as usize % n as usize;
                 let before = parties[own].store();
@@ -308,7 +328,18 @@ fn any_t_plus_1_or_more_open_to_the_same_and_fewer_are_too_few() {
 
 /// A hearing of five parties in round 1: of the fourth, the third being away.
 fn good() -> Hearing {
+    good_in(1)
+}
+
+/// The same in the first such round.
+fn good_in(number: u64) -> Hearing {
     parties(5, |parties, kept| {
+        while parties[0].record().round < number {
+            let round = said(parties, vec![1; 5]);
+            for party in parties.iter_mut() {
+                hear(party, &round).unwrap();
+            }
+        }
         let Round { messages, present } = said(parties, vec![1, 1, 0, 1, 1]);
         Hearing {
             record: parties[3].store()[1..].to_vec(),
@@ -332,11 +363,14 @@ fn heard(hearing: &Hearing) -> Result<[u64; STORED_LEN], Refusal> {
 
 #[test]
 fn a_hearing_is_judged_in_its_order() {
-    let good = good();
-    assert!(heard(&good).is_ok());
-    for (hearing, number) in refused(&good) {
-        let refusal = heard(&hearing).unwrap_err();
-        assert_eq!(refusal.number(), number, "{hearing:?}");
+    for round in [1, DEMAND_ROUND, SUPPLY_ROUND] {
+        let good = good_in(round);
+        assert_eq!(good.record[ROUND], round);
+        assert!(heard(&good).is_ok());
+        for (hearing, number) in refused(&good) {
+            let refusal = heard(&hearing).unwrap_err();
+            assert_eq!(refusal.number(), number, "{hearing:?}");
+        }
     }
     // On plain words the record's length comes before all else.
     for length in [0, RECORD_LEN - 1, RECORD_LEN + 1] {
@@ -367,18 +401,24 @@ fn marks_are_judged_whatever_their_number() {
 }
 
 /// A party that was away compares no own message and uses no totals; its sheet is
-/// judged as ever.
+/// judged as ever, where one is read.
 #[test]
 fn an_own_place_that_is_not_marked() {
-    let here = good();
-    let mut away = here.clone();
-    away.present = vec![1, 1, 0, 0, 1];
-    assert_eq!(heard(&away), heard(&here));
-    away.messages[3] = u64::MAX;
-    away.totals.fill(u64::MAX);
-    assert_eq!(heard(&away), heard(&here));
-    away.sheets[0] = PRIME;
-    assert_eq!(heard(&away), Err(Refusal::ShareOutOfRange));
+    for round in [1, DEMAND_ROUND, SUPPLY_ROUND] {
+        let here = good_in(round);
+        let mut away = here.clone();
+        away.present = vec![1, 1, 0, 0, 1];
+        assert_eq!(heard(&away), heard(&here));
+        away.messages[3] = u64::MAX;
+        away.totals.fill(u64::MAX);
+        assert_eq!(heard(&away), heard(&here));
+        away.sheets.fill(PRIME);
+        if round == 1 {
+            assert_eq!(heard(&away), Err(Refusal::ShareOutOfRange));
+        } else {
+            assert_eq!(heard(&away), heard(&here));
+        }
+    }
 }
 
 /// Why everybody who is there is marked: with more than t + 1, one wrong message
@@ -511,9 +551,13 @@ fn a_record_that_is_over_hears_nothing() {
     let mut hearing = good();
     hearing.record[LO] = 0;
     hearing.record[HI] = 1;
-    hearing.record[RECORD_LEN - 3] = 2;
+    hearing.record[SEARCH] = 2;
+    let mut cleared = good_in(SUPPLY_ROUND);
+    cleared.record[ROUND] = 36;
     for present in choices(5) {
-        hearing.present = present;
-        assert_eq!(heard(&hearing), Err(Refusal::OutOfTurn));
+        for hearing in [&mut hearing, &mut cleared] {
+            hearing.present.clone_from(&present);
+            assert_eq!(heard(hearing), Err(Refusal::OutOfTurn));
+        }
     }
 }

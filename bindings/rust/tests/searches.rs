@@ -3,10 +3,13 @@
 
 use clockivy::{
     deal, deal_bytes_len, probe_limit, sheet_count, sheets_len, split, table_len, Answer,
-    Collecting, Record, Refusal, Speaking, RECORD_LEN, ROUNDS, SHEET_LEN, STORED_LEN,
+    Collecting, Record, Refusal, Speaking, DEMAND_ROUND, OVER_ROUND, RECORD_LEN, ROUNDS, SHEET_LEN,
+    STORED_LEN, SUPPLY_ROUND, TOTAL_LIMIT,
 };
 
 const N: u64 = 3;
+/// The place of a record's round.
+const ROUND: usize = 7;
 
 /// What one party keeps beside its session.
 struct Kept {
@@ -96,17 +99,28 @@ fn meeting(k: u64, low: u64, high: u64) -> Vec<u64> {
 fn price(k: u64, bids: &[Vec<u64>]) -> (u64, u64) {
     parties(k, bids, |parties| {
         let mut probes = 0;
-        while !parties[0].is_over() {
+        while !parties[0].is_over() && parties[0].record().round == 1 {
             assert_eq!(parties[0].answer(), Err(Refusal::OutOfTurn));
+            assert_eq!(parties[0].cleared(), Err(Refusal::NotCleared));
             probe(parties);
             probes += 1;
         }
         let first = parties[0].record().first;
+        if first > 0 {
+            for number in [DEMAND_ROUND, SUPPLY_ROUND] {
+                assert_eq!(parties[0].record().round, number);
+                assert_eq!(parties[0].answer(), Err(Refusal::OutOfTurn));
+                assert_eq!(parties[0].cleared(), Err(Refusal::NotCleared));
+                round(parties);
+            }
+        }
+        assert!(parties[0].is_over());
         let answer = parties[0].answer().unwrap();
         assert_eq!(answer.probes, probes);
         assert!(probes as usize <= probe_limit(k) + probe_limit(first));
         for party in parties.iter_mut() {
             assert_eq!((party.answer(), party.record().first), (Ok(answer), first));
+            assert_eq!(party.index(), answer.index);
             assert_eq!(party.say(), Err(Refusal::OutOfTurn));
             assert_eq!(party.hear(&[0; 3], &[1; 3]), Err(Refusal::OutOfTurn));
         }
@@ -157,8 +171,12 @@ fn the_hearing_that_ends_the_first_search_begins_the_second() {
             for party in parties.iter() {
                 let record = party.record();
                 assert_eq!(searches(record), left);
-                assert_eq!((record.round, record.sum, record.carry), (1, 0, 0));
-                assert_eq!(party.is_over(), left == [1, 2, 3, 2, 1, 2]);
+                let round = match left {
+                    [1, 2, 3, 2, 1, 2] => DEMAND_ROUND,
+                    _ => 1,
+                };
+                assert_eq!((record.round, record.sum, record.carry), (round, 0, 0));
+                assert!(!party.is_over());
             }
         }
     });
@@ -197,10 +215,12 @@ fn sheets_are_lent_for_both_searches() {
 }
 
 /// The sheets of both searches are taken in turn: each probe finds its own in the
-/// next place, and nothing that is a sheet elsewhere.
+/// next place, and nothing that is a sheet elsewhere. The totals are opened without
+/// a sheet.
 #[test]
 fn with_q_probes_done_the_current_sheet_is_the_next_one() {
     let k = 5;
+    let no_sheets = vec![u64::MAX; sheets_len(k)];
     for (low, high) in [(1, 5), (2, 4), (4, 3), (1, 0), (6, 5)] {
         let (sessions, kept): (Vec<_>, Vec<_>) = (1..=N)
             .map(|own| collected(own, k, &[meeting(k, low, high)], sheets_len(k)))
@@ -227,6 +247,18 @@ fn with_q_probes_done_the_current_sheet_is_the_next_one() {
                     Speaking::resume(stored, &kept.totals, sheets).unwrap()
                 })
                 .collect();
+            if parties[0].record().round == DEMAND_ROUND {
+                parties = stored
+                    .iter()
+                    .zip(&kept)
+                    .map(|(stored, kept)| {
+                        Speaking::resume(stored, &kept.totals, &no_sheets).unwrap()
+                    })
+                    .collect();
+                round(&mut parties);
+                round(&mut parties);
+                assert!(parties[0].is_over());
+            }
             if parties[0].is_over() {
                 break;
             }
@@ -238,17 +270,20 @@ fn with_q_probes_done_the_current_sheet_is_the_next_one() {
 }
 
 /// The record of party 1 over five prices, which take at most three probes, with
-/// these numbers of the searches.
+/// these numbers of the searches. Where they have ended with a price, the totals
+/// are open.
 fn record([lo, hi, probes, search, first, first_probes]: [u64; 6]) -> [u64; RECORD_LEN] {
     let mut record = [0; RECORD_LEN];
-    record[..10].copy_from_slice(&[N, 1, 5, 0, lo, hi, probes, 1, 0, 0]);
-    record[RECORD_LEN - 3..].copy_from_slice(&[search, first, first_probes]);
+    let ended = search == 2 && hi.wrapping_sub(lo) == 1;
+    let round = if ended && first > 0 { OVER_ROUND } else { 1 };
+    record[..10].copy_from_slice(&[N, 1, 5, 0, lo, hi, probes, round, 0, 0]);
+    record[RECORD_LEN - 5..RECORD_LEN - 2].copy_from_slice(&[search, first, first_probes]);
     record
 }
 
-/// What adding, saying, hearing and asking reply to a session with this record. A
-/// refused one has changed nothing.
-fn replies(record: [u64; RECORD_LEN]) -> [Option<Refusal>; 4] {
+/// What adding, saying, hearing and asking for the answer and for the totals reply
+/// to a session with this record. A refused one has changed nothing.
+fn replies(record: [u64; RECORD_LEN]) -> [Option<Refusal>; 5] {
     let stored = |phase| {
         let mut words = [phase; STORED_LEN];
         words[1..].copy_from_slice(&record);
@@ -263,20 +298,22 @@ fn replies(record: [u64; RECORD_LEN]) -> [Option<Refusal>; 4] {
     let sheets = vec![0; sheets_len(5)];
     let mut party = Speaking::resume(&stored(1), &totals, &sheets).unwrap();
     let (said, asked) = (party.say().err(), party.answer().err());
+    let cleared = party.cleared().err();
     // A word that the party does not say, so that a hearing is refused too.
     let heard = party.hear(&[u64::MAX; 3], &[1; 3]).err();
     assert_eq!(party.store(), stored(1));
-    [added, said, heard, asked]
+    [added, said, heard, asked, cleared]
 }
 
 #[test]
 fn records_within_their_ranges() {
     let out_of_turn = Some(Refusal::OutOfTurn);
     let differs = Some(Refusal::OwnMessageDiffers);
+    let not_cleared = Some(Refusal::NotCleared);
     // Nothing probed yet, as the first search opens; and, in the second, what no
     // auction comes to, but a bid is out of turn by probes and round alone.
     for numbers in [[0, 6, 0, 1, 0, 0], [0, 6, 0, 2, 5, 0]] {
-        let expected = [None, None, differs, out_of_turn];
+        let expected = [None, None, differs, out_of_turn, not_cleared];
         assert_eq!(replies(record(numbers)), expected);
     }
     for numbers in [
@@ -288,18 +325,56 @@ fn records_within_their_ranges() {
         [2, 4, 4, 2, 3, 3],
         [0, 2, 3, 2, 1, 3],
     ] {
-        let expected = [out_of_turn, None, differs, out_of_turn];
+        let expected = [out_of_turn, None, differs, out_of_turn, not_cleared];
         assert_eq!(replies(record(numbers)), expected, "{numbers:?}");
     }
-    // A second search that has ended.
-    for numbers in [
-        [0, 1, 3, 2, 0, 3],
-        [0, 1, 3, 2, 5, 3],
-        [2, 3, 6, 2, 5, 3],
-        [5, 6, 6, 2, 5, 3],
-    ] {
-        let expected = [out_of_turn, out_of_turn, out_of_turn, None];
+    // A second search that has ended, without a price and with one.
+    let expected = [out_of_turn, out_of_turn, out_of_turn, None, not_cleared];
+    assert_eq!(replies(record([0, 1, 3, 2, 0, 3])), expected);
+    for numbers in [[0, 1, 3, 2, 5, 3], [2, 3, 6, 2, 5, 3], [5, 6, 6, 2, 5, 3]] {
+        let expected = [out_of_turn, out_of_turn, out_of_turn, None, None];
         assert_eq!(replies(record(numbers)), expected, "{numbers:?}");
+        // While the totals are opened.
+        for round in [DEMAND_ROUND, SUPPLY_ROUND] {
+            let mut record = record(numbers);
+            record[ROUND] = round;
+            let expected = [out_of_turn, None, differs, out_of_turn, not_cleared];
+            assert_eq!(replies(record), expected, "{numbers:?}");
+        }
+    }
+}
+
+/// The rounds that a record may stand at go by its searches, and its totals are
+/// totals, opened or not.
+#[test]
+fn rounds_and_totals_out_of_range() {
+    let unsound = [Some(Refusal::OutOfRange); 5];
+    let going_on = [[0, 6, 0, 1, 0, 0], [0, 6, 3, 2, 5, 3]];
+    let (no_price, ended) = ([0, 1, 3, 2, 0, 3], [2, 3, 6, 2, 5, 3]);
+    for round in (0..=40).chain([1 << 32, u64::MAX]) {
+        for numbers in going_on.into_iter().chain([no_price]) {
+            let mut record = record(numbers);
+            record[ROUND] = round;
+            let sound = (1..=33).contains(&round);
+            assert_eq!(replies(record) != unsound, sound, "{round}");
+        }
+        let mut record = record(ended);
+        record[ROUND] = round;
+        let sound = (34..=36).contains(&round);
+        assert_eq!(replies(record) != unsound, sound, "{round}");
+    }
+    let limit = TOTAL_LIMIT;
+    for numbers in going_on.into_iter().chain([no_price, ended]) {
+        for [demand, supply] in [[0, 1], [6, 7], [limit, 0], [limit, limit], [0, u64::MAX]] {
+            let mut record = record(numbers);
+            record[RECORD_LEN - 2..].copy_from_slice(&[demand, supply]);
+            assert_eq!(replies(record), unsound);
+        }
+        for [demand, supply] in [[1, 0], [7, 7], [limit - 1, 0], [limit - 1, limit - 1]] {
+            let mut record = record(numbers);
+            record[RECORD_LEN - 2..].copy_from_slice(&[demand, supply]);
+            assert_ne!(replies(record), unsound);
+        }
     }
 }
 
@@ -351,7 +426,7 @@ fn records_out_of_range() {
         [3, 2, 3, 2, 5, 3],
         [0, 0, 3, 2, 5, 3],
     ] {
-        let expected = [Some(Refusal::OutOfRange); 4];
+        let expected = [Some(Refusal::OutOfRange); 5];
         assert_eq!(replies(record(numbers)), expected, "{numbers:?}");
     }
 }

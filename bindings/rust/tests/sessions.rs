@@ -11,9 +11,11 @@ const K: u64 = 2;
 const TABLE: [u64; 4] = [5, 2, 1, 4];
 /// The number of the one who bids it.
 const BIDDER: u64 = 640;
-/// The place of `bids` in a record, of its probes, its round, its roll and the
-/// numbers of the searches.
+/// The place of `bids` in a record, of lo and hi, its probes, its round, its roll
+/// and the numbers of the searches.
 const BIDS: usize = 3;
+const LO: usize = 4;
+const HI: usize = 5;
 const PROBES: usize = 6;
 const ROUND: usize = 7;
 const ROLL: usize = 10;
@@ -23,7 +25,7 @@ const SEARCH: usize = ROLL + ROLL_LEN;
 fn with_bids(bidders: &[u64]) -> [u64; RECORD_LEN] {
     let mut record = [0; RECORD_LEN];
     record[..ROLL].copy_from_slice(&[N, 1, K, 0, 0, K + 1, 0, 1, 0, 0]);
-    record[SEARCH..].copy_from_slice(&[1, 0, 0]);
+    record[SEARCH..].copy_from_slice(&[1, 0, 0, 0, 0]);
     record[BIDS] = bidders.len() as u64;
     for bidder in bidders {
         record[ROLL + *bidder as usize / 64] |= 1 << (bidder % 64);
@@ -119,6 +121,7 @@ fn the_fields_of_a_record_in_their_order() {
     assert_eq!(record.roll, std::array::from_fn(|place| place as u64 + 20));
     let searches = [record.search, record.first, record.first_probes];
     assert_eq!(searches, [36, 37, 38]);
+    assert_eq!([record.demand, record.supply], [39, 40]);
     assert_eq!(party.store(), words);
 }
 
@@ -195,9 +198,9 @@ fn what_is_not_resumed() {
         let out_of_range = [Some(Refusal::OutOfRange); 2];
         assert_eq!(resume(&stored(first, opened)), out_of_range);
     }
-    // Eleven words were a session before there was a roll, and 27 before there
-    // was a second search.
-    for length in [0, 11, 27, RECORD_LEN, STORED_LEN + 1] {
+    // Eleven words were a session before there was a roll, 27 before there was a
+    // second search, and 30 before there were totals.
+    for length in [0, 11, 27, 30, RECORD_LEN, STORED_LEN + 1] {
         let wrong_length = [Some(Refusal::WrongLength); 2];
         assert_eq!(resume(&vec![7; length]), wrong_length);
     }
@@ -282,6 +285,7 @@ fn assert_unsound(record: [u64; RECORD_LEN]) {
     assert_eq!(party.say().map(|_| ()), out_of_range);
     assert_eq!(party.hear(&[0; 3], &[1; 3]), out_of_range);
     assert_eq!(party.answer().map(|_| ()), out_of_range);
+    assert_eq!(party.cleared().map(|_| ()), out_of_range);
     assert_eq!(party.store(), stored(1, record));
 }
 
@@ -340,7 +344,7 @@ fn a_bid_is_judged_in_its_order() {
         }
     }
     // On plain words the record's length comes before all else.
-    for length in [0, 10, 26, RECORD_LEN - 1, RECORD_LEN + 1] {
+    for length in [0, 10, 26, 29, RECORD_LEN - 1, RECORD_LEN + 1] {
         let mut record = vec![u64::MAX; length];
         let number = words::add(&mut record, &mut [0; 4], 0, short);
         assert_eq!(number, Refusal::WrongLength.number());
@@ -486,6 +490,34 @@ fn a_resumed_record_is_judged_by_the_next_call() {
     assert_eq!(party.say(), Err(Refusal::OutOfRange));
     assert_eq!(party.hear(&[0; 3], &[1; 3]), Err(Refusal::OutOfRange));
     assert_eq!(party.answer(), Err(Refusal::OutOfRange));
+    assert_eq!(party.cleared(), Err(Refusal::OutOfRange));
+}
+
+/// Whatever the words of a stored session are, it tells where it stands.
+#[test]
+fn any_words_tell_where_a_session_stands() {
+    let edges = [0, 1, 2, 33, 34, 36, 1 << 63, u64::MAX - 1, u64::MAX];
+    for round in edges {
+        for lo in edges {
+            for hi in edges {
+                for first in edges {
+                    let mut record = [u64::MAX; RECORD_LEN];
+                    [record[LO], record[HI], record[ROUND]] = [lo, hi, round];
+                    [record[SEARCH], record[SEARCH + 1]] = [2, first];
+                    let party = Speaking::resume(&stored(1, record), &[], &[]).unwrap();
+                    let over = hi.checked_sub(lo) == Some(1) && (first == 0 || round == 36);
+                    assert_eq!(party.is_over(), over);
+                    let (low, high) = match round {
+                        ..=33 => (lo, hi),
+                        _ if hi <= first => (first, hi),
+                        _ => (first, first),
+                    };
+                    let middle = (u128::from(low) + u128::from(high)) / 2;
+                    assert_eq!(u128::from(party.index()), middle);
+                }
+            }
+        }
+    }
 }
 
 #[test]

@@ -96,7 +96,7 @@ module _ (n j k : ℕ) (L : OnList n j k) (b : DrawnBid) (shares : List ℕ) (B 
 -- the record of party j with the bids of these on the roll held
 unfoldable pub holding : (n k : ℕ) (roll : Roll) (j : ℕ) → Party
 holding n k roll j =
-    record { n = n; own = j; k = k; bids = marks roll; search = first-search k; round = 1; sum = 0; carry = 0; roll = roll }
+    record { n = n; own = j; k = k; bids = marks roll; search = first-search k; round = 1; sum = 0; carry = 0; roll = roll; demand = 0; supply = 0 }
 
 -- no probe is made at the start
 none-made : (k : ℕ) → first-search k .probes ≡ 0
@@ -119,12 +119,12 @@ module _ (n k j : ℕ) (roll : Roll) (P : Proper roll) where
       record {
         listed = L;
         search = s .search;
-        round-least = s .round-least;
-        round-most = s .round-most;
+        round = s .round;
         sum = s .sum;
         carry = s .carry;
         roll = P;
         bids = refl;
+        totals = s .totals;
       }
 
 -- ---- the words of a party

@@ -1,7 +1,8 @@
 -- Lists of calls: what is read off a list made of parts, and off one call of each party. Assumes nothing.
 use mathlib.Core.Path.{_≡_, refl, sym, ap, ap₂, _∙_}
 use mathlib.Core.Bool.{Bool, true, false, cond, _&&_}
-use mathlib.Core.List.{List, [], _∷_, _++_, map, flatten, map-map}
+use mathlib.Core.Logic.{_⊎_, inl, inr}
+use mathlib.Core.List.{List, [], _∷_, _++_, map, flatten, map-map, List·Memᴰ, List·Memᴰ·head, List·Memᴰ·tail, List·Memᴰ·cases-cons, List·Memᴰ·not-nil}
 use mathlib.Core.Option.{Option, none, some}
 use Prim.Native.Nat.{ℕ, zero, suc, _+_, _≤_, _<_}
 use native.Mathlib.Decide.{decLt}
@@ -49,7 +50,21 @@ own-append j l m = select-append (λ c. accepted c && of-party j (whose c)) l m
 abbrev pub with-read : {B : Type 0} → Option B → List B → List B
 with-read o ys = elim o [ none ↦ ys | some y ↦ y ∷ ys ]
 
+pub read-more : {B : Type 0} (y : B) (o : Option B) (ys : List B) → List·Memᴰ y ys → List·Memᴰ y (with-read o ys)
+read-more y none ys h = h
+read-more y (some z) ys h = List·Memᴰ·tail h
+
 module _ {A B : Type 0} (f : A → Option B) where
+  -- what is read off an entry that is there
+  pub read-there : (x : A) (y : B) → f x ≡ some y → (l : List A) → List·Memᴰ x l → List·Memᴰ y (collect f l)
+  unfolding collect
+  read-there x y e [] m = absurd (List·Memᴰ·not-nil m)
+  read-there x y e (z ∷ l) m = go (read-there x y e l) (List·Memᴰ·cases-cons m)
+    where
+      go : (List·Memᴰ x l → List·Memᴰ y (collect f l)) → (x ≡ z) ⊎ List·Memᴰ x l → List·Memᴰ y (with-read (f z) (collect f l))
+      go rest (inl g) = rw (ap f (sym g) ∙ e) (List·Memᴰ·head refl)
+      go rest (inr h) = read-more y (f z) (collect f l) (rest h)
+
   pub collect-append : (l m : List A) → collect f (l ++ m) ≡ collect f l ++ collect f m
   unfolding collect
   collect-append [] m = refl

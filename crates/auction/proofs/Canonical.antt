@@ -19,10 +19,11 @@ use Rattle.auction.specs.Received.{collect, bid-in, Saying, saying-in, h
 use Rattle.auction.specs.Demands.{all-accepted}
 use Rattle.comparison.specs.Probe.{Each}
 use Rattle.record.specs.declared.Party.{Party}
-use Rattle.auction.proofs.Closed.{bid-words, decision, all-spoken, Stage, record-at, probes}
+use Rattle.auction.proofs.Closed.{bid-words, decision, Stage, record-at, probes}
 use Rattle.auction.proofs.Calls.{read-append, all-accepted-append}
+use Rattle.auction.proofs.Whole.{end, whole-spoken}
 use Rattle.auction.proofs.Setup.{setup-calls, round-calls, canonical-setup, setup-accepted, setup-bids, setup-none}
-use Rattle.auction.proofs.Rounds.{end, present-of, Says, rounds-accepted, rounds-rolled, rounds-heard, rounds-messages, rounds-decisions, rounds-bids, rounds-askings, rounds-sayings, rounds-says}
+use Rattle.auction.proofs.Rounds.{present-of, Says, rounds-accepted, rounds-rolled, rounds-heard, rounds-messages, rounds-decisions, rounds-bids, rounds-askings, rounds-sayings, rounds-says}
 
 module _ (a : Auction) (c : Coins) (A : IsAuction a) (C : InRange a c) (marks : Marks) (M : EnoughPresent a marks) (desk : Desk) (D : Complete (a .k) desk)
     (att : Attendance) where
@@ -55,13 +56,13 @@ module _ (a : Auction) (c : Coins) (A : IsAuction a) (C : InRange a c) (marks : 
     pub canonical-rolled : (Q : Party → Type 0) → ((σ : Stage) → Q (record-at a c σ j)) → Each (λ h. Q (h .party)) (hearings j (canonical a c marks desk att))
     canonical-rolled Q q = subst (Each (λ h. Q (h .party))) (sym canonical-hearings) (rounds-rolled a c A C marks M att j j1 jn Q q)
 
-    pub canonical-messages : messages j (canonical a c marks desk att) ≡ take (att .hears j) (present-of marks 0 (all-spoken (a .n) (probes a c)))
+    pub canonical-messages : messages j (canonical a c marks desk att) ≡ take (att .hears j) (present-of marks 0 (whole-spoken a c))
     canonical-messages = ap (map _) canonical-hearings ∙ rounds-messages a c A C marks M att j j1 jn
 
     pub canonical-decisions : decisions j (canonical a c marks desk att) ≡ take (att .hears j / probe-rounds) (map decision (probes a c))
     canonical-decisions = ap (collect _) canonical-hearings ∙ rounds-decisions a c A C marks M att j j1 jn
 
-    pub canonical-askings : askings j (canonical a c marks desk att) ≡ cond (leb (rounds a) (att .hears j)) (record-at a c (end a c A C) j ∷ []) []
+    pub canonical-askings : askings j (canonical a c marks desk att) ≡ cond (leb (rounds a) (att .hears j)) (record-at a c (end a c) j ∷ []) []
     unfolding asking-in
     canonical-askings = reads asking-in [] (setup-none A C desk j j1 jn asking-in (λ n i k t. refl) (λ q t b s. refl)) ∙ rounds-askings a c A C marks M att j j1 jn
 

@@ -14,9 +14,9 @@ use borrow.Author.Tests.{ltb-true, ltb-false, le-leb}
 use Rattle.ranges.specs.Lists.{from}
 use Rattle.sharing.specs.Scheme.{points}
 use Rattle.presence.specs.Presence.{is-present}
-use Rattle.search.specs.Searches.{finished}
 use Rattle.search.specs.Search.{Decision}
 use Rattle.record.specs.declared.Party.{Party}
+use Rattle.record.specs.Record.{ended}
 use Rattle.round.specs.declared.Heard.{Heard}
 use Rattle.auction.specs.Auction.{Auction}
 use Rattle.auction.specs.Coins.{Coins}
@@ -116,15 +116,15 @@ module _ (a : Auction) (c : Coins) (marks : Marks) (att : Attendance) where
   from-ending (suc fuel) round ss e = rw (e, from-rounds)
 
   module _ (σ : Stage) where
-    going-on : finished (σ .search) ≡ false → (i m : ℕ) → 1 ≤ m → all-over (map (seat a c σ) (from i m)) ≡ false
-    unfolding all-over from seat record-at
+    going-on : ((j : ℕ) → ended (record-at a c σ j) ≡ false) → (i m : ℕ) → 1 ≤ m → all-over (map (seat a c σ) (from i m)) ≡ false
+    unfolding all-over from seat
     going-on e i zero h = absurd (omega arith)
-    going-on e i (suc m) h = rw e
+    going-on e i (suc m) h = rw (e i)
 
-    pub all-done : finished (σ .search) ≡ true → (xs : List ℕ) → all-over (map (seat a c σ) xs) ≡ true
-    unfolding all-over seat record-at
+    pub all-done : ((j : ℕ) → ended (record-at a c σ j) ≡ true) → (xs : List ℕ) → all-over (map (seat a c σ) xs) ≡ true
+    unfolding all-over seat
     all-done e [] = refl
-    all-done e (x ∷ xs) = ap₂ _&&_ e (all-done e xs)
+    all-done e (x ∷ xs) = ap₂ _&&_ (e x) (all-done e xs)
 
   abbrev pub seats : Stage → List Seat
   seats σ = map (seat a c σ) (points (a .n))

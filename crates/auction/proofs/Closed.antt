@@ -1,8 +1,9 @@
 -- An auction seen whole: the polynomials behind every party's totals and sheets, where the searches stand, and what each party then has
 -- and says. Everything that a run computes is read off these. Assumes nothing.
-use mathlib.Core.Bool.{true, false}
+use mathlib.Core.Bool.{true, false, cond}
 use mathlib.Core.List.{List, [], _∷_, map, flatten, zip}
 use Prim.Native.Nat.{ℕ, zero, suc, _+_, _-_, _*_}
+use lib.Dec.{eqb}
 use lib.ListN.{replicate, getD}
 use Rattle.ranges.specs.Sizes.{probe-rounds}
 use Rattle.fields.specs.Amount.{amounts}
@@ -13,14 +14,14 @@ use Rattle.ranges.specs.Lists.{from}
 use Rattle.sharing.specs.Scheme.{threshold, points}
 use Rattle.search.specs.declared.searches.Search.{Search}
 use Rattle.search.specs.Bracket.{middle}
-use Rattle.search.specs.Searches.{side, first-search, next, finished}
+use Rattle.search.specs.Searches.{side, first-search, next, finished, clears}
 use Rattle.search.specs.Search.{Decision, decision-at}
 use Rattle.comparison.specs.Probe.{SheetCoins, sheet-polynomials, sheet-shares, probe-messages, Probe, secret, round, carry-after, opened-sum, carry-one, last-polynomial}
 use Rattle.record.specs.declared.Party.{Party}
 use Rattle.roll.specs.declared.Roll.{Roll}
 use Rattle.roll.specs.Marks.{marks, empty}
 use Rattle.roll.proofs.Entry.{enter}
-use Rattle.auction.specs.Auction.{Auction, Bid, bidders}
+use Rattle.auction.specs.Auction.{Auction, Bid, bidders, price-answer}
 use Rattle.auction.specs.Coins.{Coins, DrawnBid, flat}
 use Rattle.auction.specs.Canonical.{Seat}
 
@@ -123,6 +124,13 @@ spoken n q = map (λ i. map (λ j. getD (probe-messages q j) i 0) (points n)) (f
 abbrev pub all-spoken : (n : ℕ) → List Made → List (List ℕ)
 all-spoken n ds = flatten (map (λ d. spoken n (d .probe)) ds)
 
+-- those of rounds 34 and 35, where total demand and total supply are opened
+unfoldable pub totals-spoken : Auction → List (List ℕ) → List (List ℕ)
+totals-spoken a fs =
+    let m = price-answer a in
+    cond (eqb m 0) []
+    (map (λ j. value amounts (demand-at a fs m) j) (points (a .n)) ∷ map (λ j. value amounts (supply-at a fs m) j) (points (a .n)) ∷ [])
+
 -- ---- what a party has
 
 -- what all parties know in a round, and the polynomial of the carry
@@ -131,14 +139,24 @@ pub record Stage : Type 0 where
   pub round : ℕ
   pub sum : ℕ
   pub carry : List ℕ
+  pub demand : ℕ
+  pub supply : ℕ
 
 -- before round 1 of a probe
 abbrev pub fresh-stage : Search → Stage
-fresh-stage here = record { search = here; round = 1; sum = 0; carry = [] }
+fresh-stage here = record { search = here; round = 1; sum = 0; carry = []; demand = 0; supply = 0 }
 
 -- before round i + 2 of the probe q
 abbrev pub inner-stage : Search → Probe → ℕ → Stage
-inner-stage here q i = record { search = here; round = i + 2; sum = opened-sum q; carry = carry-at q i }
+inner-stage here q i = record { search = here; round = i + 2; sum = opened-sum q; carry = carry-at q i; demand = 0; supply = 0 }
+
+-- after a verdict: before the next probe, or before the totals are opened
+abbrev pub decided-stage : Search → Stage
+decided-stage here = record { search = here; round = cond (clears here) 34 1; sum = 0; carry = []; demand = 0; supply = 0 }
+
+-- after the last probe, in the round 34, 35 or 36, with these totals
+abbrev pub total-stage : Search → (round demand supply : ℕ) → Stage
+total-stage here round demand supply = record { search = here; round = round; sum = 0; carry = []; demand = demand; supply = supply }
 
 module _ (a : Auction) (c : Coins) where
   unfoldable pub record-at : Stage → ℕ → Party
@@ -153,6 +171,8 @@ module _ (a : Auction) (c : Coins) where
         sum = σ .sum;
         carry = value bytes (σ .carry) j;
         roll = full-roll a;
+        demand = σ .demand;
+        supply = σ .supply;
       }
 
   unfoldable pub sheets-at : ℕ → List ℕ

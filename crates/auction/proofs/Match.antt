@@ -1,6 +1,6 @@
 -- The matching coins match: with them the second auction is the same as the first for t pooled parties and in every word that is said,
 -- and no other coins do this. Assumes nothing.
-use mathlib.Core.Path.{_≡_, refl, sym, ap, subst, _∙_}
+use mathlib.Core.Path.{_≡_, refl, sym, ap, ap₂, subst, _∙_}
 use mathlib.Core.Bool.{true}
 use mathlib.Core.List.{List, [], _∷_, map, zip, flatten, List·Memᴰ, List·Memᴰ·not-nil, List·Memᴰ·cases-cons}
 use mathlib.Core.Logic.{_⊎_, inl, inr}
@@ -16,17 +16,19 @@ use Rattle.search.specs.Searches.{first-search}
 use Rattle.search.specs.Search.{promise, decision-at, trail}
 use Rattle.search.proofs.Balance.{same-promises}
 use Rattle.search.proofs.Bounds.{roomy-start}
+use Rattle.search.specs.Clearing.{price-index}
 use Rattle.comparison.specs.Probe.{probe-messages, Each}
 use Rattle.comparison.proofs.Agreement.{In}
 use Rattle.auction.specs.Auction.{Auction, Bid, IsAuction, demand, supply, probed}
 use Rattle.auction.specs.Coins.{Coins, InRange, flat}
 use Rattle.auction.specs.Demands.{Alike, Pool, stays, Stay}
 use Rattle.auction.proofs.Matched.{matched-bids, matched-sheets, match-coins}
-use Rattle.auction.proofs.Closed.{totals-after, no-totals, at-party, bid-words, polynomials, decision, made, spoken, sheets-at, probes}
+use Rattle.auction.proofs.Closed.{totals-after, no-totals, at-party, bid-words, polynomials, decision, made, spoken, totals-spoken, sheets-at, probes}
 use Rattle.auction.proofs.Totals.{all-good, no-totals-held, totals-monotone}
 use Rattle.auction.proofs.Comparing.{compares}
 use Rattle.auction.proofs.SameBids.{bids-many, bids-ranged, bids-words, bids-only, totals-same, shares-same}
 use Rattle.auction.proofs.SameSheets.{spoken-same}
+use Rattle.auction.proofs.SameTotals.{totals-alike}
 use Rattle.auction.proofs.SameProbes.{auction, Setting, Course, course, sheets-ranged, sheets-many, words-same, made-same, unused-same, sheets-only}
 
 -- what the second auction, with these coins, has in common with the first
@@ -41,6 +43,8 @@ pub record Match (a b : Auction) (xs : List ℕ) (c : Coins) : Type 0 where
   pub same-searches : map (λ d. d .here) (probes b (match-coins a b xs c)) ≡ map (λ d. d .here) (probes a c)
   pub same-messages : (j : ℕ) → map (λ d. probe-messages (d .probe) j) (probes b (match-coins a b xs c)) ≡ map (λ d. probe-messages (d .probe) j) (probes a c)
   pub same-spoken : map (λ d. spoken (b .n) (d .probe)) (probes b (match-coins a b xs c)) ≡ map (λ d. spoken (a .n) (d .probe)) (probes a c)
+  -- and the words of the rounds in which the totals are opened
+  pub same-opened : totals-spoken b (polynomials b (match-coins a b xs c)) ≡ totals-spoken a (polynomials a c)
   pub same-decisions : map decision (probes b (match-coins a b xs c)) ≡ map decision (probes a c)
   pub same-many : length (probes b (match-coins a b xs c)) ≡ length (probes a c)
   -- any party's unused sheets
@@ -175,6 +179,9 @@ module _ (n k : ℕ) (bids bids′ : List Bid) (A : IsAuction (auction n k bids)
         same-searches = made-same (λ d. d .here) (λ here s s′ P. refl) on-course;
         same-messages = λ j. made-same (λ d. probe-messages (d .probe) j) (λ here s s′ P. P .said j) on-course;
         same-spoken = made-same (λ d. spoken n (d .probe)) (λ here s s′ P. spoken-same n _ _ (P .said)) on-course;
+        same-opened =
+            totals-alike n k bids bids′ A B xs pool c c₀ C first-ranged (shares-same xs (polynomials a c) (polynomials b c₀) same-totals)
+            (ap₂ price-index (alike .highest) (alike .lowest)) (alike .total-demand) (alike .total-supply);
         same-decisions = made-same decision (λ here s s′ P. ap (decision-at here) (P .same)) on-course;
         same-many =
             sym (length-map (made b (polynomials b c₀) (first-search k) (matched-sheets a b xs (probed a) (c .sheets))) (λ d. d .here))

@@ -1,8 +1,8 @@
 -- What is read off any run is what is read off the canonical list; and which changes of a list keep it a run. Assumes nothing.
-use mathlib.Core.Path.{_≡_, refl, sym, ap, ap₂, _∙_}
-use mathlib.Core.Logic.{_↔_, ⊎-elim}
+use mathlib.Core.Path.{_≡_, refl, sym, ap, ap₂, subst, _∙_}
+use mathlib.Core.Logic.{_↔_, _⊎_, inl, inr, ⊎-elim}
 use mathlib.Core.Bool.{Bool, true, false, _&&_, true≢false}
-use mathlib.Core.List.{List, [], _∷_, _++_, head-eq-of-cons-eq, tail-eq-of-cons-eq, cons≢nil, List·Memᴰ, List·Memᴰ·head, List·Memᴰ·tail, List·Memᴰ·cases-cons}
+use mathlib.Core.List.{List, [], _∷_, _++_, head-eq-of-cons-eq, tail-eq-of-cons-eq, cons≢nil, List·Memᴰ, List·Memᴰ·head, List·Memᴰ·tail, List·Memᴰ·cases-cons, List·Memᴰ·not-nil}
 use mathlib.Core.Option.{Option, none, some}
 use Prim.Native.Nat.{ℕ, suc, _*_, _≤_}
 use native.Mathlib.Omega.{arith}
@@ -19,14 +19,15 @@ use Rattle.auction.specs.Auction.{Auction}
 use Rattle.auction.specs.Coins.{Coins}
 use Rattle.auction.specs.Desk.{by-entries, Desk, Complete}
 use Rattle.auction.specs.Attendance.{Marks, Attendance, Attends}
-use Rattle.auction.specs.Call.{Call, split-entry-call, say-call, answer-call, accepted, Whose, party, service, whose, of-party, of-service, given}
+use Rattle.auction.specs.Call.{Call, split-entry-call, say-call, answer-call, fill-call, accepted, Whose, party, service, fleet, whose, of-party, of-service, of-fleet, given}
 use Rattle.auction.specs.Canonical.{entry-calls, canonical}
-use Rattle.auction.specs.Run.{Run, Repeats, select, own, services}
+use Rattle.auction.specs.Run.{Run, Repeats, select, own, services, fills}
 use Rattle.auction.specs.Received.{collect, bid-in, Saying, saying-in, hearing-in, asking-in, received-bids, sayings, hearings, askings}
 use Rattle.auction.proofs.Selected.{with-call, select-cons, select-skip}
-use Rattle.auction.proofs.Calls.{select-append, with-read}
+use Rattle.auction.proofs.Calls.{select-append, with-read, read-more}
 use Rattle.auction.proofs.Repeats.{repeats-refl, repeats-say, repeats-ask, repeats-none}
 use Rattle.auction.proofs.Elsewhere.{none-told}
+use Rattle.auction.proofs.Fleets.{no-fills}
 
 -- ---- the canonical list is a run
 
@@ -40,6 +41,7 @@ canonical-run a c marks desk D att T =
       attends = T;
       parties = λ j. repeats-refl (own j (canonical a c marks desk att));
       others = shuffle-refl (services (canonical a c marks desk att));
+      fleets = λ q amount m. absurd (List·Memᴰ·not-nil (subst (List·Memᴰ (fill-call q amount)) (no-fills a c marks desk att) m));
     }
 
 -- each of its entries in turn, or in any order, on any slice: so is a bundle written in some run
@@ -97,10 +99,6 @@ module _ {B : Type 0} (f : Call → Option B) (x : B) where
   read-once none xs ys g m = g m
   read-once (some y) xs ys g m = ⊎-elim (λ e. List·Memᴰ·head e) g (List·Memᴰ·cases-cons m)
 
-  read-more : (o : Option B) (ys : List B) → List·Memᴰ x ys → List·Memᴰ x (with-read o ys)
-  read-more none ys m = m
-  read-more (some y) ys m = List·Memᴰ·tail m
-
   only-said : {cs ds : List Call} → Repeats cs ds → List·Memᴰ x (collect f ds) → List·Memᴰ x (collect f cs)
   unfolding collect
   only-said Repeats.end m = m
@@ -113,8 +111,8 @@ module _ {B : Type 0} (f : Call → Option B) (x : B) where
   unfolding collect
   all-said Repeats.end m = m
   all-said (Repeats.next {c} {cs} {ds} h) m = read-in (f c) (collect f ds) (collect f cs) (λ m′. all-said h m′) m
-  all-said (Repeats.say-again {q} {totals} {sheets} {ds} h) m = read-more (f (say-call q totals sheets)) (collect f ds) (all-said h m)
-  all-said (Repeats.ask-again {q} {ds} h) m = read-more (f (answer-call q)) (collect f ds) (all-said h m)
+  all-said (Repeats.say-again {q} {totals} {sheets} {ds} h) m = read-more x (f (say-call q totals sheets)) (collect f ds) (all-said h m)
+  all-said (Repeats.ask-again {q} {ds} h) m = read-more x (f (answer-call q)) (collect f ds) (all-said h m)
 
 module _ (a : Auction) (c : Coins) (marks : Marks) (l : List Call) (run : Run a c marks l) (j : ℕ) (x : Saying) where
   pub run-sayings : List·Memᴰ x (sayings j l) → List·Memᴰ x (sayings j (told run))
@@ -171,8 +169,8 @@ run-none-else a c marks l run j outside = repeats-none (rw (none-told j a c mark
 
 -- another list is a run too, with the bundles written in the same ways and the same attendance
 with-calls : {a : Auction} {c : Coins} {marks : Marks} {l m : List Call} (r : Run a c marks l) → ((j : ℕ) → Repeats (own j (told r)) (own j m))
-    → Shuffle (services (told r)) (services m) → Run a c marks m
-with-calls r parties others =
+    → Shuffle (services (told r)) (services m) → ((x : Call) → List·Memᴰ x (fills m) → List·Memᴰ x (fills l)) → Run a c marks m
+with-calls r parties others fewer =
     record {
       desk = r .desk;
       complete = r .complete;
@@ -180,6 +178,7 @@ with-calls r parties others =
       attends = r .attends;
       parties = parties;
       others = others;
+      fleets = λ q amount m. r .fleets q amount (fewer (fill-call q amount) m);
     }
 
 -- the tests that tell whose calls are taken
@@ -188,6 +187,9 @@ owned j x = accepted x && of-party j (whose x)
 
 abbrev served : Call → Bool
 served x = accepted x && of-service (whose x)
+
+abbrev asked : Call → Bool
+asked x = accepted x && of-fleet (whose x)
 
 -- ---- refused calls anywhere
 
@@ -198,11 +200,14 @@ module _ (x : Call) (refused : accepted x ≡ false) (l m : List Call) where
   services-skip : services (l ++ m) ≡ services (l ++ (x ∷ m))
   services-skip = select-skip served x (ap (λ b. b && of-service (whose x)) refused) l m
 
+  fills-skip : fills (l ++ m) ≡ fills (l ++ (x ∷ m))
+  fills-skip = select-skip asked x (ap (λ b. b && of-fleet (whose x)) refused) l m
+
 pub refusals-anywhere : (a : Auction) (c : Coins) (marks : Marks) (x : Call) → accepted x ≡ false → (l m : List Call)
     → Run a c marks (l ++ m) ↔ Run a c marks (l ++ (x ∷ m))
 refusals-anywhere a c marks x e l m = (
-  (λ r. with-calls r (λ j. rw (own-skip x e l m j) at (r .parties j)) (rw (services-skip x e l m) at (r .others))),
-  (λ r. with-calls r (λ j. rw (own-skip x e l m j) (r .parties j)) (rw (services-skip x e l m) (r .others))),
+  (λ r. with-calls r (λ j. rw (own-skip x e l m j) at (r .parties j)) (rw (services-skip x e l m) at (r .others)) (λ y. subst (List·Memᴰ y) (sym (fills-skip x e l m)))),
+  (λ r. with-calls r (λ j. rw (own-skip x e l m j) (r .parties j)) (rw (services-skip x e l m) (r .others)) (λ y. subst (List·Memᴰ y) (fills-skip x e l m))),
 )
 
 -- ---- neighbours change places
@@ -221,12 +226,26 @@ with-both true true x y cs ds es h = shuffle-swap cs (given x) (given y) ds es h
 with-both true false x y cs ds es h = h
 with-both false t x y cs ds es h = h
 
+-- in either order the same are taken
+with-taken : (s t : Bool) (x y : Call) (cs : List Call) (z : Call) → List·Memᴰ z (with-call s x (with-call t y cs)) → List·Memᴰ z (with-call t y (with-call s x cs))
+with-taken true true x y cs z h =
+    ⊎-elim (λ e. List·Memᴰ·tail (List·Memᴰ·head e)) (λ h′. ⊎-elim (λ e. List·Memᴰ·head e) (λ m. List·Memᴰ·tail (List·Memᴰ·tail m)) (List·Memᴰ·cases-cons h′))
+    (List·Memᴰ·cases-cons h)
+with-taken true false x y cs z h = h
+with-taken false t x y cs z h = h
+
+in-either : (l : List Call) (z : Call) {cs ds : List Call} → (List·Memᴰ z cs → List·Memᴰ z ds) → List·Memᴰ z (l ++ cs) → List·Memᴰ z (l ++ ds)
+in-either [] z f h = f h
+in-either (x ∷ l) z f h = ⊎-elim (λ e. List·Memᴰ·head e) (λ m. List·Memᴰ·tail (in-either l z f m)) (List·Memᴰ·cases-cons h)
+
 mine : (j : ℕ) (w : Whose) (b : Bool) → b && of-party j w ≡ true → w ≡ party j
 unfolding of-party
 mine j (party i) true e = ap party (eqb-true i j e)
 mine j (party i) false e = absurd (true≢false (sym e))
 mine j service true e = absurd (true≢false (sym e))
 mine j service false e = absurd (true≢false (sym e))
+mine j fleet true e = absurd (true≢false (sym e))
+mine j fleet false e = absurd (true≢false (sym e))
 
 -- two calls, and one, between l and m
 module _ (test : Call → Bool) (l m : List Call) where
@@ -247,11 +266,17 @@ module _ (x y : Call) (l m : List Call) where
   services-swap cs h =
       rw (select-two served l m y x) (with-both (served x) (served y) x y cs (services l) (services m) (rw (select-two served l m x y) at h))
 
+  -- the same fleets ask
+  fills-swap : (z : Call) → List·Memᴰ z (fills (l ++ (y ∷ x ∷ m))) → List·Memᴰ z (fills (l ++ (x ∷ y ∷ m)))
+  fills-swap z h =
+      subst (List·Memᴰ z) (sym (select-two asked l m x y))
+      (in-either (fills l) z (with-taken (asked y) (asked x) y x (fills m) z) (subst (List·Memᴰ z) (select-two asked l m y x) h))
+
 -- two neighbours that are no calls of the same party
 pub swap-parties : (a : Auction) (c : Coins) (marks : Marks) (x y : Call) (l m : List Call) → ((j : ℕ) → whose x ≡ party j → whose y ≡ party j → ⊥)
     → Run a c marks (l ++ (x ∷ y ∷ m)) → Run a c marks (l ++ (y ∷ x ∷ m))
 swap-parties a c marks x y l m apart r =
-    with-calls r (λ j. rw (own-swap x y l m j (apart j)) at (r .parties j)) (services-swap x y l m (services (told r)) (r .others))
+    with-calls r (λ j. rw (own-swap x y l m j (apart j)) at (r .parties j)) (services-swap x y l m (services (told r)) (r .others)) (fills-swap x y l m)
 
 -- two neighbours of the bidders and the dealer
 pub swap-services : (a : Auction) (c : Coins) (marks : Marks) (x y : Call) (l m : List Call) → whose x ≡ service → whose y ≡ service
@@ -260,10 +285,14 @@ swap-services a c marks x y l m p q r = swap-parties a c marks x y l m (λ j e f
 
 -- ---- a saying or an asking twice
 
--- a party's own call is no service, refused or not
+-- a party's own call is no service and no fleet's, refused or not
 not-served : (i : ℕ) (w : Whose) (b : Bool) → w ≡ party i → b && of-service w ≡ false
 unfolding of-service
 not-served i w b e = and-false b (of-service w) (ap of-service e)
+
+not-asked : (i : ℕ) (w : Whose) (b : Bool) → w ≡ party i → b && of-fleet w ≡ false
+unfolding of-fleet
+not-asked i w b e = and-false b (of-fleet w) (ap of-fleet e)
 
 module _ (a : Auction) (c : Coins) (marks : Marks) (x : Call) (l m : List Call)
     (doubles : (cs ds es : List Call) → Repeats cs (ds ++ (given x ∷ es)) → Repeats cs (ds ++ (given x ∷ given x ∷ es))) where
@@ -278,6 +307,7 @@ module _ (a : Auction) (c : Coins) (marks : Marks) (x : Call) (l m : List Call)
       rw (select-two (owned j) l m x x)
       (with-twice (owned j x) (own j (told r)) (own j l) (own j m) (rw (select-one (owned j) l m x) at (r .parties j))))
       (rw (select-skip served x (not-served i (whose x) (accepted x) e) l (x ∷ m)) at (r .others))
+      (λ z. subst (List·Memᴰ z) (sym (select-skip asked x (not-asked i (whose x) (accepted x) e) l (x ∷ m))))
 
 -- accepted or not
 pub say-twice : (a : Auction) (c : Coins) (marks : Marks) (q : Party) (t s : List ℕ) (l m : List Call)
@@ -289,3 +319,36 @@ pub ask-twice : (a : Auction) (c : Coins) (marks : Marks) (q : Party) (l m : Lis
     → Run a c marks (l ++ (answer-call q ∷ m)) → Run a c marks (l ++ (answer-call q ∷ answer-call q ∷ m))
 unfolding whose given
 ask-twice a c marks q l m r = twice a c marks (answer-call q) l m (λ cs ds es. repeats-ask cs q ds es) (q .own) refl r
+
+-- ---- a fleet asks for its hours
+
+-- one that is taken is there, or the others are
+one-taken : (s : Bool) (x z : Call) (l cs : List Call) → List·Memᴰ z (l ++ with-call s x cs) → (z ≡ given x) ⊎ List·Memᴰ z (l ++ cs)
+one-taken true x z [] cs h = List·Memᴰ·cases-cons h
+one-taken false x z [] cs h = inr h
+one-taken s x z (y ∷ l) cs h = go (one-taken s x z l cs) (List·Memᴰ·cases-cons h)
+  where
+    go : (List·Memᴰ z (l ++ with-call s x cs) → (z ≡ given x) ⊎ List·Memᴰ z (l ++ cs)) → (z ≡ y) ⊎ List·Memᴰ z (l ++ with-call s x cs)
+        → (z ≡ given x) ⊎ List·Memᴰ z (y ∷ (l ++ cs))
+    go rest (inl e) = inr (List·Memᴰ·head e)
+    go rest (inr k) = ⊎-elim (λ e. inl e) (λ m. inr (List·Memᴰ·tail m)) (rest k)
+
+-- with a record that a party asks with, it may stand anywhere, accepted or not
+pub fills-anywhere : (a : Auction) (c : Coins) (marks : Marks) (q : Party) (amount : ℕ) (l m : List Call) (r : Run a c marks (l ++ m))
+    → (j : ℕ) → List·Memᴰ (answer-call q) (own j (told r)) → Run a c marks (l ++ (fill-call q amount ∷ m))
+unfolding whose of-party of-service given
+fills-anywhere a c marks q amount l m r j asks =
+    let x : Call = fill-call q amount in
+    record {
+      desk = r .desk;
+      complete = r .complete;
+      attendance = r .attendance;
+      attends = r .attends;
+      parties = λ i. rw (select-skip (owned i) x (and-false (accepted x) _ refl) l m) at (r .parties i);
+      others = rw (select-skip served x (and-false (accepted x) _ refl) l m) at (r .others);
+      fleets = λ p amount′ h.
+          ⊎-elim
+          (λ e. let same : q ≡ p = cc in (j, subst (λ (z : Party). List·Memᴰ (answer-call z) (own j (told r))) same asks))
+          (λ k. r .fleets p amount′ (subst (List·Memᴰ (fill-call p amount′)) (sym (select-append asked l m)) k))
+          (one-taken (asked x) x (fill-call p amount′) (fills l) (fills m) (subst (List·Memᴰ (fill-call p amount′)) (select-one asked l m x) h));
+    }

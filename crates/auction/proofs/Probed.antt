@@ -15,7 +15,7 @@ use Rattle.comparison.specs.Probe.{SheetCoins, Probe, secret, last-polynomial}
 use Rattle.auction.specs.Auction.{Auction, IsAuction}
 use Rattle.auction.specs.Coins.{Coins, InRange}
 use Rattle.auction.specs.Received.{collect, verdict-in, decided-by}
-use Rattle.auction.proofs.Closed.{polynomials, probe-of, Stage, fresh-stage}
+use Rattle.auction.proofs.Closed.{polynomials, probe-of, Stage, fresh-stage, decided-stage}
 use Rattle.auction.proofs.Calls.{collect-none}
 use Rattle.auction.proofs.Round.{stage-of, words-at, opening-at, Ready, first-step, product-step, last-step}
 use Rattle.auction.proofs.Chain.{Turn, Chain, done, round-on, decision-of}
@@ -30,7 +30,7 @@ module _ (a : Auction) (c : Coins) (A : IsAuction a) (C : InRange a c) (here : S
   q = probe-of a (polynomials a c) here s
 
   abbrev after : Stage
-  after = fresh-stage (next here (secret (last-polynomial q)))
+  after = decided-stage (next here (secret (last-polynomial q)))
 
   -- the rounds from i + 1 on
   chain-from : (i k : ℕ) → i + k ≡ 32 → Chain a c (stage-of here q i) (map (turn-of here q) (from i (suc k))) after

@@ -1,52 +1,60 @@
 -- DEMANDS 2 AND 3, of every run of every auction. Assumes nothing.
 use mathlib.Core.Path.{_≡_, refl, sym, ap, ap₂, subst, _∙_}
 use mathlib.Core.Bool.{Bool, true, false, cond}
-use mathlib.Core.List.{List, [], _∷_, map, flatten, List·Memᴰ, List·Memᴰ·cases-cons, List·Memᴰ·not-nil}
+use mathlib.Core.List.{List, [], _∷_, _++_, map, flatten, List·Memᴰ, List·Memᴰ·cases-cons, List·Memᴰ·not-nil}
 use mathlib.Core.Logic.{_↔_, ⊎-elim}
 use Prim.Native.Nat.{ℕ, zero, suc, _+_, _-_, _*_, _/_, _≤_, _<_, min}
 use native.Mathlib.Nat.{zero-add}
 use native.Mathlib.Decide.{decLe}
 use native.Mathlib.Omega.{arith}
-use lib.Dec.{leb}
-use lib.ListN.{length, take, drop, getD, replicate, length-map, length-take}
+use lib.Dec.{leb, eqb}
+use lib.ListN.{length, take, drop, getD, replicate, length-map, length-take, List·getD-append}
 use lib.Seq.{take-all, take-length}
 use borrow.Author.Tests.{leb-true, leb-false}
 use Rattle.ranges.specs.Sizes.{sheet-size, probe-rounds}
 use Rattle.ranges.specs.Distinct.{Distinct}
 use Rattle.presence.specs.Presence.{is-present}
 use Rattle.search.specs.Limit.{most-probes}
+use Rattle.search.specs.declared.searches.Search.{Search}
 use Rattle.search.specs.Searches.{first-search}
 use Rattle.search.specs.Clearing.{price-index}
 use Rattle.search.specs.Search.{promise, Decision, made-in}
 use Rattle.search.proofs.Balance.{equal-between, equal-nowhere-else, all-equal}
 use Rattle.search.proofs.Trails.{trail-given}
-use Rattle.ranges.specs.Lists.{member}
+use Rattle.ranges.specs.Lists.{member, sum}
 use Rattle.ranges.proofs.Loops.{map-take}
 use Rattle.roll.specs.Marks.{marked}
 use Rattle.roll.proofs.Entry.{entered-marked}
 use Rattle.record.specs.declared.Party.{Party}
 use Rattle.session.specs.declared.reply.Answer.the-variants.{Cleared}
 use Rattle.session.specs.Answer.{answer-reply}
-use Rattle.auction.specs.Auction.{Auction, bidders, IsAuction, sum, demand, supply, clearing-answer, balanced-answer, price-answer, probed, rounds}
+use Rattle.auction.specs.Auction.{Auction, bidders, IsAuction, demand, supply, clearing-answer, balanced-answer, price-answer, probed, total-rounds, rounds}
 use Rattle.auction.specs.Coins.{Coins, InRange}
 use Rattle.auction.specs.Attendance.{Marks, EnoughPresent}
 use Rattle.auction.specs.Canonical.{sheets-for}
-use Rattle.auction.specs.Call.{Call}
-use Rattle.auction.specs.Run.{Run}
-use Rattle.auction.specs.Received.{collect, decision-in, Saying, received-bids, sayings, hearings, askings, answers, messages, decisions, verdicts}
-use Rattle.auction.specs.Demands.{Found, Outcome, Demand2, Alike, Pool, AsFar, SaidAlike, unused, Same, Matched, Demand3}
+use Rattle.auction.specs.Call.{Call, answer-call}
+use Rattle.auction.specs.Run.{Run, own}
+use Rattle.auction.specs.Received.{collect, asking-in, decision-in, Saying, received-bids, sayings, hearings, askings, answers, messages, decisions, verdicts}
+use Rattle.auction.specs.Demands.{FleetTold, Found, Outcome, Demand2, Alike, Pool, AsFar, SaidAlike, unused, Same, Matched, Demand3}
 use Rattle.auction.proofs.Matched.{match-coins}
-use Rattle.auction.proofs.Closed.{bid-words, full-roll, all-spoken, record-at, sheets-at, probes}
+use Rattle.auction.proofs.Closed.{bid-words, polynomials, full-roll, all-spoken, totals-spoken, record-at, sheets-at, probes}
 use Rattle.auction.proofs.Setup.{sheets-dealt}
+use Rattle.auction.proofs.Calls.{read-there}
+use Rattle.auction.proofs.Elsewhere.{none-told}
 use Rattle.auction.proofs.Orders.{canonical-run, told, run-bids, run-hearings, run-sayings, run-says, run-askings, run-asks-not}
+use Rattle.auction.proofs.Hours.{fleet-told, price-covered, fills-come-to}
 use Rattle.auction.proofs.Canonical.{canonical-accepted, canonical-bids, canonical-heard, canonical-rolled, canonical-messages, canonical-decisions, canonical-askings, canonical-sayings, canonical-says}
 use Rattle.auction.proofs.Totals.{totals-monotone}
-use Rattle.auction.proofs.Search.{whole, probes-trail, probes-many, probes-few, highest-found, lowest-found, none-found, spent-found}
+use Rattle.auction.proofs.Search.{whole, probes-trail, probes-many, probes-few, highest-found, lowest-found, none-found, spent-found, price-found}
+use Rattle.fields.specs.Byte.{bytes}
+use Rattle.sharing.specs.Polynomial.{value}
 use Rattle.sharing.specs.Scheme.{threshold}
 use Rattle.comparison.specs.Probe.{Each}
 use Rattle.comparison.proofs.Dealt.{ProbeShared}
 use Rattle.comparison.proofs.Plain.{each-replicate}
-use Rattle.auction.proofs.Rounds.{end, end-answer, present-of, spoken-word, Says}
+use Rattle.auction.proofs.Whole.{end, end-search, end-totals, end-bare, whole-spoken}
+use Rattle.auction.proofs.SameSheets.{all-spoken-long}
+use Rattle.auction.proofs.Rounds.{end-answer, present-of, spoken-word, Says}
 use Rattle.auction.proofs.Falling.{few-fall}
 use Rattle.auction.proofs.Fixed.{all-fixed}
 use Rattle.auction.proofs.Match.{Match, matching}
@@ -83,17 +91,22 @@ as-often m k x e f = rw (e, f) (repeated m k x)
 far-as : {A : Type 0} (m k : ℕ) (xs : List A) {ys zs : List A} → ys ≡ take m xs → zs ≡ take k xs → AsFar ys zs
 far-as m k xs e f = rw (e, f) (as-far m k xs)
 
--- the probes of as many rounds as there are, and of more
-probes-in : {A : Type 0} (m : ℕ) (xs : List A) → take (m / probe-rounds) xs ≡ take (min m (probe-rounds * length xs) / probe-rounds) xs
-probes-in {A} m xs =
-    elim (decLe m (probe-rounds * length xs)) [
+-- the probes of as many rounds as there are, and of more; the totals' rounds are fewer than a probe's
+probes-in : {A : Type 0} (m more : ℕ) (xs : List A) → more ≤ 2 → take (m / probe-rounds) xs ≡ take (min m (probe-rounds * length xs + more) / probe-rounds) xs
+probes-in {A} m more xs h =
+    elim (decLe m (probe-rounds * length xs + more)) [
       | yes le ↦
-          let e : m ≡ min m (probe-rounds * length xs) = omega arith in
+          let e : m ≡ min m (probe-rounds * length xs + more) = omega arith in
           ap (λ (k : ℕ). take (k / probe-rounds) xs) e
       | no gt ↦
-          let e : length xs ≡ min m (probe-rounds * length xs) / probe-rounds = omega arith in
+          let e : length xs ≡ min m (probe-rounds * length xs + more) / probe-rounds = omega arith in
           take-all (m / probe-rounds) xs (omega arith) ∙ sym (take-length xs) ∙ ap (λ (k : ℕ). take k xs) e
     ]
+
+-- two at most
+few-more : (b : Bool) → cond b 0 2 ≤ 2
+few-more true = omega arith
+few-more false = omega arith
 
 -- a pooled party is one of the n
 pooled : (n j : ℕ) (xs : List ℕ) → Distinct n xs → List·Memᴰ j xs → (1 ≤ j) × (j ≤ n)
@@ -115,7 +128,7 @@ module _ (a : Auction) (c : Coins) (A : IsAuction a) (C : InRange a c) (marks : 
   heard-are : length (hearings j l) ≡ min most (rounds a)
   heard-are = ap length (run-hearings a c marks l run j) ∙ canonical-heard a c A C marks M (run .desk) (run .complete) (run .attendance) j j1 jn
 
-  messages-are : messages j l ≡ take most (present-of marks 0 (all-spoken (a .n) (probes a c)))
+  messages-are : messages j l ≡ take most (present-of marks 0 (whole-spoken a c))
   messages-are = ap (map _) (run-hearings a c marks l run j) ∙ canonical-messages a c A C marks M (run .desk) (run .complete) (run .attendance) j j1 jn
 
   decisions-are : decisions j l ≡ take (most / probe-rounds) (probed a)
@@ -138,14 +151,14 @@ module _ (a : Auction) (c : Coins) (A : IsAuction a) (C : InRange a c) (marks : 
   -- ---- demand 2
 
   -- the roll at the end
-  marked-are : (b : ℕ) → marked (record-at a c (end a c A C) j .roll) b ≡ member b (bidders a)
+  marked-are : (b : ℕ) → marked (record-at a c (end a c) j .roll) b ≡ member b (bidders a)
   unfolding record-at full-roll
   marked-are = entered-marked (bidders a) (A .bidders)
 
   -- a party that hears all the rounds
   module _ (all : rounds a ≤ most) where
     abbrev q : Party
-    q = record-at a c (end a c A C) j
+    q = record-at a c (end a c) j
 
     decided-all : decisions j l ≡ probed a
     decided-all = decisions-are ∙ take-all (most / probe-rounds) (probed a) (omega arith)
@@ -155,27 +168,30 @@ module _ (a : Auction) (c : Coins) (A : IsAuction a) (C : InRange a c) (marks : 
 
     -- what the searches found, at the end
     found-are : Found a (decisions j l) q
-    unfolding record-at
+    unfolding record-at value
     found-are =
         record {
-          highest = highest-found a c A C;
-          its-probes = spent-found a c A C ∙ ap (made-in 1) (sym decided-all);
-          lowest = lowest-found a c A C;
-          none = none-found a c A C;
+          highest = ap (λ (s : Search). s .first) (end-search a c) ∙ highest-found a c A C;
+          its-probes = ap (λ (s : Search). s .spent) (end-search a c) ∙ spent-found a c A C ∙ ap (made-in 1) (sym decided-all);
+          lowest = λ some. ap (λ (s : Search). s .bracket .hi) (end-search a c) ∙ lowest-found a c A C some;
+          none = λ e. ap (λ (s : Search). s .bracket .hi) (end-search a c) ∙ none-found a c A C e;
+          total-demand = end-totals a c (price-found a c A C) .0;
+          total-supply = end-totals a c (price-found a c A C) .1;
+          bare = (end-bare a c .0, ap (λ (cs : List ℕ). value bytes cs j) (end-bare a c .1));
         }
 
   -- it asks with the last record where it has heard all, else not at all
   record Asks : Type 0 where
     times : ℕ
     once-over : (length (hearings j l) ≡ rounds a) ↔ (0 < times)
-    asked-with : askings j l ≡ replicate times (record-at a c (end a c A C) j)
+    asked-with : askings j l ≡ replicate times (record-at a c (end a c) j)
 
   asks : Asks
   asks = split (leb (rounds a) most) refl (canonical-askings a c A C marks M (run .desk) (run .complete) (run .attendance) j j1 jn)
     where
-      split : (b : Bool) → leb (rounds a) most ≡ b → askings j (told run) ≡ cond b (record-at a c (end a c A C) j ∷ []) [] → Asks
+      split : (b : Bool) → leb (rounds a) most ≡ b → askings j (told run) ≡ cond b (record-at a c (end a c) j ∷ []) [] → Asks
       split true e f =
-          let r = run-askings a c marks l run j (record-at a c (end a c A C) j) f in
+          let r = run-askings a c marks l run j (record-at a c (end a c) j) f in
           let h = leb-true (rounds a) most e in
           record {
             times = suc (r .0);
@@ -193,7 +209,7 @@ module _ (a : Auction) (c : Coins) (A : IsAuction a) (C : InRange a c) (marks : 
   -- each answer that it is given
   answers-are : answers j l ≡ replicate (asks .times) (Cleared (price-answer a) (length (probed a)))
   answers-are =
-      ap (map answer-reply) (asks .asked-with) ∙ map-replicate answer-reply (asks .times) (record-at a c (end a c A C) j)
+      ap (map answer-reply) (asks .asked-with) ∙ map-replicate answer-reply (asks .times) (record-at a c (end a c) j)
       ∙ ap (replicate (asks .times)) (end-answer a c A C j j1 jn ∙ ap (Cleared (price-answer a)) (probes-many a c A C))
 
   rolled-are : Each (λ h. (b : ℕ) → marked (h .party .roll) b ≡ member b (bidders a)) (hearings j l)
@@ -206,7 +222,7 @@ module _ (a : Auction) (c : Coins) (A : IsAuction a) (C : InRange a c) (marks : 
   outcome : Outcome a most l j
   outcome =
       let given : (which i : ℕ) → ℕ = promise (demand a) (supply a) in
-      let q : Party = record-at a c (end a c A C) j in
+      let q : Party = record-at a c (end a c) j in
       let all : 0 < asks .times → rounds a ≤ most = λ h. omega (arith, asks .once-over .1 h, heard-are) in
       record {
         heard = heard-are;
@@ -214,12 +230,13 @@ module _ (a : Auction) (c : Coins) (A : IsAuction a) (C : InRange a c) (marks : 
             verdicts-are ∙ ap (take (most / probe-rounds)) (trail-given given (most-probes (a .k)) (first-search (a .k)))
             ∙ sym (map-take (λ d. given (d .which) (d .index)) (most / probe-rounds) (probed a))
             ∙ ap (map (λ d. given (d .which) (d .index))) (sym decisions-are);
-        searched = decisions-are ∙ probes-in most (probed a) ∙ ap (λ (k : ℕ). take (k / probe-rounds) (probed a)) (sym heard-are);
+        searched = decisions-are ∙ probes-in most (total-rounds a) (probed a) (few-more (eqb (price-answer a) 0)) ∙ ap (λ (k : ℕ). take (k / probe-rounds) (probed a)) (sym heard-are);
         asked = asks .times;
         once-over = asks .once-over;
         cleared =
             answers-are ∙ times-same (asks .times) (λ h. ap (Cleared (price-answer a)) (sym (many-all (all h))));
         found = rw (asks .asked-with) (each-times _ (asks .times) q (λ h. found-are (all h)));
+        fleets = rw (asks .asked-with) (each-replicate _ (asks .times) q (fleet-told a c A C j j1 jn));
         few =
             omega (
               arith,
@@ -233,6 +250,39 @@ module _ (a : Auction) (c : Coins) (A : IsAuction a) (C : InRange a c) (marks : 
         rolled-before = rolled-are;
       }
 
+-- whoever asks for hours, asks with a record that a party asks with at the end
+module _ (a : Auction) (c : Coins) (A : IsAuction a) (C : InRange a c) (marks : Marks) (M : EnoughPresent a marks)
+    (l : List Call) (run : Run a c marks l) (q : Party) (j : ℕ) (asks : List·Memᴰ (answer-call q) (own j (told run))) where
+  one-of-n : (1 ≤ j) × (j ≤ a .n)
+  one-of-n =
+      elim (decLe 1 j) [
+        | yes j1 ↦
+            elim (decLe j (a .n)) [
+              | yes jn ↦ (j1, jn)
+              | no far ↦ absurd (nobody (λ h k. omega arith))
+            ]
+        | no near ↦ absurd (nobody (λ h k. omega arith))
+      ]
+    where
+      nobody : (1 ≤ j → j ≤ a .n → ⊥) → ⊥
+      nobody outside = List·Memᴰ·not-nil (subst (List·Memᴰ (answer-call q)) (none-told j a c marks (run .desk) (run .attendance) outside) asks)
+
+  asked-with : List·Memᴰ q (askings j (told run))
+  unfolding asking-in
+  asked-with = read-there asking-in (answer-call q) q refl (own j (told run)) asks
+
+  asked-last : q ≡ record-at a c (end a c) j
+  asked-last =
+      only (leb (rounds a) (run .attendance .hears j))
+      (subst (List·Memᴰ q) (canonical-askings a c A C marks M (run .desk) (run .complete) (run .attendance) j (one-of-n .0) (one-of-n .1)) asked-with)
+    where
+      only : (b : Bool) → List·Memᴰ q (cond b (record-at a c (end a c) j ∷ []) []) → q ≡ record-at a c (end a c) j
+      only true m = ⊎-elim (λ e. e) (λ m′. absurd (List·Memᴰ·not-nil m′)) (List·Memᴰ·cases-cons m)
+      only false m = absurd (List·Memᴰ·not-nil m)
+
+  asked-by : FleetTold a q
+  asked-by = subst (FleetTold a) (sym asked-last) (fleet-told a c A C j (one-of-n .0) (one-of-n .1))
+
 -- DEMAND 2: no call of a run is refused but those that stand between; each verdict that a party hears is the promise at the true totals;
 -- whoever has heard all the rounds is asked, and each answer is the price index, with as many probes as verdicts, at most 2P; the record has
 -- what the searches found; and the roll marks the bidders.
@@ -241,6 +291,9 @@ demand-2 a A c C marks M =
     record {
       none-refused = λ desk D att T. canonical-accepted a c A C marks M desk D att;
       outcome = λ l run j j1 jn. outcome a c A C marks M l run j j1 jn;
+      fleets = λ l run q amount m. let w = run .fleets q amount m in asked-by a c A C marks M l run q (w .0) (w .1);
+      covered = price-covered A;
+      shared-out = λ some. fills-come-to a;
     }
 
 -- "where demand equals supply at several neighbouring prices": in every auction these are the indices from j to i, and no others
@@ -261,6 +314,14 @@ no-bids n k some =
 
 -- ---- demand 3
 
+-- a word of a probe's round
+probe-word : (a : Auction) (c : Coins) (i j : ℕ) → i < probe-rounds * length (probes a c)
+    → spoken-word a c i j ≡ getD (getD (all-spoken (a .n) (probes a c)) i []) (j - 1) 0
+unfolding whole-spoken
+probe-word a c i j h =
+    ap (λ (ws : List ℕ). getD ws (j - 1) 0)
+    (List·getD-append (all-spoken (a .n) (probes a c)) (totals-spoken a (polynomials a c)) [] i (omega (arith, all-spoken-long (a .n) (probes a c))))
+
 module _ (a b : Auction) (A : IsAuction a) (B : IsAuction b) (alike : Alike a b) (pool : List ℕ) (P : Pool (a .n) pool)
     (c : Coins) (C : InRange a c) (N : Match a b pool c) where
   -- a party of the first is one of the second
@@ -271,11 +332,14 @@ module _ (a b : Auction) (A : IsAuction a) (B : IsAuction b) (alike : Alike a b)
   same-probes =
       sym (probes-trail b (match-coins a b pool c) B (N .ranged)) ∙ N .same-decisions ∙ probes-trail a c A C
 
+  same-price : price-answer b ≡ price-answer a
+  same-price = ap₂ price-index (alike .highest) (alike .lowest)
+
   same-rounds : rounds b ≡ rounds a
-  same-rounds = ap (λ (ds : List Decision). probe-rounds * length ds) same-probes
+  same-rounds = ap₂ (λ (ds : List Decision) (m : ℕ). probe-rounds * length ds + cond (eqb m 0) 0 2) same-probes same-price
 
   same-answer : Cleared (price-answer b) (length (probed b)) ≡ Cleared (price-answer a) (length (probed a))
-  same-answer = ap₂ Cleared (ap₂ price-index (alike .highest) (alike .lowest)) (ap length same-probes)
+  same-answer = ap₂ Cleared same-price (ap length same-probes)
 
   -- the marks serve both
   both-enough : {marks : Marks} → EnoughPresent a marks → EnoughPresent b marks
@@ -300,7 +364,7 @@ module _ (a b : Auction) (A : IsAuction a) (B : IsAuction b) (alike : Alike a b)
         ap₂ (λ (k : ℕ) (xs : List ℕ). drop (sheet-size * k) xs) (ap length same-probes ∙ sym (probes-many a c A C)) (sheets-b j j1 jn)
 
     -- whoever says a word, present or not
-    said-from : all-spoken (b .n) (probes b o) ≡ all-spoken (a .n) (probes a c) → (round j : ℕ) → 1 ≤ j → j ≤ a .n → SaidAlike round j l m
+    said-from : whole-spoken b o ≡ whole-spoken a c → (round j : ℕ) → 1 ≤ j → j ≤ a .n → SaidAlike round j l m
     said-from spoken round j j1 jn x y mx my ex ey =
         let X = sayings-are a c A C marks M l runL j j1 jn x mx in
         let Y = sayings-are b o B R marks (both-enough M) m runM j j1 (jb j jn) y my in
@@ -311,7 +375,7 @@ module _ (a b : Auction) (A : IsAuction a) (B : IsAuction b) (alike : Alike a b)
     same-from : ((j : ℕ) → List·Memᴰ j pool → bid-words j (b .bids) (o .bids) ≡ bid-words j (a .bids) (c .bids))
         → ((j : ℕ) → List·Memᴰ j pool → sheets-at b o j ≡ sheets-at a c j)
         → ((j : ℕ) → drop (sheet-size * L) (sheets-at b o j) ≡ drop (sheet-size * L) (sheets-at a c j))
-        → all-spoken (b .n) (probes b o) ≡ all-spoken (a .n) (probes a c) → Same a b pool c o marks l m
+        → whole-spoken b o ≡ whole-spoken a c → Same a b pool c o marks l m
     same-from bids sheets-same left spoken =
         record {
           pool-bids = λ j h.
@@ -346,10 +410,18 @@ module _ (a b : Auction) (A : IsAuction a) (B : IsAuction b) (alike : Alike a b)
           let Y = says-are b o B R marks (both-enough M) m runM j j1 (jb j jn) i (omega (arith, same-rounds)) p in
           sym (Y .1 .word) ∙ S .words i j j1 jn p (X .0) (Y .0) (X .2) (Y .2) (X .1 .in-round) (Y .1 .in-round) ∙ X .1 .word
 
-      -- in the terms of the first
-      present-word : (i : ℕ) → i < rounds a → (j : ℕ) → 1 ≤ j → j ≤ a .n → is-present (marks i) j ≡ true
-          → getD (getD (all-spoken (a .n) (probes b o)) i []) (j - 1) 0 ≡ spoken-word a c i j
-      present-word i h j j1 jn p = ap (λ (n : ℕ). getD (getD (all-spoken n (probes b o)) i []) (j - 1) 0) (sym (alike .parties)) ∙ present-same i h j j1 jn p
+      -- there are as many probes
+      same-many : length (probes b o) ≡ L
+      same-many = probes-many b o B R ∙ ap length same-probes ∙ sym (probes-many a c A C)
+
+      -- in the terms of the first, in the rounds of the probes
+      present-word : (i : ℕ) → i < probe-rounds * L → (j : ℕ) → 1 ≤ j → j ≤ a .n → is-present (marks i) j ≡ true
+          → getD (getD (all-spoken (a .n) (probes b o)) i []) (j - 1) 0 ≡ getD (getD (all-spoken (a .n) (probes a c)) i []) (j - 1) 0
+      present-word i h j j1 jn p =
+          ap (λ (n : ℕ). getD (getD (all-spoken n (probes b o)) i []) (j - 1) 0) (sym (alike .parties))
+          ∙ sym (probe-word b o i j (omega (arith, same-many)))
+          ∙ present-same i (omega (arith, probes-many a c A C)) j j1 jn p
+          ∙ probe-word a c i j h
 
       shared-b : Each (λ d. ProbeShared (threshold (a .n)) (d .probe)) (probes b o)
       shared-b = subst (λ (n : ℕ). Each (λ d. ProbeShared (threshold n) (d .probe)) (probes b o)) (alike .parties) (whole b o B R .shared)
@@ -358,10 +430,9 @@ module _ (a b : Auction) (A : IsAuction a) (B : IsAuction b) (alike : Alike a b)
       same-spoken =
           subst (λ (n : ℕ). all-spoken n (probes b o) ≡ all-spoken (a .n) (probes a c)) (sym (alike .parties))
           (all-fixed (a .n) (A .n-least) (A .n-most) marks (probes a c) (probes b o) 0
-          (probes-many b o B R ∙ ap length same-probes ∙ sym (probes-many a c A C))
-          (whole a c A C .shared) shared-b
+          same-many (whole a c A C .shared) shared-b
           (λ i h. rw (zero-add i) (M i (omega (arith, probes-many a c A C))))
-          (λ i h j j1 jn p. present-word i (omega (arith, probes-many a c A C)) j j1 jn (ap (λ (k : ℕ). is-present (marks k) j) (sym (zero-add i)) ∙ p)))
+          (λ i h j j1 jn p. present-word i h j j1 jn (ap (λ (k : ℕ). is-present (marks k) j) (sym (zero-add i)) ∙ p)))
 
       same-coins : o ≡ match-coins a b pool c
       same-coins =
@@ -375,6 +446,11 @@ module _ (a b : Auction) (A : IsAuction a) (B : IsAuction b) (alike : Alike a b)
           (λ j j1 jn. sym (unused-b j j1 jn) ∙ S .left j j1 jn ∙ unused-a j j1 jn)
           same-spoken
 
+  -- with the matching coins all words are the same
+  all-same : whole-spoken b (match-coins a b pool c) ≡ whole-spoken a c
+  unfolding whole-spoken
+  all-same = ap₂ _++_ (ap flatten (N .same-spoken)) (N .same-opened)
+
   matched : Matched a b pool c
   matched =
       let o : Coins = match-coins a b pool c in
@@ -382,8 +458,8 @@ module _ (a b : Auction) (A : IsAuction a) (B : IsAuction b) (alike : Alike a b)
         coins = o;
         ranged = N .ranged;
         same = λ marks M l m runL runM.
-            same-from marks M o (N .ranged) l m runL runM (N .same-bids) (N .same-sheets) (N .same-unused) (ap flatten (N .same-spoken));
-        said = λ marks M l m runL runM. said-from marks M o (N .ranged) l m runL runM (ap flatten (N .same-spoken));
+            same-from marks M o (N .ranged) l m runL runM (N .same-bids) (N .same-sheets) (N .same-unused) all-same;
+        said = λ marks M l m runL runM. said-from marks M o (N .ranged) l m runL runM all-same;
         only = λ o R marks M l m runL runM S. same-coins marks M o R l m runL runM S;
       }
 

@@ -6,7 +6,7 @@ use Prim.Native.Nat.{ℕ, zero, suc, _+_, _-_, _*_, _/_, _%_, _^_, _≤_, _<_}
 use native.Mathlib.Omega.{arith}
 use lib.Dec.{leb, ltb}
 use lib.ListN.{drop, getD}
-use borrow.Author.Tests.{le-leb, le-ltb, lt-ltb}
+use borrow.Author.Tests.{lt-ltb}
 use Rattle.fields.specs.Field.{Field}
 use Rattle.fields.specs.Amount.{amounts}
 use Rattle.fields.specs.Byte.{bytes}
@@ -32,7 +32,7 @@ use Rattle.comparison.proofs.Promise.{Compares, probe-shared, sum-least, sum-mo
 use Rattle.round.specs.declared.Heard.{Heard}
 use Rattle.round.specs.declared.Heard.the-variants.{Sum, Factors, Verdict}
 use Rattle.saying.specs.Say.{demand-share, supply-share, message}
-use Rattle.round.specs.Round.{heard, sum-outside, verdict-outside}
+use Rattle.round.specs.Round.{heard}
 use Rattle.record.specs.Updates.{in-round, decided}
 use Rattle.stepping.specs.After.{after}
 use Rattle.saying.proofs.Messages.{first-message, product-message, last-message}
@@ -40,17 +40,18 @@ use Rattle.round.proofs.Opened.{sum-heard, factors-heard, verdict-heard}
 use Rattle.auction.specs.Auction.{Auction, IsAuction, left-side, right-side}
 use Rattle.auction.specs.Coins.{Coins, InRange}
 use Rattle.auction.specs.Attendance.{Enough}
-use Rattle.auction.proofs.Closed.{at-party, polynomials, demand-at, supply-at, probe-at, probe-of, carry-at, Stage, fresh-stage, inner-stage, record-at}
+use Rattle.auction.proofs.Closed.{at-party, polynomials, demand-at, supply-at, probe-at, probe-of, carry-at, Stage, fresh-stage, inner-stage, decided-stage, record-at}
 use Rattle.auction.proofs.Calls.{map-points, map-through}
 use Rattle.auction.proofs.Sheets.{no-triple, mask-word, bit-word, alpha-word, beta-word, gamma-word, byte-below}
 use Rattle.auction.proofs.Carry.{round-at, carry-next, carry-first, last-carry, triple-at, carry-shared, round-at-shared, product-said, last-said}
 use Rattle.auction.proofs.Comparing.{compares}
-use Rattle.auction.proofs.Step.{Step, Placed, fresh-sane, coins-ranged, demand-word, supply-word, step-of}
+use Rattle.auction.proofs.Step.{Step, step-of}
+use Rattle.auction.proofs.Placed.{probe-turn, InProbe, coins-ranged, probed-demand, probed-supply, probe-placed}
 
 -- ---- what is shared opens
 
 module _ {S : Scheme} {F : Field} (fits : Fits S F) where
-  shared-opens : (n : ℕ) (cs present : List ℕ) → 3 ≤ n → n ≤ 9 → Shared (F .size) (threshold n) cs → Enough n present
+  pub shared-opens : (n : ℕ) (cs present : List ℕ) → 3 ≤ n → n ≤ 9 → Shared (F .size) (threshold n) cs → Enough n present
       → opened-by S n present (map (value (F .ops) cs) (points n)) ≡ Secret (secret cs)
   shared-opens n [] present h3 h9 h E = absurd (omega arith)
   shared-opens n (s ∷ cs) present h3 h9 h E = opens-by fits n s cs present h3 h9 (h .1 .0) (h .1 .1) (omega arith) (E .long) (E .many)
@@ -118,10 +119,17 @@ module _ (a : Auction) (c : Coins) (A : IsAuction a) (C : InRange a c) (here : S
   abbrev T : ℕ
   T = opened-sum q
 
-  fresh-placed : Placed a c (fresh-stage here) s ss
+  fresh-placed : InProbe a c (fresh-stage here) s ss
   fresh-placed =
       record {
-        sane = fresh-sane a here (R .sound);
+        sane =
+            record {
+              search = R .sound;
+              round = probe-turn here 1 (R .going) (omega arith) (omega arith);
+              sum = omega arith;
+              carry = tt;
+              totals = (omega arith, omega arith);
+            };
         going = R .going;
         left = R .left;
       }
@@ -160,16 +168,16 @@ module _ (a : Auction) (c : Coins) (A : IsAuction a) (C : InRange a c) (here : S
   most-sum : T ≤ 2 ^ 59 + 2 ^ 33 - 1
   most-sum = sum-most t d e s q comparing
 
-  inner-placed : (i : ℕ) → i ≤ 31 → Placed a c (inner-stage here q i) s ss
+  inner-placed : (i : ℕ) → i ≤ 31 → InProbe a c (inner-stage here q i) s ss
   inner-placed i l =
       record {
         sane =
             record {
               search = R .sound;
-              round-least = omega arith;
-              round-most = omega arith;
+              round = probe-turn here (i + 2) (R .going) (omega arith) (omega arith);
               sum = omega (arith, most-sum);
               carry = carry-shared t q shared i l .1;
+              totals = (omega arith, omega arith);
             };
         going = R .going;
         left = R .left;
@@ -189,10 +197,10 @@ module _ (a : Auction) (c : Coins) (A : IsAuction a) (C : InRange a c) (here : S
       (omega (arith, A .n-most)))
     where
       demand : demand-share (record-at a c (fresh-stage here) j) (at-party j fs) ≡ value amounts (demand-at a fs index) j
-      demand = demand-word a c A C (fresh-stage here) s ss fresh-placed j j1 jn
+      demand = probed-demand a c A C (fresh-stage here) s ss fresh-placed j
 
       supply : supply-share (record-at a c (fresh-stage here) j) (at-party j fs) ≡ value amounts (supply-at a fs index) j
-      supply = supply-word a c A C (fresh-stage here) s ss fresh-placed j j1 jn
+      supply = probed-supply a c A C (fresh-stage here) s ss fresh-placed j
 
       sided : {x y : ℕ} (f g : List ℕ) → x ≡ value amounts f j → y ≡ value amounts g j → side which x y ≡ value amounts (side which f g) j
       sided f g p r = ap₂ (side which) p r ∙ side-map (λ h. value amounts h j) which f g
@@ -216,13 +224,11 @@ module _ (a : Auction) (c : Coins) (A : IsAuction a) (C : InRange a c) (here : S
   unfolding record-at after in-round decided
   first-turns j j1 jn = rw (first-carry-is j j1 jn)
 
-  tame : sum-outside (Sum T) ≡ false
-  tame = rw (le-leb (2 ^ 58 + 2) T least-sum, le-leb T (2 ^ 59 + 2 ^ 33 - 1) most-sum)
-
   pub first-step : Step a c (fresh-stage here) (inner-stage here q 0) (words-at q 0) (opening-at q 0)
   unfolding opening-at
   first-step =
-      step-of a c A C (fresh-stage here) s ss fresh-placed (inner-stage here q 0) (words-at q 0) (Sum T) first-says first-opens refl tame refl first-turns
+      step-of a c A C (fresh-stage here) _ (probe-placed a c A C (fresh-stage here) s ss fresh-placed) (inner-stage here q 0) (words-at q 0) (Sum T)
+      first-says first-opens (least-sum, most-sum) first-turns
 
   -- ---- rounds 2 to 32
 
@@ -316,8 +322,8 @@ module _ (a : Auction) (c : Coins) (A : IsAuction a) (C : InRange a c) (here : S
     pub product-step : Step a c now (inner-stage here q (suc i)) (words-at q (suc i)) (opening-at q (suc i))
     product-step =
         rw (opening-product q i l)
-        (step-of a c A C now s ss (inner-placed i (omega arith)) (inner-stage here q (suc i)) (words-at q (suc i))
-        (Factors (secret (r .left)) (secret (r .right))) product-says product-opens refl refl refl product-turns)
+        (step-of a c A C now _ (probe-placed a c A C now s ss (inner-placed i (omega arith))) (inner-stage here q (suc i)) (words-at q (suc i))
+        (Factors (secret (r .left)) (secret (r .right))) product-says product-opens tt product-turns)
 
   -- ---- round 33
 
@@ -334,7 +340,7 @@ module _ (a : Auction) (c : Coins) (A : IsAuction a) (C : InRange a c) (here : S
         ∙ sym (last-said t q shared j)
 
     last-turns : after (record-at a c (inner-stage here q 31) j) (sheet-shares j (sheet-polynomials s)) (Verdict (secret (last-polynomial q)))
-        ≡ record-at a c (fresh-stage (next here (secret (last-polynomial q)))) j
+        ≡ record-at a c (decided-stage (next here (secret (last-polynomial q)))) j
     unfolding record-at after value in-round decided
     last-turns = refl
 
@@ -349,11 +355,9 @@ module _ (a : Auction) (c : Coins) (A : IsAuction a) (C : InRange a c) (here : S
   pub verdict-is : secret (last-polynomial q) ≡ verdict d e
   verdict-is = promised t d e s q comparing
 
-  a-bit : verdict-outside (Verdict (secret (last-polynomial q))) ≡ false
-  a-bit = le-ltb 1 (secret (last-polynomial q)) (rw verdict-is (verdict-most d e))
-
-  pub last-step : Step a c (inner-stage here q 31) (fresh-stage (next here (secret (last-polynomial q)))) (words-at q 32) (opening-at q 32)
+  pub last-step : Step a c (inner-stage here q 31) (decided-stage (next here (secret (last-polynomial q)))) (words-at q 32) (opening-at q 32)
   unfolding opening-at
   last-step =
-      step-of a c A C (inner-stage here q 31) s ss (inner-placed 31 (omega arith)) (fresh-stage (next here (secret (last-polynomial q))))
-      (words-at q 32) (Verdict (secret (last-polynomial q))) last-says last-opens refl refl a-bit last-turns
+      step-of a c A C (inner-stage here q 31) _ (probe-placed a c A C (inner-stage here q 31) s ss (inner-placed 31 (omega arith)))
+      (decided-stage (next here (secret (last-polynomial q)))) (words-at q 32) (Verdict (secret (last-polynomial q))) last-says last-opens
+      (rw verdict-is (verdict-most d e)) last-turns

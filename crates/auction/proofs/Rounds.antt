@@ -1,7 +1,7 @@
 -- All rounds of an auction, from the first word to the answer: every call is accepted, and what is read off them. Assumes nothing.
 use mathlib.Core.Path.{_≡_, refl, sym, ap, ap₂, subst, _∙_}
 use mathlib.Core.Bool.{Bool, true, cond}
-use mathlib.Core.List.{List, [], _∷_, _++_, map, map-map, map-append, flatten, List·Memᴰ}
+use mathlib.Core.List.{List, [], _∷_, _++_, map, map-map, flatten, List·Memᴰ}
 use mathlib.Core.Option.{Option}
 use Prim.Native.Nat.{ℕ, zero, suc, _+_, _-_, _/_, _≤_, _<_, min}
 use native.Mathlib.Nat.{zero-add}
@@ -11,16 +11,15 @@ use lib.ListN.{length, take, getD, length-take}
 use Rattle.ranges.specs.Sizes.{probe-rounds}
 use Rattle.refusal.specs.Judging.{judged}
 use Rattle.refusal.specs.declared.Judgement.the-variants.{Accepted}
-use Rattle.ranges.specs.Lists.{from}
 use Rattle.ranges.proofs.Loops.{map-from, map-take}
 use Rattle.sharing.specs.Scheme.{points}
 use Rattle.presence.specs.Presence.{of-present, is-present}
-use Rattle.search.specs.Searches.{first-search, finished, price}
+use Rattle.search.specs.declared.searches.Search.{Search}
+use Rattle.search.specs.Searches.{first-search, price}
 use Rattle.comparison.specs.Probe.{Each}
-use Rattle.search.proofs.Bounds.{roomy-sound}
 use Rattle.record.specs.declared.Party.{Party}
 use Rattle.session.specs.declared.reply.Answer.the-variants.{Cleared}
-use Rattle.record.specs.Record.{sound}
+use Rattle.record.specs.Record.{sound, ended}
 use Rattle.session.specs.Answer.{answer-judgement, answered, answer-reply}
 use Rattle.auction.specs.Auction.{Auction, IsAuction, price-answer, rounds}
 use Rattle.auction.specs.Coins.{Coins, InRange}
@@ -30,27 +29,16 @@ use Rattle.auction.specs.Canonical.{enough-rounds, ask, where-so, ask-in
 use Rattle.auction.specs.Run.{own}
 use Rattle.auction.specs.Received.{collect, bid-in, Saying, saying-in, round-of, Hearing, hearing-in, asking-in, decision-in}
 use Rattle.auction.specs.Demands.{all-accepted}
-use Rattle.auction.proofs.Closed.{Made, spoken, Stage, fresh-stage, record-at, seat, probes, all-spoken, decision}
+use Rattle.auction.proofs.Closed.{Stage, fresh-stage, record-at, seat, probes, decision}
 use Rattle.auction.proofs.Calls.{read-append, all-accepted-append, Own, all-accepted-made, own-made, collect-made}
 use Rattle.auction.proofs.Setup.{round-calls}
-use Rattle.auction.proofs.Step.{fresh-sane, sound-at}
+use Rattle.auction.proofs.Step.{sound-at}
 use Rattle.auction.proofs.Present.{present-words}
-use Rattle.auction.proofs.Chain.{no-more, Turn, At, from-ending, all-done, seats, calls, saying-of, hearings-from, Enoughs, chain-rounds, chain-accepted, chain-hearings, chain-none, chain-decisions, chain-sayings, chain-says}
-use Rattle.auction.proofs.Probed.{turn-of}
-use Rattle.auction.proofs.Search.{turns-in, turns-of, turns-length, turns-decide, Counted, made-counted, after-probes, Leads, whole, probes-counted, probes-few, rounds-are, price-found}
+use Rattle.auction.proofs.Chain.{no-more, Turn, Chain, At, from-ending, all-done, seats, calls, saying-of, hearings-from, Enoughs, chain-rounds, chain-accepted, chain-hearings, chain-none, chain-decisions, chain-sayings, chain-says}
+use Rattle.auction.proofs.Search.{Counted, probes-counted, price-found}
+use Rattle.auction.proofs.Whole.{all-words, all-turns, end, end-search, whole-spoken, all-chain, end-sane, end-over, counted, rounds-are, rounds-few, all-decide, said-are}
 
 -- ---- words, round by round
-
--- the words of all parties in a round
-abbrev all-words : Auction → Turn → List ℕ
-all-words a r = map (r .words) (points (a .n))
-
-turns-spoken : (a : Auction) (ds : List Made) → map (all-words a) (turns-of ds) ≡ all-spoken (a .n) ds
-unfolding turns-of flatten spoken
-turns-spoken a [] = refl
-turns-spoken a (d ∷ ds) =
-    map-append (all-words a) (turns-in d) (turns-of ds)
-    ∙ ap₂ _++_ (map-map (all-words a) (turn-of (d .here) (d .probe)) (from 0 probe-rounds)) (turns-spoken a ds)
 
 -- of the words of each round those of who is present
 unfoldable pub present-of : Marks → (round : ℕ) → List (List ℕ) → List (List ℕ)
@@ -59,7 +47,7 @@ present-of marks round (ws ∷ wss) = of-present (marks round) ws ∷ present-of
 
 -- ---- asking for the answer
 
-ask-accepted : (q : Party) → sound q ≡ true → finished (q .search) ≡ true → answer-judgement q ≡ Accepted
+ask-accepted : (q : Party) → sound q ≡ true → ended q ≡ true → answer-judgement q ≡ Accepted
 unfolding answer-judgement judged
 ask-accepted q s o = rw (s, o)
 
@@ -97,7 +85,7 @@ module _ (a : Auction) (c : Coins) (j : ℕ) where
 
 -- party j's word in the round i, and a saying of it
 abbrev pub spoken-word : Auction → Coins → (i j : ℕ) → ℕ
-spoken-word a c i j = getD (getD (all-spoken (a .n) (probes a c)) i []) (j - 1) 0
+spoken-word a c i j = getD (getD (whole-spoken a c) i []) (j - 1) 0
 
 pub record Says (a : Auction) (c : Coins) (i j : ℕ) (x : Saying) : Type 0 where
   pub in-round : x .round ≡ i
@@ -106,42 +94,36 @@ pub record Says (a : Auction) (c : Coins) (i j : ℕ) (x : Saying) : Type 0 wher
 
 module _ (a : Auction) (c : Coins) (A : IsAuction a) (C : InRange a c) where
   abbrev rs : List Turn
-  rs = turns-of (probes a c)
+  rs = all-turns a c
 
   -- the stage at the end
-  abbrev pub end : Stage
-  end = fresh-stage (after-probes (first-search (a .k)) (probes a c))
+  abbrev τ : Stage
+  τ = end a c
 
-  L : Leads a c (first-search (a .k)) (c .sheets) (probes a c)
-  L = whole a c A C
+  L : Chain a c (fresh-stage (first-search (a .k))) rs τ
+  L = all-chain a c A C
 
   many : 1 ≤ a .n
   many = omega (arith, A .n-least)
 
-  counted : Counted 0 rs
-  unfolding first-search
-  counted = made-counted a _ (first-search (a .k)) (c .sheets)
-
   module _ (j : ℕ) (j1 : 1 ≤ j) (jn : j ≤ a .n) where
-    end-sound : sound (record-at a c end j) ≡ true
-    end-sound =
-        sound-at a c A end
-        (fresh-sane a (after-probes (first-search (a .k)) (probes a c)) (roomy-sound (a .k) _ (L .promised .roomy)))
-        j j1 jn
+    end-sound : sound (record-at a c τ j) ≡ true
+    end-sound = sound-at a c A τ (end-sane a c A C) j j1 jn
 
-    end-judged : answer-judgement (record-at a c end j) ≡ Accepted
-    unfolding record-at
-    end-judged = ask-accepted (record-at a c end j) end-sound (L .ended)
+    end-judged : answer-judgement (record-at a c τ j) ≡ Accepted
+    end-judged = ask-accepted (record-at a c τ j) end-sound (end-over a c A C j)
 
-    asked : accepted (ask (seat a c end j)) ≡ true
+    asked : accepted (ask (seat a c τ j)) ≡ true
     unfolding ask seat judgement is-accepted
     asked = rw end-judged
 
-    pub end-answer : answer-reply (record-at a c end j) ≡ Cleared (price-answer a) (length (probes a c))
+    pub end-answer : answer-reply (record-at a c τ j) ≡ Cleared (price-answer a) (length (probes a c))
     unfolding record-at
-    end-answer = ask-cleared (record-at a c end j) end-judged ∙ ap₂ Cleared (price-found a c A C) (probes-counted a c A C)
+    end-answer =
+        ask-cleared (record-at a c τ j) end-judged
+        ∙ ap₂ Cleared (ap price (end-search a c) ∙ price-found a c A C) (ap (λ (s : Search). s .probes) (end-search a c) ∙ probes-counted a c A C)
 
-    ask-own : Own j (ask (seat a c end j))
+    ask-own : Own j (ask (seat a c τ j))
     unfolding ask seat record-at whose of-party
     ask-own = record { accepted = asked; whose = λ i. refl }
 
@@ -149,9 +131,9 @@ module _ (a : Auction) (c : Coins) (A : IsAuction a) (C : InRange a c) where
     says-at : (i : ℕ) (x : Saying) → At (map (saying-of a c j) rs) i x → Says a c i j x
     says-at i x h =
         record {
-          in-round = said-round a c j rs 0 i x counted h ∙ zero-add i;
+          in-round = said-round a c j rs 0 i x (counted a c A C) h ∙ zero-add i;
           below = omega (arith, said-below a c j rs i x h, rounds-are a c A C);
-          word = said-word a c j rs i x j1 jn h ∙ ap (λ (wss : List (List ℕ)). getD (getD wss i []) (j - 1) 0) (turns-spoken a (probes a c));
+          word = said-word a c j rs i x j1 jn h ∙ ap (λ (wss : List (List ℕ)). getD (getD wss i []) (j - 1) 0) (said-are a c A C);
         }
 
   module _ (marks : Marks) (M : EnoughPresent a marks) (att : Attendance) where
@@ -165,38 +147,38 @@ module _ (a : Auction) (c : Coins) (A : IsAuction a) (C : InRange a c) where
     is-over j = leb (rounds a) (att .hears j)
 
     asks : List Call
-    asks = flatten (map (λ j. where-so (is-over j) (ask (seat a c end j))) (points (a .n)))
+    asks = flatten (map (λ j. where-so (is-over j) (ask (seat a c τ j))) (points (a .n)))
 
-    -- the rounds of the probes, then the askings
+    -- the rounds, then the askings
     calls-are : round-calls a c marks att ≡ calls a c marks att 0 rs ++ asks
     unfolding asks ask-in seat record-at
     calls-are =
-        let left : enough-rounds a ≡ length rs + (enough-rounds a - length rs) = omega (arith, turns-length (probes a c), probes-few a c A C) in
+        let left : enough-rounds a ≡ length rs + (enough-rounds a - length rs) = omega (arith, rounds-few a c A C) in
         ap (λ (x : ℕ). from-rounds marks att x 0 (seats a c marks att (fresh-stage (first-search (a .k))))) left
-        ∙ chain-rounds a c marks att many (L .chain) (enough-rounds a - length rs) 0 enoughs
+        ∙ chain-rounds a c marks att many L (enough-rounds a - length rs) 0 enoughs
         ∙ ap (λ (l : List Call). calls a c marks att 0 rs ++ l)
-        (from-ending a c marks att (enough-rounds a - length rs) (0 + length rs) (seats a c marks att end) (all-done a c marks att end (L .ended) (points (a .n)))
-        ∙ ap flatten (map-map (ask-in marks att (0 + length rs)) (seat a c end) (points (a .n)))
-        ∙ ap (λ (k : ℕ). flatten (map (λ j. where-so (leb k (att .hears j)) (ask (seat a c end j))) (points (a .n)))) (zero-add (length rs) ∙ rounds-are a c A C))
+        (from-ending a c marks att (enough-rounds a - length rs) (0 + length rs) (seats a c marks att τ) (all-done a c marks att τ (end-over a c A C) (points (a .n)))
+        ∙ ap flatten (map-map (ask-in marks att (0 + length rs)) (seat a c τ) (points (a .n)))
+        ∙ ap (λ (k : ℕ). flatten (map (λ j. where-so (leb k (att .hears j)) (ask (seat a c τ j))) (points (a .n)))) (zero-add (length rs) ∙ rounds-are a c A C))
 
     pub rounds-accepted : all-accepted (round-calls a c marks att) ≡ true
     unfolding asks
     rounds-accepted =
         ap all-accepted calls-are
-        ∙ all-accepted-append (calls a c marks att 0 rs) asks (chain-accepted a c marks att many (L .chain) 0 enoughs)
-        (all-accepted-made is-over (λ j. ask (seat a c end j)) (a .n) ask-own)
+        ∙ all-accepted-append (calls a c marks att 0 rs) asks (chain-accepted a c marks att many L 0 enoughs)
+        (all-accepted-made is-over (λ j. ask (seat a c τ j)) (a .n) ask-own)
 
     module _ (j : ℕ) (j1 : 1 ≤ j) (jn : j ≤ a .n) where
-      own-asks : own j asks ≡ where-so (is-over j) (ask (seat a c end j))
+      own-asks : own j asks ≡ where-so (is-over j) (ask (seat a c τ j))
       unfolding asks ask given
-      own-asks = own-made j (a .n) is-over (λ j. ask (seat a c end j)) j1 jn ask-own
+      own-asks = own-made j (a .n) is-over (λ j. ask (seat a c τ j)) j1 jn ask-own
 
       reads : {B : Type 0} (f : Call → Option B) (xs : List B) → collect f (own j (calls a c marks att 0 rs)) ≡ xs
-          → collect f (own j (round-calls a c marks att)) ≡ xs ++ cond (is-over j) (collect f (ask (seat a c end j) ∷ [])) []
+          → collect f (own j (round-calls a c marks att)) ≡ xs ++ cond (is-over j) (collect f (ask (seat a c τ j) ∷ [])) []
       reads f xs e =
           ap (λ (l : List Call). collect f (own j l)) calls-are
           ∙ read-append f j (calls a c marks att 0 rs) asks
-          ∙ ap₂ _++_ e (ap (collect f) own-asks ∙ collect-made f (is-over j) (ask (seat a c end j)))
+          ∙ ap₂ _++_ e (ap (collect f) own-asks ∙ collect-made f (is-over j) (ask (seat a c τ j)))
 
       -- ---- what party j hears
 
@@ -208,7 +190,7 @@ module _ (a : Auction) (c : Coins) (A : IsAuction a) (C : InRange a c) where
       rounds-hearings =
           let all : att .hears j - 0 ≡ att .hears j = omega arith in
           reads hearing-in heard-in
-          (chain-hearings a c marks att many j j1 jn (L .chain) 0 enoughs ∙ ap (λ (m : ℕ). take m (hearings-from a c marks att j 0 rs)) all)
+          (chain-hearings a c marks att many j j1 jn L 0 enoughs ∙ ap (λ (m : ℕ). take m (hearings-from a c marks att j 0 rs)) all)
           ∙ no-more (is-over j) heard-in
 
       -- with records that have the whole roll
@@ -243,25 +225,25 @@ module _ (a : Auction) (c : Coins) (A : IsAuction a) (C : InRange a c) where
           (hears-present (suc round) rs (λ i l k. E i (omega arith) (omega arith)))
 
       pub rounds-messages : map (λ h. of-present (h .present) (h .messages)) (collect hearing-in (own j (round-calls a c marks att)))
-          ≡ take (att .hears j) (present-of marks 0 (all-spoken (a .n) (probes a c)))
+          ≡ take (att .hears j) (present-of marks 0 (whole-spoken a c))
       rounds-messages =
           ap (map (λ h. of-present (h .present) (h .messages))) rounds-hearings
           ∙ map-take (λ h. of-present (h .present) (h .messages)) (att .hears j) (hearings-from a c marks att j 0 rs)
-          ∙ ap (take (att .hears j)) (hears-present 0 rs enoughs ∙ ap (present-of marks 0) (turns-spoken a (probes a c)))
+          ∙ ap (take (att .hears j)) (hears-present 0 rs enoughs ∙ ap (present-of marks 0) (said-are a c A C))
 
       pub rounds-decisions : collect decision-in (collect hearing-in (own j (round-calls a c marks att)))
           ≡ take (att .hears j / probe-rounds) (map decision (probes a c))
       rounds-decisions =
-          ap (collect decision-in) rounds-hearings ∙ chain-decisions a c marks att many j j1 jn (L .chain) 0 (att .hears j) enoughs
-          ∙ turns-decide (probes a c) (att .hears j)
+          ap (collect decision-in) rounds-hearings ∙ chain-decisions a c marks att many j j1 jn L 0 (att .hears j) enoughs
+          ∙ all-decide a c A C (att .hears j)
 
       pub rounds-bids : collect bid-in (own j (round-calls a c marks att)) ≡ []
       unfolding collect bid-in ask
-      rounds-bids = reads bid-in [] (chain-none a c marks att many j j1 jn bid-in (λ q t s. refl) (λ q t s m p. refl) (L .chain) 0 enoughs) ∙ no-more (is-over j) []
+      rounds-bids = reads bid-in [] (chain-none a c marks att many j j1 jn bid-in (λ q t s. refl) (λ q t s m p. refl) L 0 enoughs) ∙ no-more (is-over j) []
 
-      pub rounds-askings : collect asking-in (own j (round-calls a c marks att)) ≡ cond (is-over j) (record-at a c end j ∷ []) []
+      pub rounds-askings : collect asking-in (own j (round-calls a c marks att)) ≡ cond (is-over j) (record-at a c τ j ∷ []) []
       unfolding collect asking-in ask seat
-      rounds-askings = reads asking-in [] (chain-none a c marks att many j j1 jn asking-in (λ q t s. refl) (λ q t s m p. refl) (L .chain) 0 enoughs)
+      rounds-askings = reads asking-in [] (chain-none a c marks att many j j1 jn asking-in (λ q t s. refl) (λ q t s m p. refl) L 0 enoughs)
 
       -- ---- what it says
 
@@ -271,7 +253,7 @@ module _ (a : Auction) (c : Coins) (A : IsAuction a) (C : InRange a c) where
 
       pub rounds-sayings : (x : Saying) → List·Memᴰ x (collect saying-in (own j (round-calls a c marks att))) → (i : ℕ) × Says a c i j x
       rounds-sayings x m =
-          let r = chain-sayings a c marks att many j j1 jn (L .chain) 0 enoughs x (subst (List·Memᴰ x) sayings-are m) in
+          let r = chain-sayings a c marks att many j j1 jn L 0 enoughs x (subst (List·Memᴰ x) sayings-are m) in
           (r .0, says-at j j1 jn (r .0) x (r .1))
 
       pub rounds-says : (i : ℕ) → i < rounds a → is-present (marks i) j ≡ true → i ≤ att .hears j
@@ -282,5 +264,5 @@ module _ (a : Auction) (c : Coins) (A : IsAuction a) (C : InRange a c) where
             r .0,
             says-at j j1 jn i (r .0) (r .1),
             subst (List·Memᴰ (r .0)) (sym sayings-are)
-                (chain-says a c marks att many j j1 jn (L .chain) 0 enoughs i (r .0) (r .1) (ap (λ (k : ℕ). is-present (marks k) j) at ∙ p) (omega arith)),
+                (chain-says a c marks att many j j1 jn L 0 enoughs i (r .0) (r .1) (ap (λ (k : ℕ). is-present (marks k) j) at ∙ p) (omega arith)),
           )

@@ -1,7 +1,7 @@
 -- The words of all n parties fix the coins of a sheet; a probe is 33 messages a party, read round by round. Assumes nothing.
 use mathlib.Core.Path.{_≡_, refl, sym, ap, ap₂, fun-ext, _∙_}
-use mathlib.Core.List.{List, [], _∷_, map, head-eq-of-cons-eq, tail-eq-of-cons-eq, List·Memᴰ·head, List·Memᴰ·tail}
-use Prim.Native.Nat.{ℕ, zero, suc, _+_, _≤_, _<_}
+use mathlib.Core.List.{List, [], _∷_, map, flatten, head-eq-of-cons-eq, tail-eq-of-cons-eq, List·Memᴰ·head, List·Memᴰ·tail}
+use Prim.Native.Nat.{ℕ, zero, suc, _+_, _*_, _≤_, _<_}
 use native.Mathlib.Nat.{suc-inj}
 use native.Mathlib.Decide.{decLe}
 use native.Mathlib.Omega.{arith}
@@ -21,7 +21,7 @@ use Rattle.comparison.proofs.Values.{bit-byte}
 use Rattle.comparison.proofs.Dealt.{ProbeShared, TripleShared, shared-cons, triple-polynomials-shared, bit-polynomials-length, product-rounds-long}
 use Rattle.comparison.proofs.Agreement.{In, same-map, heard}
 use Rattle.comparison.proofs.Hiding.{append-parts}
-use Rattle.auction.proofs.Closed.{spoken}
+use Rattle.auction.proofs.Closed.{Made, spoken, all-spoken}
 
 -- ---- lists
 
@@ -141,6 +141,11 @@ probe-messages-long t q h j =
 pub spoken-long : (n : ℕ) (q : Probe) → length (spoken n q) ≡ probe-rounds
 unfolding spoken
 spoken-long n q = length-map (from 0 probe-rounds) (λ i. map (λ j. getD (probe-messages q j) i 0) (points n)) ∙ length-from 0 probe-rounds
+
+pub all-spoken-long : (n : ℕ) (ds : List Made) → length (all-spoken n ds) ≡ probe-rounds * length ds
+unfolding flatten
+all-spoken-long n [] = refl
+all-spoken-long n (d ∷ ds) = length-append (spoken n (d .probe)) (all-spoken n ds) ∙ omega (arith, spoken-long n (d .probe), all-spoken-long n ds)
 
 pub spoken-same : (n : ℕ) (q q′ : Probe) → ((j : ℕ) → probe-messages q′ j ≡ probe-messages q j) → spoken n q′ ≡ spoken n q
 unfolding spoken

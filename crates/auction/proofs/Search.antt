@@ -8,6 +8,7 @@ use native.Mathlib.Numerals.{add-one}
 use native.Mathlib.Decide.{decLt}
 use native.Mathlib.Omega.{arith}
 use lib.ListN.{length, take, drop, length-append, length-map}
+use borrow.Author.Tests.{le-leb}
 use lib.Seq.{take-nil, take-append-le, take-append-add}
 use Rattle.ranges.specs.Sizes.{probe-rounds}
 use Rattle.ranges.specs.Lists.{from}
@@ -17,21 +18,22 @@ use Rattle.search.specs.Bracket.{middle}
 use Rattle.search.specs.Limit.{most-probes}
 use Rattle.search.specs.Searches.{first-search, next, finished, price}
 use Rattle.search.specs.Search.{promise, follow, Decision, decision-at, trail, made-in, Searched}
-use Rattle.search.proofs.Bounds.{roomy-sound, probes-enough, next-probes, follow-probes, second-finished, finished-second}
+use Rattle.search.proofs.Bounds.{Sound, roomy-sound, probes-enough, next-probes, follow-probes, second-finished, finished-second}
 use Rattle.search.proofs.Narrowing.{over-true}
 use Rattle.search.proofs.Promised.{Promised, promised-start, promised-next, enclosed}
 use Rattle.sharing.specs.Scheme.{threshold}
 use Rattle.comparison.specs.Probe.{SheetCoins, Each, Probe, secret, last-polynomial}
 use Rattle.comparison.proofs.Dealt.{ProbeShared}
 use Rattle.search.proofs.Trails.{trail-over, trail-going, spent-on-first}
-use Rattle.auction.specs.Auction.{Auction, IsAuction, demand, supply, clearing-answer, balanced-answer, price-answer, probed, rounds}
+use Rattle.auction.specs.Auction.{Auction, IsAuction, demand, supply, clearing-answer, balanced-answer, price-answer, probed}
 use Rattle.auction.specs.Coins.{Coins, InRange}
 use Rattle.auction.specs.Received.{collect, round-after}
-use Rattle.auction.proofs.Closed.{polynomials, probe-of, Made, decided, made, fresh-stage, probes, decision}
+use Rattle.auction.proofs.Closed.{polynomials, probe-of, Made, decided, made, Stage, decided-stage, probes, decision}
 use Rattle.auction.proofs.Totals.{totals-monotone}
 use Rattle.auction.proofs.Round.{Ready, shared, verdict-is}
 use Rattle.auction.proofs.Calls.{collect-append}
 use Rattle.auction.proofs.Chain.{Turn, Chain, done, chain-append, decision-of}
+use Rattle.auction.proofs.Placed.{decided-going}
 use Rattle.auction.proofs.Probed.{turn-of, probe-chain, probe-decides, part-decides}
 
 -- the rounds of a probe, and of probes
@@ -104,19 +106,25 @@ abbrev pub Counted : ℕ → List Turn → Type 0
 Counted k [] = Unit {0}
 Counted k (r ∷ rs) = (round-is r ≡ k) × Counted (suc k) rs
 
-counted-append : (k l : ℕ) (rs rs′ : List Turn) → k + length rs ≡ l → Counted k rs → Counted l rs′ → Counted k (rs ++ rs′)
+pub counted-append : (k l : ℕ) (rs rs′ : List Turn) → k + length rs ≡ l → Counted k rs → Counted l rs′ → Counted k (rs ++ rs′)
 counted-append k l [] rs′ e h g = subst (λ (x : ℕ). Counted x rs′) (sym e ∙ add-zero k) g
 counted-append k l (r ∷ rs) rs′ e h g = (h .0, counted-append (suc k) l rs rs′ (omega arith) (h .1) g)
 
-counted-probe : (here : Search) (q : Probe) (i m : ℕ) → Counted (probe-rounds * here .probes + i) (map (turn-of here q) (from i m))
+-- a round of a probe, among those counted
+in-probe : (m round : ℕ) → round ≤ probe-rounds → round-after m round ≡ probe-rounds * m + (round - 1)
+in-probe m round h = rw (le-leb round probe-rounds h)
+
+counted-probe : (here : Search) (q : Probe) (i m : ℕ) → i + m ≤ probe-rounds → Counted (probe-rounds * here .probes + i) (map (turn-of here q) (from i m))
 unfolding from
-counted-probe here q i zero = tt
-counted-probe here q zero (suc m) =
+counted-probe here q i zero h = tt
+counted-probe here q zero (suc m) h =
     let next : probe-rounds * here .probes + 1 ≡ suc (probe-rounds * here .probes + 0) = omega arith in
-    (omega arith, subst (λ (k : ℕ). Counted k (map (turn-of here q) (from 1 m))) next (counted-probe here q 1 m))
-counted-probe here q (suc i) (suc m) =
-    let next : probe-rounds * here .probes + suc (suc i) ≡ suc (probe-rounds * here .probes + suc i) = omega arith in
-    (omega arith, subst (λ (k : ℕ). Counted k (map (turn-of here q) (from (suc (suc i)) m))) next (counted-probe here q (suc (suc i)) m))
+    (in-probe (here .probes) 1 (omega arith) ∙ omega arith, subst (λ (k : ℕ). Counted k (map (turn-of here q) (from 1 m))) next (counted-probe here q 1 m (omega arith)))
+counted-probe here q (suc i) (suc m) h =
+    let next : probe-rounds * here .probes + suc (suc i) ≡ suc (probe-rounds * here .probes + suc i) = omega arith in (
+      in-probe (here .probes) (i + 2) (omega arith) ∙ omega arith,
+      subst (λ (k : ℕ). Counted k (map (turn-of here q) (from (suc (suc i)) m))) next (counted-probe here q (suc (suc i)) m (omega arith)),
+    )
 
 none-counted : (k : ℕ) → Counted k (turns-of [])
 unfolding turns-of
@@ -128,7 +136,7 @@ unfolding turns-of
 one-counted d ds after e h =
     counted-append (probe-rounds * d .here .probes) (probe-rounds * after .probes) (turns-in d) (turns-of ds)
     (omega (arith, e, turns-in-length d))
-    (subst (λ (k : ℕ). Counted k (turns-in d)) (add-zero _) (counted-probe (d .here) (d .probe) 0 probe-rounds))
+    (subst (λ (k : ℕ). Counted k (turns-in d)) (add-zero _) (counted-probe (d .here) (d .probe) 0 probe-rounds (omega arith)))
     h
 
 module _ (a : Auction) (fs : List (List ℕ)) where
@@ -147,7 +155,7 @@ module _ (a : Auction) (fs : List (List ℕ)) where
 
 -- what the probes ds with these sheets are, from here on
 pub record Leads (a : Auction) (c : Coins) (here : Search) (ss : List SheetCoins) (ds : List Made) : Type 0 where
-  pub chain : Chain a c (fresh-stage here) (turns-of ds) (fresh-stage (after-probes here ds))
+  pub chain : Chain a c (decided-stage here) (turns-of ds) (decided-stage (after-probes here ds))
   pub promised : Promised (demand a) (supply a) (a .k) (after-probes here ds)
   pub ended : finished (after-probes here ds) ≡ true
   pub trail-is : map decision ds ≡ trail (promise (demand a) (supply a)) (length ss) here
@@ -181,7 +189,8 @@ module _ (a : Auction) (c : Coins) (A : IsAuction a) (C : InRange a c) where
     unfolding turns-of follow
     one-more ds L =
         record {
-          chain = chain-append (probe-chain a c A C here s ss R) (L .chain);
+          chain =
+              chain-append (subst (λ (σ : Stage). Chain a c σ (turns-in (record { here = here; probe = q })) (decided-stage (next here v))) (sym (decided-going here (R .going))) (probe-chain a c A C here s ss R)) (L .chain);
           promised = L .promised;
           ended = L .ended;
           trail-is =
@@ -230,10 +239,6 @@ module _ (a : Auction) (c : Coins) (A : IsAuction a) (C : InRange a c) where
   pub probes-many : length (probes a c) ≡ length (probed a)
   probes-many = sym (length-map (probes a c) decision) ∙ ap length probes-trail
 
-  -- as many rounds as are made
-  pub rounds-are : length (turns-of (probes a c)) ≡ rounds a
-  rounds-are = turns-length (probes a c) ∙ ap (λ (m : ℕ). probe-rounds * m) probes-many
-
   abbrev end : Search
   end = after-probes (first-search (a .k)) (probes a c)
 
@@ -247,6 +252,9 @@ module _ (a : Auction) (c : Coins) (A : IsAuction a) (C : InRange a c) where
 
   pub probes-few : length (probes a c) ≤ most-probes (a .k)
   probes-few = omega (arith, searched .few, probes-counted)
+
+  pub end-sound : Sound (a .k) end
+  end-sound = roomy-sound (a .k) end (whole .promised .roomy)
 
   pub price-found : price end ≡ price-answer a
   price-found = searched .answer (whole .ended)

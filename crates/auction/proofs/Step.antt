@@ -1,10 +1,10 @@
 -- One round of all parties, whoever is present: when every call of it is accepted, and what every party then has. Assumes nothing.
-use mathlib.Core.Path.{_≡_, refl, sym, ap, _∙_}
+use mathlib.Core.Path.{_≡_, refl, sym, ap, subst, _∙_}
 use mathlib.Core.Bool.{true, false}
-use mathlib.Core.List.{List, _∷_, map}
+use mathlib.Core.List.{List, map}
 use Prim.Native.Nat.{ℕ, _+_, _-_, _*_, _^_, _≤_, _<_}
 use native.Mathlib.Omega.{arith}
-use lib.ListN.{length, drop, getD, length-map}
+use lib.ListN.{length, getD, length-map}
 use Rattle.ranges.specs.Sizes.{sheet-size}
 use Rattle.refusal.specs.Judging.{kept}
 use Rattle.refusal.specs.declared.Judgement.the-variants.{Accepted}
@@ -15,34 +15,29 @@ use Rattle.sharing.specs.Scheme.{threshold, points}
 use Rattle.presence.specs.Presence.{of-present, is-present}
 use Rattle.presence.proofs.Laws.{chosen-same}
 use Rattle.ranges.proofs.Loops.{length-from, map-from}
-use Rattle.search.specs.declared.searches.Search.{Search}
-use Rattle.search.specs.Bracket.{middle}
 use Rattle.search.specs.Limit.{most-probes}
-use Rattle.search.specs.Searches.{finished}
 use Rattle.search.proofs.Bounds as searches
-use Rattle.comparison.specs.Probe.{SheetCoins, SheetInRange, sheet-polynomials, sheet-shares, Each}
-use Rattle.comparison.proofs.Dealt.{SheetShared, dealt-shared, each-drop}
+use Rattle.comparison.specs.Probe.{SheetInRange, sheet-polynomials, sheet-shares, Each}
 use Rattle.round.specs.declared.Heard.{Heard}
-use Rattle.record.specs.Record.{sound, replied}
-use Rattle.saying.specs.Say.{demand-share, supply-share, current, message, say-judgement, said}
-use Rattle.round.specs.Round.{heard, unopened, sum-outside, verdict-outside}
+use Rattle.record.specs.Record.{sound, ended, replied}
+use Rattle.saying.specs.Say.{current, message, say-judgement, said}
+use Rattle.round.specs.Round.{heard}
 use Rattle.hearing.specs.Hear.{hear-judgement}
 use Rattle.stepping.specs.After.{after}
-use Rattle.record.proofs.Soundness.{Sound, sound-of}
+use Rattle.record.proofs.Soundness.{RoundSound, Sound, sound-of}
 use Rattle.saying.proofs.Laws.{InTurn, say-accepted}
 use Rattle.saying.proofs.Sheets.{InField, in-field-any}
 use Rattle.round.proofs.Opened.{heard-unmarked}
-use Rattle.hearing.proofs.Hears.{admitted, hear-accepted}
+use Rattle.hearing.proofs.Hears.{Admitted, hear-accepted}
 use Rattle.roll.proofs.Entry.{entered-proper}
 use Rattle.auction.specs.Auction.{Auction, bidders, IsAuction}
 use Rattle.auction.specs.Coins.{Coins, InRange}
 use Rattle.auction.specs.Call.{accepted, is-accepted, judgement}
 use Rattle.auction.specs.Attendance.{Enough}
 use Rattle.auction.specs.Canonical.{word, say-by, word-by, hear-by, after-hearing}
-use Rattle.auction.proofs.Closed.{at-party, polynomials, demand-at, supply-at, full-roll, Stage, fresh-stage, record-at, sheets-at, seat}
+use Rattle.auction.proofs.Closed.{at-party, polynomials, full-roll, Stage, record-at, sheets-at, seat}
 use Rattle.auction.proofs.Totals.{each-imp, polynomials-length}
-use Rattle.auction.proofs.Sheets.{flat-length, flat-at, words-long, mask-word, getD-amounts, amount-below, byte-below, sheet-bytes-below}
-use Rattle.auction.proofs.Comparing.{demand-shared, supply-shared}
+use Rattle.auction.proofs.Sheets.{flat-length, words-long, byte-below}
 
 -- ---- one round
 
@@ -54,7 +49,7 @@ pub record Hearable (n : ℕ) (w : ℕ → ℕ) (messages present : List ℕ) : 
 
 -- from the stage σ all say the words w, which open to o, and are then at the stage τ
 pub record Step (a : Auction) (c : Coins) (σ τ : Stage) (w : ℕ → ℕ) (o : Heard) : Type 0 where
-  pub going : finished (σ .search) ≡ false
+  pub going : (j : ℕ) → ended (record-at a c σ j) ≡ false
   pub saying : (j : ℕ) → 1 ≤ j → j ≤ a .n → accepted (say-by (seat a c σ j)) ≡ true
   pub word : (j : ℕ) → 1 ≤ j → j ≤ a .n → word-by (seat a c σ j) ≡ w j
   pub opens : (messages present : List ℕ) → Hearable (a .n) w messages present → heard (a .n) (σ .round) present messages ≡ o
@@ -66,20 +61,17 @@ pub record Step (a : Auction) (c : Coins) (σ τ : Stage) (w : ℕ → ℕ) (o :
 -- a stage whose records are sound
 pub record Sane (a : Auction) (σ : Stage) : Type 0 where
   pub search : searches.Sound (a .k) (σ .search)
-  pub round-least : 1 ≤ σ .round
-  pub round-most : σ .round ≤ 33
+  pub round : RoundSound (σ .search) (σ .round)
   pub sum : σ .sum < 2 ^ 59 + 2 ^ 33
   pub carry : AllBelow 256 (σ .carry)
+  pub totals : (σ .demand < 2 ^ 32) × (σ .supply ≤ σ .demand)
 
--- one at which the searches go on, with the sheet s
-pub record Placed (a : Auction) (c : Coins) (σ : Stage) (s : SheetCoins) (ss : List SheetCoins) : Type 0 where
+-- one at which the session goes on, each party with these words of its current sheet
+pub record Placed (a : Auction) (c : Coins) (σ : Stage) (sheet : ℕ → List ℕ) : Type 0 where
   pub sane : Sane a σ
-  pub going : finished (σ .search) ≡ false
-  pub left : drop (σ .search .probes) (c .sheets) ≡ s ∷ ss
-
-pub fresh-sane : (a : Auction) (here : Search) → searches.Sound (a .k) here → Sane a (fresh-stage here)
-fresh-sane a here sound =
-    record { search = sound; round-least = omega arith; round-most = omega arith; sum = omega arith; carry = tt }
+  pub going : (j : ℕ) → ended (record-at a c σ j) ≡ false
+  pub current-is : (j : ℕ) → current (record-at a c σ j) (sheets-at a c j) ≡ sheet j
+  pub in-field : (j : ℕ) → 1 ≤ j → j ≤ a .n → InField (record-at a c σ j) true (at-party j (polynomials a c)) (sheet j)
 
 -- ---- soundness
 
@@ -98,12 +90,12 @@ module _ (a : Auction) (c : Coins) (A : IsAuction a) (σ : Stage) (N : Sane a σ
               prices-most = A .k-most;
             };
         search = N .search;
-        round-least = N .round-least;
-        round-most = N .round-most;
+        round = N .round;
         sum = N .sum;
         carry = omega (arith, byte-below j (omega (arith, A .n-most)) (σ .carry) (N .carry));
         roll = entered-proper (bidders a) (A .bidders);
         bids = refl;
+        totals = N .totals;
       }
 
   pub sound-at : sound (record-at a c σ j) ≡ true
@@ -114,14 +106,11 @@ module _ (a : Auction) (c : Coins) (A : IsAuction a) (σ : Stage) (N : Sane a σ
 words-length : (w : ℕ → ℕ) (n : ℕ) → length (map w (points n)) ≡ n
 words-length w n = length-map (points n) w ∙ length-from 1 n
 
-each-first : {A : Type 0} (P : A → Type 0) (s : A) (ss xs : List A) → xs ≡ s ∷ ss → Each P xs → P s
-each-first P s ss xs e h = (rw e at h) .0
-
 module _ (a : Auction) (c : Coins) (A : IsAuction a) (C : InRange a c) where
   abbrev t : ℕ
   t = threshold (a .n)
 
-  sheets-long : (j : ℕ) → Each (λ s. length (sheet-shares j (sheet-polynomials s)) ≡ sheet-size) (c .sheets)
+  pub sheets-long : (j : ℕ) → Each (λ s. length (sheet-shares j (sheet-polynomials s)) ≡ sheet-size) (c .sheets)
   sheets-long j = each-imp (SheetInRange t) (λ s. length (sheet-shares j (sheet-polynomials s)) ≡ sheet-size) (c .sheets) (words-long t j) (C .sheets)
 
   pub sheets-length : (j : ℕ) → length (sheets-at a c j) ≡ sheet-size * most-probes (a .k)
@@ -134,47 +123,13 @@ module _ (a : Auction) (c : Coins) (A : IsAuction a) (C : InRange a c) where
 
   -- ---- at a stage
 
-  module _ (σ : Stage) (s : SheetCoins) (ss : List SheetCoins) (P : Placed a c σ s ss) where
-    pub coins-ranged : SheetInRange t s
-    coins-ranged =
-        each-first (SheetInRange t) s ss (drop (σ .search .probes) (c .sheets)) (P .left) (each-drop (SheetInRange t) (σ .search .probes) (c .sheets) (C .sheets))
-
-    sheet-shared : SheetShared t (sheet-polynomials s)
-    sheet-shared = dealt-shared t s coins-ranged
-
+  module _ (σ : Stage) (sheet : ℕ → List ℕ) (P : Placed a c σ sheet) where
     module _ (j : ℕ) (j1 : 1 ≤ j) (jn : j ≤ a .n) where
-      pub current-at : current (record-at a c σ j) (sheets-at a c j) ≡ sheet-shares j (sheet-polynomials s)
-      unfolding current record-at sheets-at
-      current-at = flat-at (λ s. sheet-shares j (sheet-polynomials s)) sheet-size (c .sheets) (σ .search .probes) s ss (sheets-long j) (P .left)
-
       abbrev totals : List ℕ
       totals = at-party j (polynomials a c)
 
-      abbrev index : ℕ
-      index = middle (σ .search .bracket)
-
-      pub demand-word : demand-share (record-at a c σ j) totals ≡ value amounts (demand-at a (polynomials a c) index) j
-      unfolding record-at
-      demand-word = getD-amounts j (polynomials a c) (index - 1)
-
-      pub supply-word : supply-share (record-at a c σ j) totals ≡ value amounts (supply-at a (polynomials a c) index) j
-      unfolding record-at
-      supply-word = getD-amounts j (polynomials a c) (a .k + index - 1)
-
-      pub on-list : (1 ≤ index) × (index ≤ a .k)
-      on-list =
-          let F = searches.probing (a .k) (σ .search) (P .sane .search) (P .going) in
-          (F .index-least, F .index-most)
-
-      in-field-facts : InField (record-at a c σ j) true totals (sheet-shares j (sheet-polynomials s))
-      in-field-facts =
-          let small : j < 10 = omega (arith, A .n-most) in
-          record {
-            demand = λ u e. rw demand-word (amount-below j small _ (demand-shared a c A C index (on-list .0) (on-list .1) .1));
-            supply = λ u e. rw supply-word (amount-below j small _ (supply-shared a c A C index (on-list .0) (on-list .1) .1));
-            mask = rw (mask-word t j (sheet-polynomials s) sheet-shared) (amount-below j small _ (sheet-shared .mask .1));
-            bytes = sheet-bytes-below t j small (sheet-polynomials s) sheet-shared;
-          }
+      current-at : current (record-at a c σ j) (sheets-at a c j) ≡ sheet j
+      current-at = P .current-is j
 
       turn-at : InTurn (record-at a c σ j) totals (sheets-at a c j)
       unfolding record-at
@@ -183,25 +138,25 @@ module _ (a : Auction) (c : Coins) (A : IsAuction a) (C : InRange a c) where
             sound = facts-at a c A σ (P .sane) j j1 jn;
             totals-long = totals-length j;
             sheets-long = sheets-length j;
-            going = P .going;
+            going = P .going j;
           }
 
       say-ok : say-judgement (record-at a c σ j) totals (sheets-at a c j) ≡ Accepted
-      say-ok = say-accepted _ _ _ (record { turn = turn-at; in-field = rw current-at in-field-facts })
+      say-ok = say-accepted _ _ _ (record { turn = turn-at; in-field = rw current-at (P .in-field j j1 jn) })
 
       pub saying-at : accepted (say-by (seat a c σ j)) ≡ true
       unfolding say-by seat judgement is-accepted
       saying-at = rw say-ok
 
-      pub word-at : word-by (seat a c σ j) ≡ message (record-at a c σ j) totals (sheet-shares j (sheet-polynomials s))
+      pub word-at : word-by (seat a c σ j) ≡ message (record-at a c σ j) totals (sheet j)
       unfolding word-by seat word said
       word-at = rw (say-ok, current-at)
 
       -- hearing words, its own among them if it is present, that open to o
       module _ (w : ℕ → ℕ) (o : Heard) (messages present : List ℕ) (H : Hearable (a .n) w messages present)
-          (own : w j ≡ message (record-at a c σ j) totals (sheet-shares j (sheet-polynomials s)))
+          (own : w j ≡ message (record-at a c σ j) totals (sheet j))
           (opens : heard (a .n) (σ .round) present messages ≡ o)
-          (straight : unopened o ≡ false) (tame : sum-outside o ≡ false) (whole : verdict-outside o ≡ false) where
+          (allowed : Admitted (σ .round) (σ .demand) (σ .supply) o) where
         own-word : is-present present j ≡ true → getD messages (j - 1) 0 ≡ w j
         own-word here =
             chosen-same present messages (map w (points (a .n))) (j - 1) (H .many ∙ sym (words-length w (a .n))) (H .said) here
@@ -217,9 +172,9 @@ module _ (a : Auction) (c : Coins) (A : IsAuction a) (C : InRange a c) where
               many = H .many;
               marks-many = H .enough .long;
               enough = H .enough .many;
-              in-field = rw current-at (in-field-any _ _ _ _ in-field-facts);
+              in-field = rw current-at (in-field-any _ _ _ _ (P .in-field j j1 jn));
               own = λ here. own-word here ∙ own ∙ sym (ap (message (record-at a c σ j) totals) current-at);
-              opening = admitted (heard (a .n) (σ .round) present messages) (ap unopened opens ∙ straight) (ap sum-outside opens ∙ tame) (ap verdict-outside opens ∙ whole);
+              opening = subst (Admitted (σ .round) (σ .demand) (σ .supply)) (sym opens) allowed;
             })
 
         pub hearing-at : accepted (hear-by messages present (seat a c σ j)) ≡ true
@@ -230,19 +185,19 @@ module _ (a : Auction) (c : Coins) (A : IsAuction a) (C : InRange a c) where
         unfolding record-at
         seen = opens
 
-        pub next-at : (τ : Stage) → after (record-at a c σ j) (sheet-shares j (sheet-polynomials s)) o ≡ record-at a c τ j
+        pub next-at : (τ : Stage) → after (record-at a c σ j) (sheet j) o ≡ record-at a c τ j
             → after-hearing messages present (seat a c σ j) ≡ seat a c τ j
         unfolding after-hearing seat replied kept
         next-at τ e = rw (hear-ok, current-at, seen, e)
 
     -- the whole round
     pub step-of : (τ : Stage) (w : ℕ → ℕ) (o : Heard)
-        → ((j : ℕ) → 1 ≤ j → j ≤ a .n → message (record-at a c σ j) (at-party j (polynomials a c)) (sheet-shares j (sheet-polynomials s)) ≡ w j)
+        → ((j : ℕ) → 1 ≤ j → j ≤ a .n → message (record-at a c σ j) (at-party j (polynomials a c)) (sheet j) ≡ w j)
         → ((present : List ℕ) → Enough (a .n) present → heard (a .n) (σ .round) present (map w (points (a .n))) ≡ o)
-        → unopened o ≡ false → sum-outside o ≡ false → verdict-outside o ≡ false
-        → ((j : ℕ) → 1 ≤ j → j ≤ a .n → after (record-at a c σ j) (sheet-shares j (sheet-polynomials s)) o ≡ record-at a c τ j)
+        → Admitted (σ .round) (σ .demand) (σ .supply) o
+        → ((j : ℕ) → 1 ≤ j → j ≤ a .n → after (record-at a c σ j) (sheet j) o ≡ record-at a c τ j)
         → Step a c σ τ w o
-    step-of τ w o says opens straight tame whole turns =
+    step-of τ w o says opens allowed turns =
         let opened : (messages present : List ℕ) → Hearable (a .n) w messages present → heard (a .n) (σ .round) present messages ≡ o =
         λ messages present H.
         heard-unmarked (a .n) (σ .round) present messages (map w (points (a .n))) (H .many ∙ sym (words-length w (a .n))) (H .said)
@@ -253,7 +208,7 @@ module _ (a : Auction) (c : Coins) (A : IsAuction a) (C : InRange a c) where
           word = λ j j1 jn. word-at j j1 jn ∙ says j j1 jn;
           opens = opened;
           hearing = λ messages present H j j1 jn.
-              hearing-at j j1 jn w o messages present H (sym (says j j1 jn)) (opened messages present H) straight tame whole;
+              hearing-at j j1 jn w o messages present H (sym (says j j1 jn)) (opened messages present H) allowed;
           next = λ messages present H j j1 jn.
-              next-at j j1 jn w o messages present H (sym (says j j1 jn)) (opened messages present H) straight tame whole τ (turns j j1 jn);
+              next-at j j1 jn w o messages present H (sym (says j j1 jn)) (opened messages present H) allowed τ (turns j j1 jn);
         }

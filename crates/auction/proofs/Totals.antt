@@ -12,7 +12,7 @@ use lib.Seq.{length-take-le, getD-take, getD-drop}
 use borrow.Author.Tests.{leb-true}
 use Rattle.fields.specs.Amount.{p, amounts}
 use Rattle.fields.proofs.Fields.{amount-field}
-use Rattle.ranges.specs.Lists.{every}
+use Rattle.ranges.specs.Lists.{every, sum}
 use Rattle.sharing.specs.Linear.{sums}
 use Rattle.sharing.specs.Scheme.{threshold}
 use Rattle.sharing.proofs.Laws.{sums-length, sums-lt}
@@ -26,7 +26,7 @@ use Rattle.comparison.proofs.Plain.{each-replicate, zeros-group}
 use Rattle.ranges.specs.Steps.{steps}
 use Rattle.bid.specs.Table.{most, monotone}
 use Rattle.roll.proofs.Entry.{bidders-few}
-use Rattle.auction.specs.Auction.{Auction, Bid, bidders, GoodTable, IsAuction, sum, demand, supply, left-side, right-side}
+use Rattle.auction.specs.Auction.{Auction, Bid, bidders, GoodTable, IsAuction, demand, supply, left-side, right-side}
 use Rattle.auction.specs.Coins.{Coins, DrawnBid, InRange}
 use Rattle.auction.proofs.Closed.{entries, added-polynomials, totals-after, no-totals, polynomials}
 

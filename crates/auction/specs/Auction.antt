@@ -1,12 +1,12 @@
 -- What an auction is fixed by, but for its coins; its totals, its answers and its probes. Assumes nothing.
 use mathlib.Core.Path.{_≡_}
-use mathlib.Core.Bool.{true}
-use mathlib.Core.List.{List, [], _∷_, map}
+use mathlib.Core.Bool.{true, cond}
+use mathlib.Core.List.{List, map}
 use Prim.Native.Nat.{ℕ, _+_, _-_, _*_, _≤_}
-use lib.Dec.{leb}
+use lib.Dec.{leb, eqb}
 use lib.ListN.{length, getD}
 use Rattle.ranges.specs.Distinct.{Distinct}
-use Rattle.ranges.specs.Lists.{every}
+use Rattle.ranges.specs.Lists.{every, sum}
 use Rattle.ranges.specs.Sizes.{probe-rounds}
 use Rattle.bid.specs.Table.{most, monotone}
 use Rattle.search.specs.Clearing.{clearing, balancing, price-index}
@@ -45,13 +45,13 @@ pub record IsAuction (a : Auction) : Type 0 where
   pub bidders : Distinct 1000 (bidders a)
   pub tables : Each (λ b. GoodTable (a .k) (b .table)) (a .bids)
 
-unfoldable pub sum : List ℕ → ℕ
-sum [] = 0
-sum (x ∷ xs) = x + sum xs
+-- what each bidder would buy at an index
+abbrev pub wanted : Auction → ℕ → List ℕ
+wanted a i = map (λ b. getD (b .table) (i - 1) 0) (a .bids)
 
--- total demand and total supply at an index, "added in tenths unrounded"
+-- total demand and total supply there, "added in tenths unrounded"
 unfoldable pub demand : Auction → ℕ → ℕ
-demand a i = sum (map (λ b. getD (b .table) (i - 1) 0) (a .bids))
+demand a i = sum (wanted a i)
 
 unfoldable pub supply : Auction → ℕ → ℕ
 supply a i = sum (map (λ b. getD (b .table) (a .k + i - 1) 0) (a .bids))
@@ -76,9 +76,14 @@ left-side a which i = side which (demand a i) (supply a i)
 abbrev pub right-side : Auction → (which i : ℕ) → ℕ
 right-side a which i = side which (supply a i) (demand a i)
 
--- the probes that the two searches make on an auction's totals, and their rounds
+-- the probes that the two searches make on an auction's totals
 abbrev pub probed : Auction → List Decision
 probed a = trail (promise (demand a) (supply a)) (most-probes (a .k)) (first-search (a .k))
 
+-- "When the index m is not 0, the keepers open total demand D and total supply S at m, in rounds 34 and 35."
+abbrev pub total-rounds : Auction → ℕ
+total-rounds a = cond (eqb (price-answer a) 0) 0 2
+
+-- all rounds of a run
 abbrev pub rounds : Auction → ℕ
-rounds a = probe-rounds * length (probed a)
+rounds a = probe-rounds * length (probed a) + total-rounds a

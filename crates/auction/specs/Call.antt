@@ -14,6 +14,7 @@ use Rattle.session.specs.Add.{add-judgement}
 use Rattle.saying.specs.Say.{say-judgement}
 use Rattle.hearing.specs.Hear.{hear-judgement}
 use Rattle.session.specs.Answer.{answer-judgement}
+use Rattle.filling.specs.Fill.{fill-judgement}
 
 pub data Call : Type 0 where
   open-call : (n own k : ℕ) (totals : List ℕ) → Call
@@ -24,6 +25,7 @@ pub data Call : Type 0 where
   say-call : (q : Party) (totals sheets : List ℕ) → Call
   hear-call : (q : Party) (totals sheets messages present : List ℕ) → Call
   answer-call : (q : Party) → Call
+  fill-call : (q : Party) (amount : ℕ) → Call
 
 unfoldable pub judgement : Call → Judgement
 judgement (open-call n own k totals) = open-judgement n own k totals
@@ -34,6 +36,7 @@ judgement (add-call q totals bidder shares) = add-judgement q totals bidder shar
 judgement (say-call q totals sheets) = say-judgement q totals sheets
 judgement (hear-call q totals sheets messages present) = hear-judgement q totals sheets messages present
 judgement (answer-call q) = answer-judgement q
+judgement (fill-call q amount) = fill-judgement q amount
 
 unfoldable pub is-accepted : Judgement → Bool
 is-accepted Accepted = true
@@ -42,10 +45,11 @@ is-accepted (Refused why) = false
 abbrev pub accepted : Call → Bool
 accepted c = is-accepted (judgement c)
 
--- a party's own call, or one of the bidders' and the dealer's
+-- a party's own call; one of the bidders' and the dealer's, for the parties; or one by which a fleet learns its hours
 pub data Whose : Type 0 where
   party : ℕ → Whose
   service : Whose
+  fleet : Whose
 
 unfoldable pub whose : Call → Whose
 whose (open-call n own k totals) = party own
@@ -56,14 +60,22 @@ whose (add-call q totals bidder shares) = party (q .own)
 whose (say-call q totals sheets) = party (q .own)
 whose (hear-call q totals sheets messages present) = party (q .own)
 whose (answer-call q) = party (q .own)
+whose (fill-call q amount) = fleet
 
 unfoldable pub of-party : ℕ → Whose → Bool
 of-party j (party i) = eqb i j
 of-party j service = false
+of-party j fleet = false
 
 unfoldable pub of-service : Whose → Bool
 of-service (party i) = false
 of-service service = true
+of-service fleet = false
+
+unfoldable pub of-fleet : Whose → Bool
+of-fleet (party i) = false
+of-fleet service = false
+of-fleet fleet = true
 
 -- a call but for what it overwrites whole, which may hold anything of the right length
 unfoldable pub given : Call → Call
@@ -75,3 +87,4 @@ given (add-call q totals bidder shares) = add-call q totals bidder shares
 given (say-call q totals sheets) = say-call q totals sheets
 given (hear-call q totals sheets messages present) = hear-call q totals sheets messages present
 given (answer-call q) = answer-call q
+given (fill-call q amount) = fill-call q amount

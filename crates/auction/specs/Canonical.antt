@@ -2,19 +2,19 @@
 -- calls before it returned, wrote, said or left, by the very definitions that the contracts cite. Assumes nothing.
 use mathlib.Core.Bool.{Bool, true, false, cond, _&&_, _||_}
 use mathlib.Core.List.{List, [], _∷_, _++_, map, flatten, zip}
-use Prim.Native.Nat.{ℕ, zero, suc, _*_}
+use Prim.Native.Nat.{ℕ, zero, suc, _+_, _*_}
 use lib.Dec.{leb, ltb}
 use lib.ListN.{replicate}
 use Rattle.ranges.specs.Sizes.{sheet-size, probe-rounds}
 use Rattle.sharing.specs.Scheme.{threshold, points}
 use Rattle.presence.specs.Presence.{is-present}
 use Rattle.search.specs.Limit.{most-probes}
-use Rattle.search.specs.Searches.{finished}
 use Rattle.comparison.specs.Probe.{SheetCoins}
 use Rattle.bid.specs.Split.{split-left}
 use Rattle.bid.specs.Entry.{split-entry-left, entry-coins, entries-left}
 use Rattle.dealer.specs.Deal.{deal-left}
 use Rattle.record.specs.declared.Party.{Party}
+use Rattle.record.specs.Record.{ended}
 use Rattle.saying.specs.declared.Said.{Said}
 use Rattle.session.specs.Open.{open-reply, open-left}
 use Rattle.session.specs.Add.{add-reply, add-left}
@@ -38,11 +38,11 @@ pub record Seat : Type 0 where
 
 unfoldable pub all-over : List Seat → Bool
 all-over [] = true
-all-over (s ∷ ss) = finished (s .party .search) && all-over ss
+all-over (s ∷ ss) = ended (s .party) && all-over ss
 
--- 2P probes of 33 rounds: by then every session is over
+-- 2P probes of 33 rounds, and two rounds for the totals: by then every session is over
 abbrev pub enough-rounds : Auction → ℕ
-enough-rounds a = probe-rounds * most-probes (a .k)
+enough-rounds a = probe-rounds * most-probes (a .k) + 2
 
 module _ (a : Auction) where
   -- a slice of 2k words, to be written

@@ -1,10 +1,10 @@
 -- Demands 2 and 3 of whole auctions, as statements about every run. Assumes nothing.
 use mathlib.Core.Path.{_≡_}
 use mathlib.Core.Logic.{_↔_}
-use mathlib.Core.Bool.{Bool, true, not, _&&_}
+use mathlib.Core.Bool.{Bool, true, cond, not, _&&_}
 use mathlib.Core.List.{List, [], _∷_, map, zip, List·Memᴰ}
 use Prim.Native.Nat.{ℕ, _+_, _-_, _*_, _/_, _^_, _≤_, _<_, min}
-use lib.Dec.{leb, ltb}
+use lib.Dec.{leb, ltb, eqb}
 use lib.ListN.{length, take, drop, replicate}
 use Rattle.ranges.specs.Sizes.{sheet-size, probe-rounds}
 use Rattle.presence.specs.Presence.{is-present}
@@ -17,13 +17,18 @@ use Rattle.search.specs.Search.{promise, Decision, made-in}
 use Rattle.comparison.specs.Probe.{Each}
 use Rattle.record.specs.declared.Party.{Party}
 use Rattle.session.specs.declared.reply.Answer.the-variants.{Cleared}
-use Rattle.auction.specs.Auction.{Auction, IsAuction, bidders, demand, supply, clearing-answer, balanced-answer, price-answer, left-side, right-side, probed, rounds}
+use Rattle.refusal.specs.declared.Refusal.the-variants.{NotCleared}
+use Rattle.bid.specs.Table.{most}
+use Rattle.filling.specs.declared.Filled.the-variants.{Hours, Refused}
+use Rattle.filling.specs.Fill.{hours, remainder, fill-reply}
+use Rattle.filling.specs.Sums.{AllFills}
+use Rattle.auction.specs.Auction.{Auction, IsAuction, bidders, wanted, demand, supply, clearing-answer, balanced-answer, price-answer, left-side, right-side, probed, rounds}
 use Rattle.auction.specs.Coins.{Coins, InRange}
 use Rattle.auction.specs.Desk.{Complete, Desk}
 use Rattle.auction.specs.Attendance.{Marks, EnoughPresent, Attendance, Attends}
-use Rattle.auction.specs.Call.{Call, accepted}
+use Rattle.auction.specs.Call.{Call, fill-call, accepted}
 use Rattle.auction.specs.Canonical.{sheets-for, canonical}
-use Rattle.auction.specs.Run.{Run}
+use Rattle.auction.specs.Run.{Run, fills}
 use Rattle.auction.specs.Received.{Saying, received-bids, hearings, sayings, messages, decisions, verdicts, askings, answers}
 
 unfoldable pub all-accepted : List Call → Bool
@@ -32,7 +37,7 @@ all-accepted (c ∷ cs) = accepted c && all-accepted cs
 
 -- ---- demand 2
 
--- what a record holds of the two searches once they are finished
+-- what a record holds of the two searches, and of the totals at the price, once the session is over
 pub record Found (a : Auction) (ds : List Decision) (q : Party) : Type 0 where
   -- "And i is still the report's highest price"; "i and its probes"
   pub highest : q .search .first ≡ clearing-answer a
@@ -40,6 +45,18 @@ pub record Found (a : Auction) (ds : List Decision) (q : Party) : Type 0 where
   -- "If there is such a j", it is hi
   pub lowest : 0 < balanced-answer a → q .search .bracket .hi ≡ balanced-answer a
   pub none : balanced-answer a ≡ 0 → q .search .bracket .hi ≡ clearing-answer a + 1
+  -- "When the index m is not 0, the keepers open total demand D and total supply S at m"; with m = 0 nothing is opened
+  pub total-demand : q .demand ≡ cond (eqb (price-answer a) 0) 0 (demand a (price-answer a))
+  pub total-supply : q .supply ≡ cond (eqb (price-answer a) 0) 0 (supply a (price-answer a))
+  -- no share is left in it, so that it may be shown to a fleet
+  pub bare : (q .sum ≡ 0) × (q .carry ≡ 0)
+
+-- What a fleet is told that asks with the record: "A buyer of amount a gets a times S divided by D, rounded down, and is told the exact
+-- remainder"; "16 Not cleared, .. when m is 0".
+pub record FleetTold (a : Auction) (q : Party) : Type 0 where
+  pub filled : 0 < price-answer a → (amount : ℕ) → amount ≤ most
+      → fill-reply q amount ≡ Hours (hours (demand a (price-answer a)) (supply a (price-answer a)) amount) (remainder (demand a (price-answer a)) (supply a (price-answer a)) amount)
+  pub not-cleared : price-answer a ≡ 0 → (amount : ℕ) → fill-reply q amount ≡ Refused NotCleared
 
 -- what party j sees of a run in which it hears so many rounds, if there are so many
 pub record Outcome (a : Auction) (hears : ℕ) (l : List Call) (j : ℕ) : Type 0 where
@@ -53,8 +70,9 @@ pub record Outcome (a : Auction) (hears : ℕ) (l : List Call) (j : ℕ) : Type 
   pub asked : ℕ
   pub once-over : (length (hearings j l) ≡ rounds a) ↔ (0 < asked)
   pub cleared : answers j l ≡ replicate asked (Cleared (price-answer a) (length (verdicts j l)))
-  -- the record that it asks with has what the searches found
+  -- the record that it asks with has what the searches found, and gives each fleet its hours
   pub found : Each (Found a (decisions j l)) (askings j l)
+  pub fleets : Each (FleetTold a) (askings j l)
   -- at most 2P
   pub few : length (verdicts j l) ≤ most-probes (a .k)
   -- the roll of each record that it hears or asks with marks the bidders of the run, and nobody else
@@ -66,17 +84,24 @@ pub record Demand2 (a : Auction) (c : Coins) (marks : Marks) : Type 0 where
   pub none-refused : (desk : Desk) → Complete (a .k) desk → (att : Attendance) → Attends a marks att
       → all-accepted (canonical a c marks desk att) ≡ true
   pub outcome : (l : List Call) (run : Run a c marks l) → (j : ℕ) → 1 ≤ j → j ≤ a .n → Outcome a (run .attendance .hears j) l j
+  -- every fleet that asks, asks with a record that a party asks with, and so is told right
+  pub fleets : (l : List Call) → Run a c marks l → (q : Party) (amount : ℕ) → List·Memᴰ (fill-call q amount) (fills l) → FleetTold a q
+  -- supply is at most demand at the price, so that 11 stops nobody; over all bids the fills and remainders come to D times S
+  pub covered : 0 < price-answer a → supply a (price-answer a) ≤ demand a (price-answer a)
+  pub shared-out : 0 < price-answer a → AllFills (demand a (price-answer a)) (supply a (price-answer a)) (wanted a (price-answer a))
 
 -- ---- demand 3
 
 -- "two whole auctions that agree in number of keepers, number of listed prices, .. and clearing answer"; "Equal number of bids becomes
--- equal rolls, in order of entry"; "Privacy is promised when both i and j agree"
+-- equal rolls, in order of entry"; "Privacy is promised when both i and j agree"; "must now agree in D and S too", where they are opened
 pub record Alike (a b : Auction) : Type 0 where
   pub parties : b .n ≡ a .n
   pub prices : b .k ≡ a .k
   pub bidders : bidders b ≡ bidders a
   pub highest : clearing-answer b ≡ clearing-answer a
   pub lowest : balanced-answer b ≡ balanced-answer a
+  pub total-demand : 0 < price-answer a → demand b (price-answer a) ≡ demand a (price-answer a)
+  pub total-supply : 0 < price-answer a → supply b (price-answer a) ≡ supply a (price-answer a)
 
 -- "any t keepers"
 pub record Pool (n : ℕ) (pool : List ℕ) : Type 0 where

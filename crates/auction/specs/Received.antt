@@ -1,7 +1,9 @@
 -- What is read off a list of calls: what a party receives, says, hears and answers. Assumes nothing.
 use mathlib.Core.List.{List, [], _∷_, map}
 use mathlib.Core.Option.{Option, none, some}
+use mathlib.Core.Bool.{cond}
 use Prim.Native.Nat.{ℕ, _+_, _-_, _*_}
+use lib.Dec.{leb}
 use Rattle.ranges.specs.Sizes.{probe-rounds}
 use Rattle.presence.specs.Presence.{of-present}
 use Rattle.search.specs.declared.searches.Search.{Search}
@@ -13,7 +15,7 @@ use Rattle.session.specs.declared.reply.Answer.{Answer}
 use Rattle.round.specs.Round.{heard}
 use Rattle.session.specs.Answer.{answer-reply}
 use Rattle.saying.specs.Say.{say-reply}
-use Rattle.auction.specs.Call.{Call, open-call, split-call, split-entry-call, deal-call, add-call, say-call, hear-call, answer-call}
+use Rattle.auction.specs.Call.{Call, open-call, split-call, split-entry-call, deal-call, add-call, say-call, hear-call, answer-call, fill-call}
 use Rattle.auction.specs.Canonical.{word}
 use Rattle.auction.specs.Run.{own}
 
@@ -32,15 +34,16 @@ bid-in (add-call q totals bidder shares) = some (bidder, shares)
 bid-in (say-call q totals sheets) = none
 bid-in (hear-call q totals sheets messages present) = none
 bid-in (answer-call q) = none
+bid-in (fill-call q amount) = none
 
 -- a saying: the round that the record it was given is for, and the word
 pub record Saying : Type 0 where
   pub round : ℕ
   pub word : ℕ
 
--- the rounds counted from 0 on: after so many probes, this round of the next
+-- the rounds counted from 0 on: after so many probes, this round of the next; or, once they are all made, 34 or 35
 abbrev pub round-after : (probes round : ℕ) → ℕ
-round-after probes round = probe-rounds * probes + (round - 1)
+round-after probes round = probe-rounds * probes + cond (leb round probe-rounds) (round - 1) (round - 34)
 
 unfoldable pub round-of : Party → ℕ
 round-of q = round-after (q .search .probes) (q .round)
@@ -54,6 +57,7 @@ saying-in (add-call q totals bidder shares) = none
 saying-in (say-call q totals sheets) = some (record { round = round-of q; word = word (say-reply q totals sheets) })
 saying-in (hear-call q totals sheets messages present) = none
 saying-in (answer-call q) = none
+saying-in (fill-call q amount) = none
 
 -- a hearing: the record it was given, the n messages and the n marks
 pub record Hearing : Type 0 where
@@ -70,6 +74,7 @@ hearing-in (add-call q totals bidder shares) = none
 hearing-in (say-call q totals sheets) = none
 hearing-in (hear-call q totals sheets messages present) = some (record { party = q; messages = messages; present = present })
 hearing-in (answer-call q) = none
+hearing-in (fill-call q amount) = none
 
 -- the record with which the answer is asked for
 unfoldable pub asking-in : Call → Option Party
@@ -81,6 +86,7 @@ asking-in (add-call q totals bidder shares) = none
 asking-in (say-call q totals sheets) = none
 asking-in (hear-call q totals sheets messages present) = none
 asking-in (answer-call q) = some q
+asking-in (fill-call q amount) = none
 
 -- the bids that party j received, in order
 abbrev pub received-bids : ℕ → List Call → List (ℕ × List ℕ)
@@ -107,6 +113,7 @@ unfoldable pub verdict-in : Heard → Option ℕ
 verdict-in (heard-as.the-variants.Sum v) = none
 verdict-in (heard-as.the-variants.Factors d e) = none
 verdict-in (heard-as.the-variants.Verdict v) = some v
+verdict-in (heard-as.the-variants.Total v) = none
 verdict-in heard-as.the-variants.Unopened = none
 
 -- a verdict that was heard, with the search and the index where

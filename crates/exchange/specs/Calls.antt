@@ -12,6 +12,7 @@ use Rattle.session.specs.Add.{add-reply, add-left}
 use Rattle.session.specs.Answer.{answer-reply, answer-number, cleared-index, cleared-probes}
 use Rattle.saying.specs.Say.{say-reply, said-number, said-word}
 use Rattle.hearing.specs.Hear.{hear-reply}
+use Rattle.filling.specs.Fill.{fill-reply, filled-number, filled-hours, filled-remainder}
 use Rattle.record_words.specs.Words.{party-of, record-judgement, on-record, number-on, stored}
 
 -- ---- opening: the ranges come first, then the lengths
@@ -72,3 +73,13 @@ module _ (words : List ℕ) where
 
   abbrev pub answer-probes : (old : ℕ) → ℕ
   answer-probes old = on-record words (cleared-probes (answer-reply (party-of words)) old) old
+
+module _ (words : List ℕ) (amount : ℕ) where
+  abbrev pub fill-code : ℕ
+  fill-code = number-on words (filled-number (fill-reply (party-of words) amount))
+
+  abbrev pub fill-hours : (old : ℕ) → ℕ
+  fill-hours old = on-record words (filled-hours (fill-reply (party-of words) amount) old) old
+
+  abbrev pub fill-remainder : (old : ℕ) → ℕ
+  fill-remainder old = on-record words (filled-remainder (fill-reply (party-of words) amount) old) old

@@ -1,10 +1,12 @@
 // The calls, exported for C. Each answers 0, or the refusal's number, and writes what it gives into
-// what it is lent; a refused call changes nothing that is lent. A record is lent as its 29 words.
+// what it is lent; a refused call changes nothing that is lent. A record is lent as its 31 words.
 ghost use mathlib.Core.Path.{_≡_};
 ghost use Rattle.bid.specs.Split.{split-left};
 ghost use Rattle.bid.specs.Entry.{split-entry-left};
 ghost use Rattle.dealer.specs.Deal.{deal-left};
-ghost use Rattle.exchange.specs.Calls.{open-code, open-totals, open-record, split-code, split-entry-code, deal-code, add-code, add-totals, add-record, say-code, say-message, hear-code, hear-record, answer-code, answer-index, answer-probes};
+ghost use Rattle.exchange.specs.Calls.{open-code, open-totals, open-record, split-code, split-entry-code, deal-code, add-code, add-totals, add-record, say-code, say-message, hear-code, hear-record, answer-code, answer-index, answer-probes, fill-code, fill-hours, fill-remainder};
+use filling::Filled;
+use filling::fill;
 use hearing::hear;
 use ranges::on_list;
 use record_words::is_record;
@@ -170,5 +172,30 @@ pub extern "C" fn clockivy_answer(words: &[u64], index: &mut u64, probes: &mut u
             0
         }
         Answer::Refused(why) => number(why),
+    }
+}
+
+// What a buyer of this amount gets at the price, and the remainder of the division.
+#[no_mangle]
+pub extern "C" fn clockivy_fill(
+    words: &[u64],
+    amount: u64,
+    hours: &mut u64,
+    remainder: &mut u64,
+) -> u64
+    ensures { λ r. ⌜ (r ≡ fill-code (now (words .entry)) amount)
+        × (now (hours .exit) ≡ fill-hours (now (words .entry)) amount (now (hours .entry)))
+        × (now (remainder .exit) ≡ fill-remainder (now (words .entry)) amount (now (remainder .entry))) ⌝ }
+{
+    if !is_record(words) {
+        return number(Refusal::WrongLength);
+    }
+    match fill(read(words), amount) {
+        Filled::Hours(got, left) => {
+            *hours = got;
+            *remainder = left;
+            0
+        }
+        Filled::Refused(why) => number(why),
     }
 }

@@ -1,6 +1,6 @@
 -- Hearing a round, in facts: when it is accepted. Assumes nothing.
 use mathlib.Core.Path.{_≡_, refl, sym, ap, ap₂, _∙_}
-use mathlib.Core.Bool.{Bool, true, false, not, _&&_}
+use mathlib.Core.Bool.{Bool, true, false, cond, not, _&&_, _||_, or-false as or-false-is}
 use mathlib.Core.List.{List, [], _∷_}
 use Prim.Native.Nat.{ℕ, _+_, _-_, _^_, _≤_, _<_}
 use native.Mathlib.Omega.{arith}
@@ -16,12 +16,12 @@ use Rattle.ranges.specs.Sizes.{long}
 use Rattle.sharing.specs.Scheme.{threshold}
 use Rattle.presence.specs.Presence.{are-marks, how-many, is-present}
 use Rattle.record.specs.declared.Party.{Party}
-use Rattle.record.specs.Record.{sound}
+use Rattle.record.specs.Record.{are-totals, sound}
 use Rattle.round.specs.declared.Heard.{Heard}
-use Rattle.round.specs.declared.Heard.the-variants.{Sum, Factors, Verdict, Unopened}
+use Rattle.round.specs.declared.Heard.the-variants.{Sum, Factors, Verdict, Total, Unopened}
 use Rattle.saying.specs.Say.{current, in-field, message, turn-judgement}
 use Rattle.round.specs.Round.{heard, unopened, sum-outside, verdict-outside}
-use Rattle.hearing.specs.Hear.{hear-judgement, of-opening}
+use Rattle.hearing.specs.Hear.{hear-judgement, total-outside, of-opening}
 use Rattle.ranges.proofs.Loops.{and-true}
 use Rattle.refusal.proofs.Judging.{passes, all-passed, passed, judged-append, then-accepted}
 use Rattle.saying.proofs.Sheets.{InField, in-field-facts, in-field-of}
@@ -38,7 +38,7 @@ module _ (q : Party) (totals sheets messages present : List ℕ) where
   abbrev pub of-words : List Test
   of-words =
       (is-present present (q .own) && not (eqb (getD messages (q .own - 1) 0) (message q totals (current q sheets))) ⇒ refusal.OwnMessageDiffers)
-      ∷ of-opening (heard (q .n) (q .round) present messages)
+      ∷ of-opening (q .round) (q .demand) (q .supply) (heard (q .n) (q .round) present messages)
 
   abbrev pub of-messages : List Test
   of-messages =
@@ -58,26 +58,34 @@ module _ (q : Party) (totals sheets messages present : List ℕ) where
 
 -- ---- an accepted hearing, in facts
 
--- what the messages of an accepted round open to
-abbrev pub Admitted : Heard → Type 0
-Admitted (Sum v) = (2 ^ 58 + 2 ≤ v) × (v ≤ 2 ^ 59 + 2 ^ 33 - 1)
-Admitted (Factors d e) = Unit {0}
-Admitted (Verdict v) = v ≤ 1
-Admitted Unopened = ⊥
+-- what the messages of an accepted round open to, where the record has such totals
+abbrev pub Admitted : (round demand supply : ℕ) → Heard → Type 0
+Admitted round demand supply (Sum v) = (2 ^ 58 + 2 ≤ v) × (v ≤ 2 ^ 59 + 2 ^ 33 - 1)
+Admitted round demand supply (Factors d e) = Unit {0}
+Admitted round demand supply (Verdict v) = v ≤ 1
+Admitted round demand supply (Total v) = are-totals (cond (eqb round 34) v demand) (cond (eqb round 34) supply v) ≡ true
+Admitted round demand supply Unopened = ⊥
 
-pub admitted : (h : Heard) → unopened h ≡ false → sum-outside h ≡ false → verdict-outside h ≡ false → Admitted h
-admitted (Sum v) c w s =
-    let range = and-true (leb (2 ^ 58 + 2) v) _ (not-false _ w) in
-    (leb-true _ v (range .0), leb-true v _ (range .1))
-admitted (Factors d e) c w s = tt
-admitted (Verdict v) c w s = ltb-false 1 v s
-admitted Unopened c w s = let z : _≡_ {A = ℕ} 0 1 = cc in absurd (omega arith)
+module _ (round demand supply : ℕ) where
+  -- T or a total outside of its range
+  abbrev pub wild : Heard → Bool
+  wild h = sum-outside h || total-outside round demand supply h
 
-admitted-tests : (h : Heard) → Admitted h → (unopened h ≡ false) × (sum-outside h ≡ false) × (verdict-outside h ≡ false)
-admitted-tests (Sum v) h = (refl, rw (le-leb (2 ^ 58 + 2) v (h .0), le-leb v (2 ^ 59 + 2 ^ 33 - 1) (h .1)), refl)
-admitted-tests (Factors d e) h = (refl, refl, refl)
-admitted-tests (Verdict v) h = (refl, refl, le-ltb 1 v h)
-admitted-tests Unopened h = absurd h
+  pub admitted : (h : Heard) → unopened h ≡ false → wild h ≡ false → verdict-outside h ≡ false → Admitted round demand supply h
+  admitted (Sum v) c w s =
+      let range = and-true (leb (2 ^ 58 + 2) v) (leb v (2 ^ 59 + 2 ^ 33 - 1)) (not-false _ (sym (or-false-is _) ∙ w)) in
+      (leb-true _ v (range .0), leb-true v _ (range .1))
+  admitted (Factors d e) c w s = tt
+  admitted (Verdict v) c w s = ltb-false 1 v s
+  admitted (Total v) c w s = not-false _ w
+  admitted Unopened c w s = let z : _≡_ {A = ℕ} 0 1 = cc in absurd (omega arith)
+
+  admitted-tests : (h : Heard) → Admitted round demand supply h → (unopened h ≡ false) × (wild h ≡ false) × (verdict-outside h ≡ false)
+  admitted-tests (Sum v) h = (refl, rw (le-leb (2 ^ 58 + 2) v (h .0), le-leb v (2 ^ 59 + 2 ^ 33 - 1) (h .1)), refl)
+  admitted-tests (Factors d e) h = (refl, refl, refl)
+  admitted-tests (Verdict v) h = (refl, refl, le-ltb 1 v h)
+  admitted-tests (Total v) h = (refl, ap not h, refl)
+  admitted-tests Unopened h = absurd h
 
 pub record Hears (q : Party) (totals sheets messages present : List ℕ) : Type 0 where
   pub turn : InTurn q totals sheets
@@ -88,7 +96,7 @@ pub record Hears (q : Party) (totals sheets messages present : List ℕ) : Type 
   -- the totals count where the own word does
   pub in-field : InField q (is-present present (q .own)) totals (current q sheets)
   pub own : is-present present (q .own) ≡ true → getD messages (q .own - 1) 0 ≡ message q totals (current q sheets)
-  pub opening : Admitted (heard (q .n) (q .round) present messages)
+  pub opening : Admitted (q .round) (q .demand) (q .supply) (heard (q .n) (q .round) present messages)
 
 -- where a test is made at all
 asked : (here test : Bool) → here && not test ≡ false → here ≡ true → test ≡ true
@@ -119,12 +127,12 @@ module _ (q : Party) (totals sheets messages present : List ℕ) where
         enough = leb-false _ _ (enough .0);
         in-field = in-field-facts q _ totals (current q sheets) (not-false _ (field .0));
         own = λ here. eqb-true _ _ (asked _ _ (same .0) here);
-        opening = admitted (heard (q .n) (q .round) present messages) (straight .0) (tame .0) (whole .0);
+        opening = admitted (q .round) (q .demand) (q .supply) (heard (q .n) (q .round) present messages) (straight .0) (tame .0) (whole .0);
       }
 
   pub hear-accepted : Hears q totals sheets messages present → hear-judgement q totals sheets messages present ≡ Accepted
   hear-accepted h =
-      let tests = admitted-tests (heard (q .n) (q .round) present messages) (h .opening) in
+      let tests = admitted-tests (q .round) (q .demand) (q .supply) (heard (q .n) (q .round) present messages) (h .opening) in
       by-messages q totals sheets messages present
       (turn-accepted q totals sheets _ _ (h .turn) (h .marks)
       (ap₂ _&&_ (eq-eqb (length messages) (q .n) (h .many)) (eq-eqb (length present) (q .n) (h .marks-many))))

@@ -1,7 +1,7 @@
 // Hearing a round: n messages, party 1 first, and n marks of who was present. The words of those who were
 // not change nothing.
 ghost use mathlib.Core.Path.{_≡_};
-ghost use Rattle.hearing.specs.Hear.{hear-reply, opening-judgement};
+ghost use Rattle.hearing.specs.Hear.{hear-reply, total-outside, opening-judgement};
 
 mod board;
 
@@ -10,6 +10,7 @@ use presence::count_marks;
 use record::Party;
 use record::Reply;
 use record::accepted;
+use record::are_totals;
 use record::refused;
 use record::sound;
 use refusal::Judgement;
@@ -49,7 +50,7 @@ pub fn hear(q: Party, totals: &[u64], sheets: &[u64], messages: &[u64], present:
         return refused(Refusal::OwnMessageDiffers, q);
     }
     let opened = open_round(q.n, q.round, tally.count == q.n, present, messages);
-    match judge(opened) {
+    match judge(q.round, q.demand, q.supply, opened) {
         Judgement::Accepted => accepted(after(q, sheet, opened)),
         Judgement::Refused(why) => refused(why, q),
     }
@@ -57,17 +58,35 @@ pub fn hear(q: Party, totals: &[u64], sheets: &[u64], messages: &[u64], present:
 
 // What is refused of what the messages open to. It stands apart from `hear`, which has so many tests before
 // it that the compiler would take what follows for rare.
-fn judge(opened: Heard) -> Judgement
-    ensures { λ r. ⌜ r ≡ opening-judgement opened ⌝ }
+fn judge(round: u64, demand: u64, supply: u64, opened: Heard) -> Judgement
+    ensures { λ r. ⌜ r ≡ opening-judgement round demand supply opened ⌝ }
 {
     if unopened(opened) {
         return Judgement::Refused(Refusal::Inconsistent);
     }
-    if sum_outside(opened) {
+    if sum_outside(opened) | total_outside(round, demand, supply, opened) {
         return Judgement::Refused(Refusal::SumOutOfRange);
     }
     if verdict_outside(opened) {
         return Judgement::Refused(Refusal::VerdictNotBit);
     }
     Judgement::Accepted
+}
+
+// Whether a total is opened that cannot stand beside the other one: round 34 opens demand, round 35 supply.
+fn total_outside(round: u64, demand: u64, supply: u64, opened: Heard) -> bool
+    ensures { λ r. ⌜ r ≡ total-outside round demand supply opened ⌝ }
+{
+    match opened {
+        Heard::Sum(_) => false,
+        Heard::Factors(_, _) => false,
+        Heard::Verdict(_) => false,
+        Heard::Total(v) => {
+            if round == 34 {
+                return !are_totals(v, supply);
+            }
+            !are_totals(demand, v)
+        }
+        Heard::Unopened => false,
+    }
 }

@@ -6,7 +6,7 @@ use native.Mathlib.Nat.{add-zero}
 use native.Mathlib.Omega.{arith}
 use lib.ListN.{length, getD, length-append}
 use Rattle.listing.specs.Text.{decimal}
-use Rattle.listing.specs.Lines.{probe-line, probe-lines, clears-line, course-trail}
+use Rattle.listing.specs.Lines.{probe-line, probe-lines, clears-line, totals-line, course-trail}
 
 pub clears-none : (answer price : ℕ) → answer ≡ 0
     → clears-line answer price ≡ 99 ∷ 108 ∷ 101 ∷ 97 ∷ 114 ∷ 115 ∷ 32 ∷ 48 ∷ 32 ∷ 110 ∷ 111 ∷ 110 ∷ 101 ∷ 10 ∷ []
@@ -18,6 +18,18 @@ pub clears-some : (answer price : ℕ) → (answer ≡ 0 → ⊥)
 unfolding clears-line
 clears-some zero price h = absurd (h refl)
 clears-some (suc i) price h = refl
+
+pub totals-none : (answer demand supply : ℕ) → answer ≡ 0 → totals-line answer demand supply ≡ []
+unfolding totals-line
+totals-none answer demand supply e = ap (λ (i : ℕ). totals-line i demand supply) e
+
+pub totals-some : (answer demand supply : ℕ) → (answer ≡ 0 → ⊥)
+    → totals-line answer demand supply
+    ≡ (100 ∷ 101 ∷ 109 ∷ 97 ∷ 110 ∷ 100 ∷ 32 ∷ [])
+    ++ (decimal demand ++ ((32 ∷ 115 ∷ 117 ∷ 112 ∷ 112 ∷ 108 ∷ 121 ∷ 32 ∷ []) ++ (decimal supply ++ (10 ∷ []))))
+unfolding totals-line
+totals-some zero demand supply h = absurd (h refl)
+totals-some (suc i) demand supply h = refl
 
 pub length-course : (index verdict : List ℕ) (m : ℕ) → length (course-trail index verdict m) ≡ m
 unfolding course-trail

@@ -2,12 +2,12 @@
 use mathlib.Core.Path.{_≡_, sym, ap, ap₂, _∙_}
 use mathlib.Core.Bool.{cond}
 use mathlib.Core.Logic.{_⊎_, inl, inr, ⊎-elim}
-use mathlib.Core.List.{List, [], _∷_, _++_, append-assoc}
+use mathlib.Core.List.{List, [], _∷_, _++_, append-assoc, append-nil}
 use Prim.Native.Nat.{ℕ, zero, suc, _+_, _-_, _*_, _/_, _%_, _^_, _≤_, _<_}
-use native.Mathlib.Nat.{pow-zero, pow-suc, pow-le-pow-right}
+use native.Mathlib.Nat.{add-zero, pow-zero, pow-suc, pow-le-pow-right}
 use native.Mathlib.Omega.{arith}
 use lib.Dec.{leb}
-use lib.ListN.{length, take, drop, length-append, length-drop}
+use lib.ListN.{length, take, drop, length-append, length-drop, take-append-drop}
 use lib.Seq.{length-take-le, take-at, drop-at, drop-drop}
 use borrow.Author.Tests.{lt-ltb, le-ltb, leb-true, leb-false}
 use mir.Val.{Fits}
@@ -49,6 +49,15 @@ module _ {before : List ℕ} {at : ℕ} {a middle : List ℕ} {next : ℕ} (w : 
     place = v .place ∙ ap (λ (j : ℕ). j + length b) (w .place) ∙ omega (arith, length-append a b);
     inside = omega (arith, v .inside, length-wrote);
   }
+
+-- nothing is written
+pub wrote-none : (out : List ℕ) (at : ℕ) → at ≤ length out → Wrote out at [] out at
+wrote-none out at h =
+    record {
+      held = sym (ap₂ _++_ (append-nil (take at out)) (ap (λ (j : ℕ). drop j out) (add-zero at)) ∙ take-append-drop at out);
+      place = sym (add-zero at);
+      inside = h;
+    }
 
 pub wrote-same : {before a b after : List ℕ} {at next : ℕ} → a ≡ b → Wrote before at a after next → Wrote before at b after next
 wrote-same e w = rw e at w

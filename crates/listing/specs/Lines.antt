@@ -1,6 +1,8 @@
 -- The lines of a listing, as bytes. Assumes nothing.
+use mathlib.Core.Bool.{cond}
 use mathlib.Core.List.{List, [], _∷_, _++_}
-use Prim.Native.Nat.{ℕ, zero, suc, _*_}
+use Prim.Native.Nat.{ℕ, zero, suc, _+_, _*_}
+use lib.Dec.{eqb}
 use lib.ListN.{length, getD}
 use Rattle.listing.specs.Text.{decimal}
 
@@ -37,13 +39,25 @@ clears-line zero price = 99 ∷ 108 ∷ 101 ∷ 97 ∷ 114 ∷ 115 ∷ 32 ∷ 48
 clears-line (suc i) price =
     (99 ∷ 108 ∷ 101 ∷ 97 ∷ 114 ∷ 115 ∷ 32 ∷ []) ++ (decimal (suc i) ++ (space ++ (decimal price ++ newline)))
 
--- `rounds`, and "33 times probes"
-unfoldable pub rounds-line : (probes : ℕ) → List ℕ
-rounds-line probes = (114 ∷ 111 ∷ 117 ∷ 110 ∷ 100 ∷ 115 ∷ 32 ∷ []) ++ (decimal (33 * probes) ++ newline)
+-- "For m not 0 the listing adds `demand`, D, `supply`, S on a line before `rounds`"
+unfoldable pub totals-line : (answer demand supply : ℕ) → List ℕ
+totals-line zero demand supply = []
+totals-line (suc i) demand supply =
+    (100 ∷ 101 ∷ 109 ∷ 97 ∷ 110 ∷ 100 ∷ 32 ∷ [])
+    ++ (decimal demand ++ ((32 ∷ 115 ∷ 117 ∷ 112 ∷ 112 ∷ 108 ∷ 121 ∷ 32 ∷ []) ++ (decimal supply ++ newline)))
 
--- what is printed of both searches: their probes, the index that clears with its price, and the rounds
-abbrev pub search-lines : List (ℕ × ℕ) → (answer price : ℕ) → List ℕ
-search-lines probes answer price = probe-lines 1 probes ++ (clears-line answer price ++ rounds-line (length probes))
+-- "33 times probes"; for m not 0 `rounds` "counts the two rounds" in which D and S are opened
+unfoldable pub rounds-of : (probes answer : ℕ) → ℕ
+rounds-of probes answer = 33 * probes + cond (eqb answer 0) 0 2
+
+unfoldable pub rounds-line : (rounds : ℕ) → List ℕ
+rounds-line rounds = (114 ∷ 111 ∷ 117 ∷ 110 ∷ 100 ∷ 115 ∷ 32 ∷ []) ++ (decimal rounds ++ newline)
+
+-- what is printed of a course: the probes of both searches, the index that clears with its price, the totals there, and the rounds
+abbrev pub course-lines : List (ℕ × ℕ) → (answer price demand supply : ℕ) → List ℕ
+course-lines probes answer price demand supply =
+    probe-lines 1 probes
+    ++ (clears-line answer price ++ (totals-line answer demand supply ++ rounds-line (rounds-of (length probes) answer)))
 
 -- ---- the probes of both searches, kept in two lists
 

@@ -1,10 +1,10 @@
 // The listing: one line for a refusal, or a line for each probe of both searches, the index that
-// clears and the rounds.
+// clears, the totals there and the rounds.
 ghost use mathlib.Core.Path.{_≡_};
 ghost use Prim.Native.Nat.{_+_, _*_, _≤_, _<_};
 ghost use lib.ListN.{length, drop};
 ghost use Rattle.listing.specs.Text.{Wrote};
-ghost use Rattle.listing.specs.Lines.{most-listed, refused-line, probe-line, probe-lines, clears-line, rounds-line, course-trail, search-lines};
+ghost use Rattle.listing.specs.Lines.{most-listed, refused-line, probe-line, probe-lines, clears-line, totals-line, rounds-of, course-trail, course-lines};
 ghost use Rattle.lines.specs.Lines.{price-of};
 use crate::text::append;
 use crate::text::append_field;
@@ -14,16 +14,18 @@ use lines::price_at;
 // Two searches of at most nine probes each, since a rehearsal has at most 256 prices.
 pub const PROBES: usize = 18;
 
-// What is lent for a listing, which is at most 1,571 bytes long.
+// What is lent for a listing, which is at most 1,627 bytes long.
 pub const ROOM: usize = 2048;
 
-// How both searches went: so many probes, each with its index and its verdict, and the index that
-// clears.
+// How the auction went: so many probes of both searches, each with its index and its verdict, the
+// index that clears, and total demand and total supply there.
 pub struct Course {
     pub probes: u64,
     pub index: [u64; PROBES],
     pub verdict: [u64; PROBES],
     pub answer: u64,
+    pub demand: u64,
+    pub supply: u64,
 }
 
 // The one line of a refused input, which is at most 55 bytes long.
@@ -37,8 +39,8 @@ pub fn write_refused(number: u64, line: u64, out: &mut [u8; ROOM]) -> usize
 // The listing of an accepted input. Of more probes than a course holds nothing is written.
 pub fn write_course(input: &[u8], prices: usize, course: Course, out: &mut [u8; ROOM]) -> usize
     ensures { λ r. ⌜ (course .probes ≤ most-listed → Wrote (now (out .entry)) 0
-        (search-lines (course-trail (course .index) (course .verdict) (course .probes)) (course .answer)
-        (price-of (course .answer) (drop prices (now (input .entry)))))
+        (course-lines (course-trail (course .index) (course .verdict) (course .probes)) (course .answer)
+        (price-of (course .answer) (drop prices (now (input .entry)))) (course .demand) (course .supply))
         (now (out .exit)) r)
         × (most-listed < course .probes → (r ≡ 0) × (now (out .exit) ≡ now (out .entry))) ⌝ }
 {
@@ -47,7 +49,13 @@ pub fn write_course(input: &[u8], prices: usize, course: Course, out: &mut [u8; 
     }
     let probes = write_probes(course, out);
     let clears = write_clears(input, prices, course.answer, out, probes);
-    write_rounds(course.probes, out, clears)
+    let totals = write_totals(course.answer, course.demand, course.supply, out, clears);
+    append_last(
+        out,
+        totals,
+        b"rounds ",
+        rounds(course.probes, course.answer),
+    )
 }
 
 // The lines of the probes. Those of the second search have further numbers.
@@ -91,10 +99,26 @@ fn write_clears(input: &[u8], prices: usize, answer: u64, out: &mut [u8], at: us
     append_last(out, place, b" ", price)
 }
 
-// Each probe takes 33 rounds.
-fn write_rounds(probes: u64, out: &mut [u8], at: usize) -> usize
-    requires { ⌜ (probes ≤ most-listed) × (at + 28 ≤ length (now out)) ⌝ }
-    ensures { λ r. ⌜ Wrote (now (out .entry)) at (rounds-line probes) (now (out .exit)) r ⌝ }
+// Total demand and total supply at the price, where there is one.
+fn write_totals(answer: u64, demand: u64, supply: u64, out: &mut [u8], at: usize) -> usize
+    requires { ⌜ at + 56 ≤ length (now out) ⌝ }
+    ensures { λ r. ⌜ Wrote (now (out .entry)) at (totals-line answer demand supply) (now (out .exit)) r × (r ≤ at + 56) ⌝ }
 {
-    append_last(out, at, b"rounds ", 33 * probes)
+    if answer == 0 {
+        return at;
+    }
+    let wanted = append_field(out, at, b"demand ", demand);
+    append_last(out, wanted, b" supply ", supply)
+}
+
+// Each probe takes 33 rounds, and the totals at a price take two.
+fn rounds(probes: u64, answer: u64) -> u64
+    requires { ⌜ probes ≤ most-listed ⌝ }
+    ensures { λ r. ⌜ r ≡ rounds-of probes answer ⌝ }
+{
+    let probing = 33 * probes;
+    if answer == 0 {
+        return probing;
+    }
+    probing + 2
 }

@@ -1,9 +1,8 @@
 -- Probe after probe: the indices and verdicts that the program notes are those of the searches. Assumes nothing.
 use mathlib.Core.Path.{_≡_, refl, sym, ap, ap₂, subst, _∙_}
 use mathlib.Core.Bool.{Bool, true, false, cond, not}
-use mathlib.Core.List.{List, [], _∷_, _++_, append-assoc, append-nil}
-use Prim.Native.Nat.{ℕ, zero, suc, _+_, _-_, _≤_, _<_}
-use native.Mathlib.Nat.{sub-zero}
+use mathlib.Core.List.{List, [], _∷_, _++_, map, append-assoc, append-nil}
+use Prim.Native.Nat.{ℕ, zero, suc, _+_, _≤_, _<_}
 use native.Mathlib.Numerals.{add-one}
 use native.Mathlib.Omega.{arith}
 use lib.Dec.{eqb, leb}
@@ -15,12 +14,11 @@ use Rattle.search.specs.declared.bracket.Bracket.{Bracket}
 use Rattle.search.specs.declared.searches.Search.{Search}
 use Rattle.search.specs.Bracket.{middle, over, raise, lower, step}
 use Rattle.search.specs.Limit.{most-probes}
-use Rattle.search.specs.Searches.{side, first-search, second-search, moves-lo, moved, next, finished}
-use Rattle.search.specs.Search.{promise, Decision, trail}
+use Rattle.search.specs.Searches.{side, first-search, second-search, moves-lo, moved, next, finished, price, clears}
+use Rattle.search.specs.Search.{promise, follow}
 use Rattle.search.proofs.Narrowing.{middle-above, middle-below}
 use Rattle.search.proofs.Bounds.{Sound, in-first, in-second, probing, roomy-sound, probes-few, probes-enough, next-probes, next-second, next-goes-on, next-turns, moves-told}
-use Rattle.search.proofs.Promised.{Promised, promised-start, promised-next, enclosed}
-use Rattle.search.proofs.Trails.{trail-over, trail-going}
+use Rattle.search.proofs.Promised.{Promised, promised-start, promised-next}
 use Rattle.comparison.specs.Probe.{SheetCoins}
 use Rattle.record.specs.declared.Party.{Party}
 use Rattle.record.specs.Record.{blank}
@@ -30,16 +28,19 @@ use Rattle.refusal.specs.declared.Judgement.{Judgement}
 use Rattle.refusal.specs.declared.Judgement.the-variants.{Accepted}
 use Rattle.auction.specs.Auction.{Auction, Bid, IsAuction, demand, supply, price-answer, probed}
 use Rattle.auction.specs.Coins.{Coins, InRange}
-use Rattle.auction.specs.Canonical.{Seat}
-use Rattle.auction.proofs.Closed.{fresh-stage, record-at, seat}
+use Rattle.auction.proofs.Closed.{polynomials, probe-of, Made, decision, made, Stage, fresh-stage, decided-stage, record-at}
 use Rattle.auction.proofs.Totals.{totals-monotone}
-use Rattle.auction.proofs.Step.{Sane, fresh-sane, sound-at}
+use Rattle.auction.proofs.Step.{sound-at}
+use Rattle.auction.proofs.Placed.{decided-going}
 use Rattle.auction.proofs.Round.{Ready, verdict-is}
+use Rattle.auction.proofs.Search.{after-probes, made-over, made-going, probes-trail, price-found}
+use Rattle.auction.proofs.Whole.{last, end, end-search, end-totals, end-sane, end-over}
 use Rattle.listing.specs.declared.course.Course.{Course}
 use Rattle.listing.specs.Lines.{most-listed, course-trail}
 use Rattle.probing.specs.Follows.{as-listed, priced, Follows, moved-end, verdict-read}
 use Rattle.panel.proofs.Parts.{sheets-eighteen}
-use Rattle.standing.proofs.Standing.{Stands, verdict-at, Probes}
+use Rattle.standing.proofs.Standing.{Stands, verdict-at, Probes, Closes}
+use Rattle.standing.proofs.Rounds.{first-record}
 
 -- a later note leaves the earlier ones
 earlier : (index verdicts : List ℕ) (done at v m : ℕ) → m ≤ done → course-trail (set index done at) (set verdicts done v) m ≡ course-trail index verdicts m
@@ -121,28 +122,27 @@ verdict-read-of k here S going d s = verdict-told k here S going (leb s d)
 no-coins : SheetCoins
 no-coins = record { mask = 0; of-mask = []; of-bits = []; triples = [] }
 
--- where the searches stand after some probes, and what is noted of them
+-- where the searches stand after some probes, and what is noted of them; the probes that are left are noted next, and lead to the end
 pub record Led (a : Auction) (c : Coins) (now : List Party) (totals sheets index verdicts : List ℕ) (done : ℕ) : Type 0 where
   pub here : Search
   pub counted : here .probes ≡ done
-  pub stands : Stands a c (fresh-stage here) now totals sheets
+  pub stands : Stands a c (decided-stage here) now totals sheets
   pub promised : Promised (demand a) (supply a) (a .k) here
-  pub noted : course-trail index verdicts done ++ as-listed (trail (promise (demand a) (supply a)) (most-probes (a .k) - done) here) ≡ as-listed (probed a)
+  pub noted : course-trail index verdicts done ++ as-listed (map decision (made a (polynomials a c) here (drop done (c .sheets)))) ≡ as-listed (probed a)
+  pub leads : after-probes here (made a (polynomials a c) here (drop done (c .sheets))) ≡ last a c
 
 module _ (n k : ℕ) (bids : List Bid) (c : Coins) where
   abbrev a : Auction
   a = record { n = n; k = k; bids = bids }
 
-  module _ (A : IsAuction a) (C : InRange a c) (totals sheets : List ℕ) where
-    -- party 1's record
-    first-record : (here : Search) (now : List Party) → Stands a c (fresh-stage here) now totals sheets
-        → getD now 0 blank ≡ record-at a c (fresh-stage here) 1
-    unfolding seat
-    first-record here now H = ap (λ (s : Seat). s .party) (H 0 (omega (arith, A .n-least)))
+  abbrev left : Search → ℕ → List Made
+  left here done = made a (polynomials a c) here (drop done (c .sheets))
 
-    first-search-is : (here : Search) (now : List Party) → Stands a c (fresh-stage here) now totals sheets → getD now 0 blank .search ≡ here
+  module _ (A : IsAuction a) (C : InRange a c) (totals sheets : List ℕ) where
+    -- party 1's searches
+    first-search-is : (here : Search) (now : List Party) → Stands a c (decided-stage here) now totals sheets → getD now 0 blank .search ≡ here
     unfolding record-at
-    first-search-is here now H = ap (λ (q : Party). q .search) (first-record here now H)
+    first-search-is here now H = ap (λ (q : Party). q .search) (first-record a c A (decided-stage here) now totals sheets H)
 
     module _ (now after : List Party) (index verdicts : List ℕ) (done : ℕ) (L : Led a c now totals sheets index verdicts done)
         (going : finished (getD now 0 blank .search) ≡ false) (P : Probes n k now totals sheets after) where
@@ -161,13 +161,11 @@ module _ (n k : ℕ) (bids : List Bid) (c : Coins) where
       abbrev s : SheetCoins
       s = getD (c .sheets) done no-coins
 
+      sheet-next : drop done (c .sheets) ≡ s ∷ drop (suc done) (c .sheets)
+      sheet-next = drop-cons (c .sheets) done no-coins (omega (arith, few, C .sheets-many))
+
       ready : Ready a c at-first s (drop (suc done) (c .sheets))
-      ready =
-          record {
-            sound = sound;
-            going = open-here;
-            left = rw (L .counted) (drop-cons (c .sheets) done no-coins (omega (arith, few, C .sheets-many)));
-          }
+      ready = record { sound = sound; going = open-here; left = rw (L .counted) sheet-next }
 
       abbrev v : ℕ
       v = verdict-at a c at-first s
@@ -175,84 +173,125 @@ module _ (n k : ℕ) (bids : List Bid) (c : Coins) where
       v-is : v ≡ promise (demand a) (supply a) (at-first .which) (middle (at-first .bracket))
       v-is = verdict-is a c A C at-first s (drop (suc done) (c .sheets)) ready
 
-      later : Stands a c (fresh-stage (next at-first v)) after totals sheets
-      later = P bids c A C at-first s (drop (suc done) (c .sheets)) ready (L .stands)
+      fresh : Stands a c (fresh-stage at-first) now totals sheets
+      fresh = subst (λ (σ : Stage). Stands a c σ now totals sheets) (decided-going at-first open-here) (L .stands)
+
+      later : Stands a c (decided-stage (next at-first v)) after totals sheets
+      later = P bids c A C at-first s (drop (suc done) (c .sheets)) ready fresh
 
       verdict-read-is : verdict-read at-first (next at-first v) ≡ v
       verdict-read-is = ap (λ (x : ℕ). verdict-read at-first (next at-first x)) v-is ∙ verdict-read-of k at-first sound open-here _ _ ∙ sym v-is
+
+      -- the first of those that are left
+      abbrev this : Made
+      this = record { here = at-first; probe = probe-of a (polynomials a c) at-first s }
+
+      one-less : left at-first done ≡ this ∷ left (next at-first v) (done + 1)
+      one-less =
+          ap (made a (polynomials a c) at-first) sheet-next
+          ∙ made-going a (polynomials a c) at-first s (drop (suc done) (c .sheets)) open-here
+          ∙ ap (λ (m : ℕ). this ∷ left (next at-first v) m) (sym (add-one done))
+
+      leads-on : after-probes (next at-first v) (left (next at-first v) (done + 1)) ≡ last a c
+      unfolding follow
+      leads-on = ap (after-probes at-first) (sym one-less) ∙ L .leads
 
       -- one probe more
       pub led-more : (i mv : ℕ) → i ≡ middle (getD now 0 blank .search .bracket) → mv ≡ verdict-read (getD now 0 blank .search) (getD after 0 blank .search)
           → length index ≡ most-listed → length verdicts ≡ most-listed → done < most-listed
           → Led a c after totals sheets (set index done i) (set verdicts done mv) (done + 1)
       led-more i mv ei em li lm h =
-          let g = promise (demand a) (supply a) in
           let ib : i ≡ middle (at-first .bracket) = ei ∙ ap (λ (x : Search). middle (x .bracket)) (first-search-is at-first now (L .stands)) in
           let vb : mv ≡ v =
           em ∙ ap₂ verdict-read (first-search-is at-first now (L .stands)) (first-search-is (next at-first v) after later) ∙ verdict-read-is in
-          let q : most-probes k - done ≡ suc (most-probes k - (done + 1)) = omega (arith, few) in
           let r : List (ℕ × ℕ) = course-trail index verdicts done in
-          let rest : Search → List (ℕ × ℕ) = λ z. as-listed (trail g (most-probes k - (done + 1)) z) in
+          let rest : List (ℕ × ℕ) = as-listed (map decision (left (next at-first v) (done + 1))) in
           record {
             here = next at-first v;
             counted = next-probes at-first v ∙ ap (λ (x : ℕ). x + 1) (L .counted);
             stands = later;
             promised = promised-next (demand a) (supply a) k (totals-monotone A) at-first (L .promised) open-here v v-is;
             noted =
-                ap (λ (z : List (ℕ × ℕ)). z ++ rest (next at-first v)) (noted-more index verdicts done i mv li lm h)
-                ∙ append-assoc r ((i, mv) ∷ []) (rest (next at-first v))
-                ∙ ap₂ (λ (x y : ℕ). r ++ ((x, y) ∷ rest (next at-first v))) ib vb
-                ∙ ap (λ (x : ℕ). r ++ ((middle (at-first .bracket), x) ∷ rest (next at-first x))) v-is
-                ∙ ap (λ (z : List Decision). r ++ as-listed z) (sym (trail-going g (most-probes k - (done + 1)) at-first open-here))
-                ∙ ap (λ (z : ℕ). r ++ as-listed (trail g z at-first)) (sym q)
+                ap (λ (z : List (ℕ × ℕ)). z ++ rest) (noted-more index verdicts done i mv li lm h)
+                ∙ append-assoc r ((i, mv) ∷ []) rest
+                ∙ ap₂ (λ (x y : ℕ). r ++ ((x, y) ∷ rest)) ib vb
+                ∙ ap (λ (ds : List Made). r ++ as-listed (map decision ds)) (sym one-less)
                 ∙ L .noted;
+            leads = leads-on;
           }
 
     -- at the end
-    module _ (now : List Party) (index verdicts : List ℕ) (done : ℕ) (L : Led a c now totals sheets index verdicts done) (ended : finished (L .here) ≡ true) where
-      pub noted-all : course-trail index verdicts done ≡ as-listed (probed a)
+    module _ (now after : List Party) (index verdicts : List ℕ) (done : ℕ) (L : Led a c now totals sheets index verdicts done)
+        (ended : finished (L .here) ≡ true) (P : Closes n k now totals sheets after) where
+      none-left : left (L .here) done ≡ []
+      none-left = made-over a (polynomials a c) (L .here) (drop done (c .sheets)) ended
+
+      noted-all : course-trail index verdicts done ≡ as-listed (probed a)
       noted-all =
-          sym (append-nil _)
-          ∙ ap (λ (z : List Decision). course-trail index verdicts done ++ as-listed z)
-          (sym (trail-over (promise (demand a) (supply a)) (most-probes k - done) (L .here) ended))
-          ∙ L .noted
+          sym (append-nil _) ∙ ap (λ (ds : List Made). course-trail index verdicts done ++ as-listed (map decision ds)) (sym none-left) ∙ L .noted
 
-      -- its record is sound, so that it answers
-      sane : Sane a (fresh-stage (L .here))
-      sane = fresh-sane a (L .here) (roomy-sound k (L .here) (L .promised .roomy))
+      at-last : L .here ≡ last a c
+      unfolding follow
+      at-last = ap (after-probes (L .here)) (sym none-left) ∙ L .leads
 
-      finished-at : finished (record-at a c (fresh-stage (L .here)) 1 .search) ≡ true
-      unfolding record-at
-      finished-at = ended
+      -- party 1's record once the session is over
+      closed : getD after 0 blank ≡ record-at a c (end a c) 1
+      closed =
+          first-record a c A (end a c) after totals sheets
+          (P bids c A C (subst (λ (here : Search). Stands a c (decided-stage here) now totals sheets) at-last (L .stands)))
 
-      answers : answer-judgement (record-at a c (fresh-stage (L .here)) 1) ≡ Accepted
+      -- it is sound, so that it answers
+      answers : answer-judgement (record-at a c (end a c) 1) ≡ Accepted
       unfolding answer-judgement judged
-      answers = rw (sound-at a c A (fresh-stage (L .here)) sane 1 (omega arith) (omega (arith, A .n-least)), finished-at)
+      answers = rw (sound-at a c A (end a c) (end-sane a c A C) 1 (omega arith) (omega (arith, A .n-least)), end-over a c A C 1)
 
-      pub price-clears : priced (answer-reply (getD now 0 blank)) ≡ price-answer a
+      price-clears : priced (answer-reply (getD after 0 blank)) ≡ price-answer a
       unfolding answered record-at
       price-clears =
-          ap (λ (q : Party). priced (answer-reply q)) (first-record (L .here) now (L .stands))
-          ∙ ap (λ (j : Judgement). priced (answered j (record-at a c (fresh-stage (L .here)) 1))) answers
-          ∙ enclosed (totals-monotone A) (L .here) (L .promised) .answer ended
+          ap (λ (q : Party). priced (answer-reply q)) closed
+          ∙ ap (λ (j : Judgement). priced (answered j (record-at a c (end a c) 1))) answers
+          ∙ ap price (end-search a c) ∙ price-found a c A C
 
-      pub follows : (r : Course) → r .probes ≡ done → r .index ≡ index → r .verdict ≡ verdicts → r .answer ≡ priced (answer-reply (getD now 0 blank))
-          → Follows a r
-      follows r ep ei em ec =
+      some : 0 < price-answer a → eqb (price-answer a) 0 ≡ false
+      some h = ne-eqb (price-answer a) 0 (λ e. omega arith)
+
+      demand-told : 0 < price-answer a → getD after 0 blank .demand ≡ demand a (price-answer a)
+      unfolding record-at
+      demand-told h =
+          ap (λ (q : Party). q .demand) closed
+          ∙ end-totals a c (price-found a c A C) .0
+          ∙ ap (λ (none : Bool). cond none 0 (demand a (price-answer a))) (some h)
+
+      supply-told : 0 < price-answer a → getD after 0 blank .supply ≡ supply a (price-answer a)
+      unfolding record-at
+      supply-told h =
+          ap (λ (q : Party). q .supply) closed
+          ∙ end-totals a c (price-found a c A C) .1
+          ∙ ap (λ (none : Bool). cond none 0 (supply a (price-answer a))) (some h)
+
+      pub follows : (r : Course) → r .probes ≡ done → r .index ≡ index → r .verdict ≡ verdicts → r .answer ≡ priced (answer-reply (getD after 0 blank))
+          → r .demand ≡ getD after 0 blank .demand → r .supply ≡ getD after 0 blank .supply → Follows a r
+      follows r ep ei em ec ed es =
           let e : course-trail (r .index) (r .verdict) (r .probes) ≡ course-trail index verdicts done = cc in
-          record { noted = e ∙ noted-all; clears = ec ∙ price-clears }
+          record {
+            noted = e ∙ noted-all;
+            clears = ec ∙ price-clears;
+            total-demand = λ h. ed ∙ demand-told h;
+            total-supply = λ h. es ∙ supply-told h;
+          }
 
     -- before the first probe
     pub led-start : (parties : List Party) (index verdicts : List ℕ) → Stands a c (fresh-stage (first-search k)) parties totals sheets
         → Led a c parties totals sheets index verdicts 0
-    unfolding course-trail first-search
+    unfolding course-trail first-search finished clears
     led-start parties index verdicts H =
         record {
           here = first-search k;
           counted = refl;
           stands = H;
           promised = promised-start (demand a) (supply a) k (A .k-least);
-          noted = ap (λ (z : ℕ). as-listed (trail (promise (demand a) (supply a)) z (first-search k))) (sub-zero (most-probes k));
+          noted = ap as-listed (probes-trail a c A C);
+          leads = refl;
         }
 
     -- the searches are over when the loop ends: it says so, or all the probes are made

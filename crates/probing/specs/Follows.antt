@@ -2,14 +2,14 @@
 use mathlib.Core.Path.{_≡_}
 use mathlib.Core.Bool.{cond}
 use mathlib.Core.List.{List, map}
-use Prim.Native.Nat.{ℕ}
+use Prim.Native.Nat.{ℕ, _<_}
 use lib.Dec.{eqb}
 use Rattle.search.specs.declared.searches.Search.{Search}
 use Rattle.search.specs.Bracket.{middle}
 use Rattle.search.specs.Search.{Decision}
 use Rattle.session.specs.declared.reply.Answer.{Answer}
 use Rattle.session.specs.declared.reply.Answer.the-variants.{Cleared, Refused}
-use Rattle.auction.specs.Auction.{Auction, price-answer, probed}
+use Rattle.auction.specs.Auction.{Auction, demand, supply, price-answer, probed}
 use Rattle.listing.specs.declared.course.Course.{Course}
 use Rattle.listing.specs.Lines.{course-trail}
 
@@ -29,7 +29,10 @@ priced (Refused why) = 0
 abbrev pub as-listed : List Decision → List (ℕ × ℕ)
 as-listed ds = map (λ d. (d .index, d .verdict)) ds
 
--- the probes of both searches, and the price index
+-- the probes of both searches, the price index, and the totals there
 pub record Follows (a : Auction) (r : Course) : Type 0 where
   pub noted : course-trail (r .index) (r .verdict) (r .probes) ≡ as-listed (probed a)
   pub clears : r .answer ≡ price-answer a
+  -- "When the index m is not 0, the keepers open total demand D and total supply S at m"
+  pub total-demand : 0 < price-answer a → r .demand ≡ demand a (price-answer a)
+  pub total-supply : 0 < price-answer a → r .supply ≡ supply a (price-answer a)

@@ -1,4 +1,4 @@
-// Probe after probe of all parties, until both searches are over.
+// Probe after probe of all parties, until both searches are over, and then the totals at the price.
 mod probes;
 mod searching;
 

@@ -1,4 +1,4 @@
-// Probe after probe until both searches are over, and what is noted of them.
+// Probe after probe until both searches are over, then the totals at the price, and what is noted.
 ghost use mathlib.Core.Path.{_≡_};
 ghost use mathlib.Core.Bool.{not};
 ghost use Prim.Native.Nat.{_*_, _≤_};
@@ -19,6 +19,7 @@ use search::finished;
 use search::middle;
 use session::Answer;
 use session::answer;
+use total_rounds::open_totals;
 
 // Whether the searches go on.
 fn going(q: Party) -> bool
@@ -92,12 +93,15 @@ pub fn search(n: u64, k: u64, parties: [Party; 9], totals: &[u64], sheets: &[u64
         here = after;
         done += 1;
     }
-    let last = here[0];
+    let closed = open_totals(n, k, here, totals, sheets);
+    let last = closed[0];
     let answer = price(last);
     Course {
         probes: done as u64,
         index,
         verdict,
         answer,
+        demand: last.demand,
+        supply: last.supply,
     }
 }

@@ -1,19 +1,20 @@
 -- What each update leaves of a record, and when the record stays sound. What is above goes by these laws. Assumes nothing.
-use mathlib.Core.Path.{_≡_, refl, sym}
-use mathlib.Core.Bool.{true, false}
+use mathlib.Core.Path.{_≡_, refl, sym, _∙_}
+use mathlib.Core.Bool.{Bool, true, false, cond, true≢false}
 use Prim.Native.Nat.{ℕ, _+_, _^_, _≤_, _<_}
 use native.Mathlib.Omega.{arith}
 use Rattle.ranges.specs.Sizes.{party}
 use Rattle.search.specs.declared.searches.Search.{Search}
-use Rattle.search.specs.Searches.{first-search}
+use Rattle.search.specs.Searches.{first-search, finished, clears}
 use Rattle.search.proofs.Bounds as searches
+use Rattle.search.proofs.Cleared.{going-clears, first-going}
 use Rattle.record.specs.declared.Party.{Party}
-use Rattle.record.specs.Record.{sound, blank}
-use Rattle.record.specs.Updates.{fresh, entered, in-round, decided}
+use Rattle.record.specs.Record.{are-totals, sound, blank}
+use Rattle.record.specs.Updates.{fresh, entered, in-round, decided, totalled}
 use Rattle.roll.specs.Marks.{marked}
 use Rattle.roll.proofs.Laws.{Free, marked-self, marked-other, marks-mark, mark-swap, proper-mark, proper-empty, marks-empty}
 use Rattle.ranges.proofs.Ranges.{OnList}
-use Rattle.record.proofs.Soundness.{Sound}
+use Rattle.record.proofs.Soundness.{RoundSound, Sound, totals-facts}
 
 -- whose session it is: no update changes that
 pub record Same (q next : Party) : Type 0 where
@@ -34,12 +35,12 @@ module _ (n own k : ℕ) where
       record {
         listed = h;
         search = searches.roomy-sound k (first-search k) (searches.roomy-start k (h .prices-least));
-        round-least = omega arith;
-        round-most = omega arith;
+        round = record { least = omega arith; probing = λ c. omega arith; opening = λ c. absurd (true≢false (sym c ∙ going-clears (first-search k) (first-going k))) };
         sum = omega arith;
         carry = omega arith;
         roll = proper-empty;
         bids = sym marks-empty;
+        totals = (omega arith, omega arith);
       }
 
 -- before the first verdict the searches have the room that they need
@@ -90,12 +91,12 @@ module _ (q : Party) (bidder : ℕ) where
         record {
           listed = s .listed;
           search = s .search;
-          round-least = s .round-least;
-          round-most = s .round-most;
+          round = s .round;
           sum = s .sum;
           carry = s .carry;
           roll = proper-mark (q .roll) (s .roll) bidder free;
           bids = omega (arith, s .bids, marks-mark (q .roll) (s .roll) bidder free);
+          totals = s .totals;
         }
 
 -- two bids more, in either order
@@ -114,18 +115,19 @@ module _ (q : Party) (round sum carry : ℕ) where
   unfolding in-round
   in-round-roll = refl
 
-  pub in-round-sound : Sound q → 1 ≤ round → round ≤ 33 → sum < 2 ^ 59 + 2 ^ 33 → carry ≤ 255 → Sound (in-round q round sum carry)
+  pub in-round-sound : Sound q → finished (q .search) ≡ false → 1 ≤ round → round ≤ 33 → sum < 2 ^ 59 + 2 ^ 33 → carry ≤ 255
+      → Sound (in-round q round sum carry)
   unfolding in-round
-  in-round-sound s least most summed carried =
+  in-round-sound s going least most summed carried =
       record {
         listed = s .listed;
         search = s .search;
-        round-least = least;
-        round-most = most;
+        round = record { least = least; probing = λ c. most; opening = λ c. absurd (true≢false (sym c ∙ going-clears (q .search) going)) };
         sum = summed;
         carry = carried;
         roll = s .roll;
         bids = s .bids;
+        totals = s .totals;
       }
 
   pub roomy-in-round : Roomy q → Roomy (in-round q round sum carry)
@@ -143,20 +145,61 @@ module _ (q : Party) (t : Search) where
   unfolding decided
   decided-roll = refl
 
+  decided-turn : (c : Bool) → clears t ≡ c → RoundSound t (cond c 34 1)
+  decided-turn true e =
+      record { least = omega arith; probing = λ f. absurd (true≢false (sym e ∙ f)); opening = λ f. (omega arith, omega arith) }
+  decided-turn false e =
+      record { least = omega arith; probing = λ f. omega arith; opening = λ f. absurd (true≢false (sym f ∙ e)) }
+
   pub decided-sound : Sound q → searches.Sound (q .k) t → Sound (decided q t)
   unfolding decided
   decided-sound s searched =
       record {
         listed = s .listed;
         search = searched;
-        round-least = omega arith;
-        round-most = omega arith;
+        round = decided-turn (clears t) refl;
         sum = omega arith;
         carry = omega arith;
         roll = s .roll;
         bids = s .bids;
+        totals = s .totals;
       }
 
   pub roomy-decided : searches.Roomy (q .k) t → Roomy (decided q t)
   unfolding decided
   roomy-decided h = h
+
+-- ---- a total: the searches and the roll stay
+
+module _ (q : Party) (total : ℕ) where
+  pub totalled-same : Same q (totalled q total)
+  unfolding totalled
+  totalled-same = record { n = refl; own = refl; k = refl }
+
+  pub totalled-roll : totalled q total .roll ≡ q .roll
+  unfolding totalled
+  totalled-roll = refl
+
+  pub totalled-sound : Sound q → clears (q .search) ≡ true → q .round ≤ 35 → are-totals (totalled q total .demand) (totalled q total .supply) ≡ true
+      → Sound (totalled q total)
+  unfolding totalled
+  totalled-sound s cleared most small =
+      record {
+        listed = s .listed;
+        search = s .search;
+        round =
+            record {
+              least = omega arith;
+              probing = λ c. absurd (true≢false (sym cleared ∙ c));
+              opening = λ c. (omega (arith, s .round .opening c .0), omega arith);
+            };
+        sum = s .sum;
+        carry = s .carry;
+        roll = s .roll;
+        bids = s .bids;
+        totals = totals-facts _ _ small;
+      }
+
+  pub roomy-totalled : Roomy q → Roomy (totalled q total)
+  unfolding totalled
+  roomy-totalled h = h

@@ -1,29 +1,44 @@
 -- The record of a session, and when it is sound. Assumes nothing.
-use mathlib.Core.Bool.{Bool, _&&_}
-use Prim.Native.Nat.{_+_, _^_}
+use mathlib.Core.Bool.{Bool, cond, _&&_}
+use Prim.Native.Nat.{ℕ, _+_, _^_}
 use lib.Dec.{leb, ltb, eqb}
 use Rattle.refusal.specs.Judging.{kept}
 use Rattle.refusal.specs.declared.Judgement.{Judgement}
 use Rattle.ranges.specs.Sizes.{party, listed}
+use Rattle.search.specs.declared.searches.Search.{Search}
 use Rattle.search.specs.Searches as searches
+use Rattle.search.specs.Searches.{finished, clears}
 use Rattle.roll.specs.Marks.{marks, proper, empty}
 use Rattle.record.specs.declared.Party.{Party}
 use Rattle.record.specs.declared.Reply.{Reply}
 
--- Free of refusal 1: "n, keeper number or k outside its range; a record with .. round outside 1 to 33, T at or above 2^59 + 2^33, carry
--- above 255", or searches outside their bounds (`Searches.sound`). The roll is one of bidders alone, and "The number of bids held is the
--- number of marks on the roll; a record that differs is 1", so bids are at most 1,000.
+-- "An opened total of 2^32 or more, or S above D, is 11 (in a record, 1)"
+unfoldable pub are-totals : (demand supply : ℕ) → Bool
+are-totals demand supply = ltb demand (2 ^ 32) && ltb supply (2 ^ 32) && leb supply demand
+
+-- "round outside 1 to 33"; "Once the searches end with m not 0, refusal 1 admits only these rounds and then 36": 34 and 35 open total demand
+-- and total supply
+unfoldable pub round-sound : Search → (round : ℕ) → Bool
+round-sound s round = cond (clears s) (leb 34 round && leb round 36) (leb 1 round && leb round 33)
+
+-- Free of refusal 1: "n, keeper number or k outside its range; a record with .. T at or above 2^59 + 2^33, carry above 255", a round out
+-- of turn, searches outside their bounds (`Searches.sound`), or totals outside theirs. The roll is one of bidders alone, and "The number
+-- of bids held is the number of marks on the roll; a record that differs is 1", so bids are at most 1,000.
 unfoldable pub sound : Party → Bool
 sound q =
     party (q .n) (q .own)
     && listed (q .k)
     && searches.sound (q .k) (q .search)
-    && leb 1 (q .round)
-    && leb (q .round) 33
+    && round-sound (q .search) (q .round)
     && ltb (q .sum) (2 ^ 59 + 2 ^ 33)
     && leb (q .carry) 255
     && proper (q .roll)
     && eqb (q .bids) (marks (q .roll))
+    && are-totals (q .demand) (q .supply)
+
+-- "and then 36, when the session is over"; with m = 0 it is over when the searches are
+unfoldable pub ended : Party → Bool
+ended q = cond (clears (q .search)) (eqb (q .round) 36) (finished (q .search))
 
 -- How a call was judged, and the record afterwards: the next one where it is accepted, else as it was. A reply's number is `codeOf` of
 -- its judgement.
@@ -43,4 +58,6 @@ blank =
       sum = 0;
       carry = 0;
       roll = empty;
+      demand = 0;
+      supply = 0;
     }

@@ -3,6 +3,8 @@ use mathlib.Core.Path.{_≡_, refl, _∙_}
 use mathlib.Core.Bool.{true, false, not}
 use mathlib.Core.List.{List}
 use Prim.Native.Nat.{ℕ}
+use lib.ListN.{length}
+use borrow.Author.Tests.{eqb-true, not-false}
 use Rattle.refusal.specs.declared.Refusal.the-variants as refusal
 use Rattle.refusal.specs.declared.Judgement.the-variants.{Accepted, Refused}
 use Rattle.refusal.proofs.Judging.{refuses, passes, all-passed, kept-new, kept-old, kept-either}
@@ -10,6 +12,9 @@ use Rattle.ranges.specs.Sizes.{long}
 use Rattle.record_words.specs.Words.{record-size, record-judgement, on-record}
 
 module _ (words : List ℕ) where
+  pub lent-long : not (long record-size words) ≡ false → length words ≡ record-size
+  lent-long e = eqb-true (length words) record-size (not-false _ e)
+
   pub record-lent : not (long record-size words) ≡ false → record-judgement words ≡ Accepted
   unfolding record-judgement
   record-lent e = passes _ _ _ e ∙ all-passed

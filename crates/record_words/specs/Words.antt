@@ -1,5 +1,6 @@
 -- A record in a lent slice: "n, own number, k, bids, lo, hi, probes done, round, T, carry share", a word each, then "a roll of who is in",
--- 16 words, and then what "The record gains": "which search is on and, 0 until the first ends, i and its probes". Assumes nothing.
+-- 16 words, and then what "The record gains": "which search is on and, 0 until the first ends, i and its probes", and "D and S". Assumes
+-- nothing.
 use mathlib.Core.Bool.{not}
 use mathlib.Core.List.{List, [], _∷_, _++_, map}
 use Prim.Native.Nat.{ℕ}
@@ -10,16 +11,15 @@ use Rattle.refusal.specs.declared.Judgement.{Judgement}
 use Rattle.refusal.specs.declared.Refusal.the-variants.{WrongLength}
 use Rattle.ranges.specs.Lists.{from}
 use Rattle.ranges.specs.Sizes.{long}
-use Rattle.search.specs.declared.searches.Search.{Search}
 use Rattle.record.specs.declared.Party.{Party}
 use Rattle.record.specs.declared.Reply.{Reply}
 
 abbrev pub record-size : ℕ
-record-size = 29
+record-size = 31
 
--- which search is on, and what the first gave with its probes
-abbrev pub search-words : Search → List ℕ
-search-words s = s .which ∷ s .first ∷ s .spent ∷ []
+-- which search is on, what the first gave with its probes, and the totals at the price
+abbrev pub later-words : Party → List ℕ
+later-words q = q .search .which ∷ q .search .first ∷ q .search .spent ∷ q .demand ∷ q .supply ∷ []
 
 unfoldable pub words-of : Party → List ℕ
 words-of q =
@@ -33,9 +33,9 @@ words-of q =
     ∷ q .round
     ∷ q .sum
     ∷ q .carry
-    ∷ (q .roll .words ++ search-words (q .search))
+    ∷ (q .roll .words ++ later-words q)
 
--- any words are read, and what is not there is 0
+-- the record that 31 words say
 unfoldable pub party-of : List ℕ → Party
 party-of words =
     record {
@@ -54,6 +54,8 @@ party-of words =
       sum = getD words 8 0;
       carry = getD words 9 0;
       roll = record { words = map (λ i. getD words i 0) (from 10 16) };
+      demand = getD words 29 0;
+      supply = getD words 30 0;
     }
 
 -- a slice of any other length is no record

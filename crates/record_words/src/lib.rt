@@ -1,11 +1,12 @@
-// A party's record as the host holds it: 29 words. Ten numbers, then the roll's 16, then which search
-// is on, what the first gave and its probes: these come last, so that the others stay in their places.
+// A party's record as the host holds it: 31 words. Ten numbers, then the roll's 16, then which search
+// is on, what the first gave and its probes, then total demand and total supply: what came later stands
+// later, so that the others stay in their places.
 ghost use mathlib.Core.Path.{_≡_};
 ghost use mathlib.Core.List.{_++_};
 ghost use lib.ListN.{length, take, drop, getD};
 ghost use Rattle.refusal.specs.Refusal.{codeOf};
 ghost use Rattle.ranges.specs.Sizes.{long};
-ghost use Rattle.record_words.specs.Words.{record-size, search-words, words-of, party-of, number-on, on-record, stored};
+ghost use Rattle.record_words.specs.Words.{record-size, later-words, words-of, party-of, number-on, on-record, stored};
 use record::Party;
 use record::Reply;
 use refusal::Judgement;
@@ -15,7 +16,7 @@ use roll::Roll;
 use search::Bracket;
 use search::Search;
 
-const WORDS: usize = 29;
+const WORDS: usize = 31;
 
 pub fn is_record(words: &[u64]) -> bool
     ensures { λ r. ⌜ r ≡ long record-size (now (words .entry)) ⌝ }
@@ -23,53 +24,49 @@ pub fn is_record(words: &[u64]) -> bool
     words.len() == WORDS
 }
 
-// Any words are read, and what is not there is 0: the call judges what they say.
+// Who calls knows the length, so that no word is asked for: so it is small enough to be inlined.
 pub fn read(words: &[u64]) -> Party
+    requires { ⌜ length (now words) ≡ record-size ⌝ }
     ensures { λ q. ⌜ q ≡ party-of (now (words .entry)) ⌝ }
 {
     Party {
-        n: word(words, 0),
-        own: word(words, 1),
-        k: word(words, 2),
-        bids: word(words, 3),
+        n: words[0],
+        own: words[1],
+        k: words[2],
+        bids: words[3],
         search: read_search(words),
-        round: word(words, 7),
-        sum: word(words, 8),
-        carry: word(words, 9),
+        round: words[7],
+        sum: words[8],
+        carry: words[9],
         roll: read_roll(words),
+        demand: words[29],
+        supply: words[30],
     }
-}
-
-fn word(words: &[u64], at: usize) -> u64
-    ensures { λ r. ⌜ r ≡ getD (now (words .entry)) at 0 ⌝ }
-{
-    if at < words.len() { words[at] } else { 0 }
 }
 
 fn read_search(words: &[u64]) -> Search
+    requires { ⌜ length (now words) ≡ record-size ⌝ }
     ensures { λ r. ⌜ r ≡ party-of (now (words .entry)) .search ⌝ }
 {
     Search {
-        which: word(words, 26),
+        which: words[26],
         bracket: Bracket {
-            lo: word(words, 4),
-            hi: word(words, 5),
+            lo: words[4],
+            hi: words[5],
         },
-        probes: word(words, 6),
-        first: word(words, 27),
-        spent: word(words, 28),
+        probes: words[6],
+        first: words[27],
+        spent: words[28],
     }
 }
 
-// A word of the roll that the slice does not reach is 0. The loop asks for the slice's end, where
-// `word` would ask at each: so `read` is small enough to be inlined, and a call that knows the length
-// asks no more.
 fn read_roll(words: &[u64]) -> Roll
+    requires { ⌜ length (now words) ≡ record-size ⌝ }
     ensures { λ r. ⌜ r ≡ party-of (now (words .entry)) .roll ⌝ }
 {
     let mut roll_words = [0; 16];
     let mut i = 0;
-    while (i < 16) & (10 + i < words.len()) {
+    while i < 16 {
         roll_words[i] = words[10 + i];
         i += 1;
     }
@@ -101,7 +98,7 @@ fn write(q: Party, words: &mut [u64])
 {
     write_numbers(q, words);
     write_roll(q.roll, words);
-    write_search(q.search, words);
+    write_later(q, words);
 }
 
 fn write_numbers(q: Party, words: &mut [u64])
@@ -132,12 +129,14 @@ fn write_roll(roll: Roll, words: &mut [u64])
     }
 }
 
-// Of the search, what the ten numbers leave out.
-fn write_search(s: Search, words: &mut [u64])
+// What the ten numbers and the roll leave out.
+fn write_later(q: Party, words: &mut [u64])
     requires { ⌜ length (now words) ≡ record-size ⌝ }
-    ensures { λ _. ⌜ now (words .exit) ≡ take 26 (now (words .entry)) ++ search-words s ⌝ }
+    ensures { λ _. ⌜ now (words .exit) ≡ take 26 (now (words .entry)) ++ later-words q ⌝ }
 {
-    words[26] = s.which;
-    words[27] = s.first;
-    words[28] = s.spent;
+    words[26] = q.search.which;
+    words[27] = q.search.first;
+    words[28] = q.search.spent;
+    words[29] = q.demand;
+    words[30] = q.supply;
 }

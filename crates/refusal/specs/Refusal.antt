@@ -1,7 +1,7 @@
 -- "The refusal list": each refusal's number, with the paper's word for it. Assumes nothing.
 use Prim.Native.Nat.{ℕ}
 use Rattle.refusal.specs.declared.Refusal.{Refusal}
-use Rattle.refusal.specs.declared.Refusal.the-variants.{OutOfRange, WrongLength, OutOfTurn, TooManyBids, CoinOutOfRange, AmountTooLarge, NotMonotone, ShareOutOfRange, OwnMessageDiffers, Inconsistent, SumOutOfRange, VerdictNotBit, Malformed, AlreadyEntered, TooFewPresent}
+use Rattle.refusal.specs.declared.Refusal.the-variants.{OutOfRange, WrongLength, OutOfTurn, TooManyBids, CoinOutOfRange, AmountTooLarge, NotMonotone, ShareOutOfRange, OwnMessageDiffers, Inconsistent, SumOutOfRange, VerdictNotBit, Malformed, AlreadyEntered, TooFewPresent, NotCleared}
 use Rattle.refusal.specs.declared.Judgement.{Judgement}
 use Rattle.refusal.specs.declared.Judgement.the-variants.{Accepted, Refused}
 
@@ -36,6 +36,8 @@ numberOf Malformed = 13
 numberOf AlreadyEntered = 14
 -- too few
 numberOf TooFewPresent = 15
+-- not cleared
+numberOf NotCleared = 16
 
 -- 0 for a call that was accepted
 abbrev pub codeOf : Judgement → ℕ

@@ -20,6 +20,7 @@ pub enum Refusal {
     Malformed,
     AlreadyEntered,
     TooFewPresent,
+    NotCleared,
 }
 
 // What judging a call finds, and the reply of a call that only writes to what it is lent.
@@ -48,6 +49,7 @@ pub fn number(r: Refusal) -> u64
         Refusal::Malformed => 13,
         Refusal::AlreadyEntered => 14,
         Refusal::TooFewPresent => 15,
+        Refusal::NotCleared => 16,
     }
 }
 

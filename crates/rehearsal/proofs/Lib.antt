@@ -1,5 +1,4 @@
--- The laws that the proofs of the rehearsal cite.
-pub mod Starting
-pub mod Accepted
+-- The laws that the proof of the rehearsal cites, and those of its listing.
+pub mod Listed
 pub mod Cut
 pub mod Seeds

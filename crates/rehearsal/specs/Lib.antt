@@ -1,3 +1,2 @@
--- The listing of an input, and what is noted of its run.
+-- The listing of an input.
 pub mod Listing
-pub mod Right

@@ -1,5 +1,4 @@
 // The rehearsal: a whole auction from a file of numbers, and the listing of its probes.
 mod rehearsing;
-mod running;
 
 pub use rehearsing::rehearse;

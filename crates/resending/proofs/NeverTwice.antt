@@ -31,7 +31,7 @@ use Rattle.stepping.specs.After.{after}
 use Rattle.hearing.proofs.Hears.{hears}
 use Rattle.stepping.proofs.Next.{after-same, roll-after}
 use Rattle.hearing.proofs.Next.{hears-sound}
-use Rattle.resending.specs.Resent.{Once, again, Between, adding, saying, hearing, asking, left-by, Resent, NeverTwice, NeverFull}
+use Rattle.resending.specs.Resent.{Once, again, Between, adding, saying, hearing, asking, filling, left-by, Resent, NeverTwice, NeverFull}
 
 -- ---- a bid that is added
 
@@ -96,6 +96,7 @@ module _ (k b : ℕ) where
   stays-in (saying totals sheets ∷ calls) q i = stays-in calls q i
   stays-in (hearing totals sheets messages present ∷ calls) q i = stays-in calls _ (after-hearing q totals sheets messages present i)
   stays-in (asking ∷ calls) q i = stays-in calls q i
+  stays-in (filling amount ∷ calls) q i = stays-in calls q i
 
 -- ---- and is refused
 

@@ -52,14 +52,16 @@ pub data Between : Type 0 where
   saying : (totals sheets : List ℕ) → Between
   hearing : (totals sheets messages present : List ℕ) → Between
   asking : Between
+  filling : (amount : ℕ) → Between
 
--- the record that these calls leave, one after the other, accepted or refused: saying and asking change nothing
+-- the record that these calls leave, one after the other, accepted or refused: saying, asking and filling change nothing
 unfoldable pub left-by : List Between → Party → Party
 left-by [] q = q
 left-by (adding totals bidder shares ∷ calls) q = left-by calls (add-reply q totals bidder shares .party)
 left-by (saying totals sheets ∷ calls) q = left-by calls q
 left-by (hearing totals sheets messages present ∷ calls) q = left-by calls (hear-reply q totals sheets messages present .party)
 left-by (asking ∷ calls) q = left-by calls q
+left-by (filling amount ∷ calls) q = left-by calls q
 
 -- after any accepted bid, and any calls since
 abbrev pub NeverTwice : Type 0

@@ -1,13 +1,13 @@
 -- What the messages of a round open to. Assumes nothing.
 use mathlib.Core.Path.{_≡_, refl, sym, ap, ap₂, _∙_}
-use mathlib.Core.Bool.{Bool, true, false}
+use mathlib.Core.Bool.{Bool, true, false, cond, _||_}
 use mathlib.Core.List.{List, map}
 use Prim.Native.Nat.{ℕ, _/_, _%_, _≤_, _<_}
 use native.Mathlib.Numerals.{lt-of-le-of-ne}
 use native.Mathlib.Omega.{arith}
-use lib.Dec.{leb, eqb}
+use lib.Dec.{leb, ltb, eqb}
 use lib.ListN.{length, length-map}
-use borrow.Author.Tests.{leb-true, leb-false, eqb-true, eqb-false, le-leb, lt-leb, eq-eqb, ne-eqb}
+use borrow.Author.Tests.{ltb-true, leb-true, leb-false, eqb-true, eqb-false, le-leb, lt-leb, eq-eqb, ne-eqb}
 use Rattle.weights.specs.Rows.{amount-scheme, byte-scheme}
 use Rattle.openings.specs.declared.opening.Opening.{Opening}
 use Rattle.openings.specs.declared.opening.Opening.the-variants.{Secret, Inconsistent}
@@ -16,8 +16,8 @@ use Rattle.presence.specs.Presence.{marked, of-present}
 use Rattle.presence.proofs.Laws.{choose-map}
 use Rattle.present_openings.specs.Present.{opened-by}
 use Rattle.present_openings.proofs.Laws.{exactly-by, unmarked}
-use Rattle.round.specs.declared.Heard.the-variants.{Sum, Factors, Verdict}
-use Rattle.round.specs.Round.{sum-of, factors-of, verdict-of, heard, Possible}
+use Rattle.round.specs.declared.Heard.the-variants.{Sum, Factors, Verdict, Total}
+use Rattle.round.specs.Round.{sum-of, factors-of, verdict-of, total-of, heard, Possible}
 
 -- what is opened in the byte scheme is a byte
 pub opened-lt : (n v : ℕ) (present words : List ℕ) → opened-by byte-scheme n present words ≡ Secret v → v < 256
@@ -35,9 +35,23 @@ module _ (n round : ℕ) (present messages : List ℕ) where
   unfolding heard
   heard-factors e h = simp (ne-eqb round 1 e, le-leb round 32 h)
 
-  pub heard-verdict : 32 < round → heard n round present messages ≡ verdict-of (opened-by byte-scheme n present messages)
+  pub heard-verdict : round ≡ 33 → heard n round present messages ≡ verdict-of (opened-by byte-scheme n present messages)
   unfolding heard
-  heard-verdict h = simp (ne-eqb round 1 (λ e. omega arith), lt-leb round 32 h)
+  heard-verdict e = simp (ne-eqb round 1 (λ f. omega arith), lt-leb round 32 (omega arith), eq-eqb round 33 e)
+
+  pub heard-total : 33 < round → heard n round present messages ≡ total-of (opened-by amount-scheme n present messages)
+  unfolding heard
+  heard-total h = simp (ne-eqb round 1 (λ e. omega arith), lt-leb round 32 (omega arith), ne-eqb round 33 (λ e. omega arith))
+
+  -- T in round 1, a total after the last probe
+  pub heard-amount : eqb round 1 || ltb 33 round ≡ true
+      → heard n round present messages ≡ cond (eqb round 1) (sum-of (opened-by amount-scheme n present messages)) (total-of (opened-by amount-scheme n present messages))
+  heard-amount e = split (eqb round 1) refl e
+    where
+      split : (b : Bool) → eqb round 1 ≡ b → b || ltb 33 round ≡ true
+          → heard n round present messages ≡ cond b (sum-of (opened-by amount-scheme n present messages)) (total-of (opened-by amount-scheme n present messages))
+      split true f e = heard-sum (eqb-true round 1 f)
+      split false f e = heard-total (ltb-true 33 round e)
 
 -- and of messages that open
 module _ (n : ℕ) (present messages : List ℕ) where
@@ -50,19 +64,26 @@ module _ (n : ℕ) (present messages : List ℕ) where
   factors-heard round d e h2 h32 low high = heard-factors n round present messages (λ f. omega arith) h32 ∙ ap₂ factors-of low high
 
   pub verdict-heard : (v : ℕ) → opened-by byte-scheme n present messages ≡ Secret v → heard n 33 present messages ≡ Verdict v
-  verdict-heard v e = heard-verdict n 33 present messages (omega arith) ∙ ap verdict-of e
+  verdict-heard v e = heard-verdict n 33 present messages refl ∙ ap verdict-of e
+
+  pub total-heard : (round v : ℕ) → 33 < round → opened-by amount-scheme n present messages ≡ Secret v → heard n round present messages ≡ Total v
+  total-heard round v h e = heard-total n round present messages h ∙ ap total-of e
 
 -- what a round opens to is possible in it
 pub heard-possible : (n round : ℕ) (present messages : List ℕ) → 1 ≤ round → Possible round (heard n round present messages)
-heard-possible n round present messages least = split (eqb round 1) (leb round 32) refl refl
+heard-possible n round present messages least = split (eqb round 1) (leb round 32) (eqb round 33) refl refl refl
   where
-    of-sum : (o : Opening) → Possible round (sum-of o)
-    of-sum (Secret v) = tt
-    of-sum Inconsistent = tt
+    of-sum : (o : Opening) → round ≡ 1 → Possible round (sum-of o)
+    of-sum (Secret v) e = e
+    of-sum Inconsistent e = tt
 
-    of-verdict : (o : Opening) → Possible round (verdict-of o)
-    of-verdict (Secret v) = tt
-    of-verdict Inconsistent = tt
+    of-verdict : (o : Opening) → round ≡ 33 → Possible round (verdict-of o)
+    of-verdict (Secret v) e = e
+    of-verdict Inconsistent e = tt
+
+    of-total : (o : Opening) → 33 < round → Possible round (total-of o)
+    of-total (Secret v) h = h
+    of-total Inconsistent h = tt
 
     of-factors : (low high : Opening) → 2 ≤ round → round ≤ 32 → ((d : ℕ) → low ≡ Secret d → d < 256) → ((e : ℕ) → high ≡ Secret e → e < 256)
         → Possible round (factors-of low high)
@@ -70,9 +91,11 @@ heard-possible n round present messages least = split (eqb round 1) (leb round 3
     of-factors (Secret d) Inconsistent h2 h32 hd he = tt
     of-factors Inconsistent high h2 h32 hd he = tt
 
-    split : (first product : Bool) → eqb round 1 ≡ first → leb round 32 ≡ product → Possible round (heard n round present messages)
-    split true product f p = rw (heard-sum n round present messages (eqb-true round 1 f)) (of-sum (opened-by amount-scheme n present messages))
-    split false true f p =
+    split : (first product last : Bool) → eqb round 1 ≡ first → leb round 32 ≡ product → eqb round 33 ≡ last → Possible round (heard n round present messages)
+    split true product last f p l =
+        let e = eqb-true round 1 f in
+        rw (heard-sum n round present messages e) (of-sum (opened-by amount-scheme n present messages) e)
+    split false true last f p l =
         let other = eqb-false round 1 f in
         let h = leb-true round 32 p in
         let low : List ℕ = map (λ (w : ℕ). w % 256) messages in
@@ -80,7 +103,12 @@ heard-possible n round present messages least = split (eqb round 1) (leb round 3
         rw (heard-factors n round present messages other h)
         (of-factors (opened-by byte-scheme n present low) (opened-by byte-scheme n present high) (lt-of-le-of-ne least (λ e. other (sym e))) h
         (λ d e. opened-lt n d present low e) (λ d e. opened-lt n d present high e))
-    split false false f p = rw (heard-verdict n round present messages (leb-false round 32 p)) (of-verdict (opened-by byte-scheme n present messages))
+    split false false true f p l =
+        let e = eqb-true round 33 l in
+        rw (heard-verdict n round present messages e) (of-verdict (opened-by byte-scheme n present messages) e)
+    split false false false f p l =
+        let h = lt-of-le-of-ne (leb-false round 32 p) (λ e. eqb-false round 33 l (sym e)) in
+        rw (heard-total n round present messages h) (of-total (opened-by amount-scheme n present messages) h)
 
 -- ---- unmarked words change nothing
 

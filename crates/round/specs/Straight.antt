@@ -11,9 +11,10 @@ use Rattle.sharing.specs.Scheme.{threshold}
 use Rattle.presence.specs.Presence.{of-present, how-many}
 use Rattle.round.specs.Round.{heard, unopened}
 
--- a word of round 1 is in range below p, of rounds 2 to 32 at most 65,535, of round 33 at most 255
+-- a word of round 1 is in range below p, of rounds 2 to 32 at most 65,535, of round 33 at most 255,
+-- of rounds 34 and 35 below p again
 abbrev pub word-size : (round : ℕ) → ℕ
-word-size round = cond (eqb round 1) p (cond (leb round 32) 65536 256)
+word-size round = cond (eqb round 1) p (cond (leb round 32) 65536 (cond (eqb round 33) 256 p))
 
 -- "With exactly t + 1 marked words, all in range, every round is straight."
 abbrev pub Straight : Type 0

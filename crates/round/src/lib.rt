@@ -14,5 +14,7 @@ pub enum Heard {
     Factors(u64, u64),
     // round 33
     Verdict(u64),
+    // rounds 34 and 35: total demand, total supply
+    Total(u64),
     Unopened,
 }

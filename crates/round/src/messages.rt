@@ -1,11 +1,13 @@
 // What the messages of a round open to, and when that is refused.
 ghost use mathlib.Core.Path.{_≡_};
+ghost use mathlib.Core.Bool.{cond};
 ghost use mathlib.Core.List.{map};
 ghost use Prim.Native.Nat.{_/_, _%_};
+ghost use lib.Dec.{eqb};
 ghost use Rattle.weights.specs.Rows.{byte-scheme};
 ghost use Rattle.presence.specs.Presence.{all-or};
 ghost use Rattle.present_openings.specs.Present.{opened-by};
-ghost use Rattle.round.specs.Round.{factors-of, heard, unopened, sum-outside, verdict-outside};
+ghost use Rattle.round.specs.Round.{sum-of, factors-of, verdict-of, total-of, heard, unopened, sum-outside, verdict-outside};
 use crate::Heard;
 use openings::Opening;
 use present_openings::open_present_amount;
@@ -22,17 +24,27 @@ const GREATEST: u64 = (1 << 59) + (1 << 33) - 1;
 pub fn open_round(n: u64, round: u64, all: bool, present: &[u8], messages: &[u64]) -> Heard
     ensures { λ r. ⌜ r ≡ heard n round (all-or «all» n (now (present .entry))) (now (messages .entry)) ⌝ }
 {
-    if round == 1 {
-        return match open_present_amount(n, all, present, messages) {
-            Opening::Secret(sum) => Heard::Sum(sum),
-            Opening::Inconsistent => Heard::Unopened,
-        };
+    if (round == 1) | (33 < round) {
+        return amount_of(round, open_present_amount(n, all, present, messages));
     }
-    if round <= 32 {
-        return factors(n, all, present, messages);
+    if round == 33 {
+        return verdict_of(open_present_byte(n, all, present, messages));
     }
-    match open_present_byte(n, all, present, messages) {
-        Opening::Secret(verdict) => Heard::Verdict(verdict),
+    factors(n, all, present, messages)
+}
+
+// T in round 1, a total after the last probe, where the words open. Both are opened in one place, so that the
+// opening is inlined there.
+fn amount_of(round: u64, opening: Opening) -> Heard
+    ensures { λ r. ⌜ r ≡ cond (eqb round 1) (sum-of opening) (total-of opening) ⌝ }
+{
+    match opening {
+        Opening::Secret(v) => {
+            if round == 1 {
+                return Heard::Sum(v);
+            }
+            Heard::Total(v)
+        }
         Opening::Inconsistent => Heard::Unopened,
     }
 }
@@ -61,6 +73,16 @@ fn factors_of(low: Opening, high: Opening) -> Heard
     }
 }
 
+// The verdict, where the words open.
+fn verdict_of(opening: Opening) -> Heard
+    ensures { λ r. ⌜ r ≡ verdict-of opening ⌝ }
+{
+    match opening {
+        Opening::Secret(v) => Heard::Verdict(v),
+        Opening::Inconsistent => Heard::Unopened,
+    }
+}
+
 pub fn unopened(heard: Heard) -> bool
     ensures { λ r. ⌜ r ≡ unopened heard ⌝ }
 {
@@ -68,6 +90,7 @@ pub fn unopened(heard: Heard) -> bool
         Heard::Sum(_) => false,
         Heard::Factors(_, _) => false,
         Heard::Verdict(_) => false,
+        Heard::Total(_) => false,
         Heard::Unopened => true,
     }
 }
@@ -79,6 +102,7 @@ pub fn sum_outside(heard: Heard) -> bool
         Heard::Sum(v) => !((LEAST <= v) & (v <= GREATEST)),
         Heard::Factors(_, _) => false,
         Heard::Verdict(_) => false,
+        Heard::Total(_) => false,
         Heard::Unopened => false,
     }
 }
@@ -90,6 +114,7 @@ pub fn verdict_outside(heard: Heard) -> bool
         Heard::Sum(_) => false,
         Heard::Factors(_, _) => false,
         Heard::Verdict(v) => 1 < v,
+        Heard::Total(_) => false,
         Heard::Unopened => false,
     }
 }

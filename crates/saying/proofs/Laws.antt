@@ -11,10 +11,8 @@ use Rattle.refusal.specs.declared.Refusal.the-variants.{ShareOutOfRange}
 use Rattle.refusal.specs.declared.Judgement.{Judgement}
 use Rattle.refusal.specs.declared.Judgement.the-variants.{Accepted, Refused}
 use Rattle.ranges.specs.Sizes.{long}
-use Rattle.search.specs.Searches.{finished}
-use Rattle.search.proofs.Bounds.{Probing, probing}
 use Rattle.record.specs.declared.Party.{Party}
-use Rattle.record.specs.Record.{sound}
+use Rattle.record.specs.Record.{sound, ended}
 use Rattle.ranges.proofs.Loops.{and-true}
 use Rattle.refusal.proofs.Judging.{passes, all-passed, passed, judged-append, then-accepted}
 use Rattle.record.proofs.Soundness.{Sound, sound-facts, sound-of}
@@ -43,10 +41,7 @@ pub record InTurn (q : Party) (totals sheets : List ℕ) : Type 0 where
   pub sound : Sound q
   pub totals-long : length totals ≡ 2 * q .k
   pub sheets-long : length sheets ≡ sheets-long (q .k)
-  pub going : finished (q .search) ≡ false
-
-pub turn-probing : (q : Party) (totals sheets : List ℕ) → InTurn q totals sheets → Probing (q .k) (q .search)
-turn-probing q totals sheets h = probing (q .k) (q .search) (h .sound .search) (h .going)
+  pub going : ended q ≡ false
 
 module _ (q : Party) (totals sheets : List ℕ) (else-sound else-long : Bool) where
   pub turns : turn-judgement q (sound q && else-sound) totals sheets else-long ≡ Accepted → InTurn q totals sheets × (else-sound ≡ true) × (else-long ≡ true)

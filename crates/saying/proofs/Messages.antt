@@ -1,7 +1,7 @@
 -- The message, round by round. Assumes nothing.
 use mathlib.Core.Path.{_≡_}
 use mathlib.Core.List.{List}
-use Prim.Native.Nat.{ℕ, _≤_}
+use Prim.Native.Nat.{ℕ, _≤_, _<_}
 use native.Mathlib.Omega.{arith}
 use borrow.Author.Tests.{eq-eqb, ne-eqb, le-leb, lt-leb}
 use Rattle.fields.specs.Amount.{amounts}
@@ -10,7 +10,7 @@ use Rattle.comparison.specs.Local.{on-shares}
 use Rattle.comparison.specs.Rounds.{masked, left, right, both, last}
 use Rattle.search.specs.Searches.{side}
 use Rattle.record.specs.declared.Party.{Party}
-use Rattle.saying.specs.Say.{demand-share, supply-share, mask-share, bit-share, triple-share, message}
+use Rattle.saying.specs.Say.{demand-share, supply-share, total-share, mask-share, bit-share, triple-share, message}
 
 module _ (q : Party) (totals sheet : List ℕ) where
   pub first-message : q .round ≡ 1
@@ -28,4 +28,9 @@ module _ (q : Party) (totals sheet : List ℕ) where
 
   pub last-message : q .round ≡ 33 → message q totals sheet ≡ last (on-shares bytes) (q .sum) (bit-share sheet 33) (q .carry)
   unfolding message
-  last-message e = rw (ne-eqb (q .round) 1 (λ f. omega arith), lt-leb (q .round) 32 (omega arith))
+  last-message e = rw (ne-eqb (q .round) 1 (λ f. omega arith), lt-leb (q .round) 32 (omega arith), eq-eqb (q .round) 33 e)
+
+  -- after the last probe
+  pub total-message : 33 < q .round → message q totals sheet ≡ total-share q totals
+  unfolding message
+  total-message l = rw (ne-eqb (q .round) 1 (λ f. omega arith), lt-leb (q .round) 32 (omega arith), ne-eqb (q .round) 33 (λ f. omega arith))

@@ -9,10 +9,10 @@ mod sheet;
 mod word;
 
 use record::Party;
+use record::ended;
 use record::sound;
 use refusal::Judgement;
 use refusal::Refusal;
-use search::finished;
 use search::most_probes;
 pub use sheet::byte_share;
 pub use sheet::current;
@@ -52,7 +52,7 @@ pub fn turn(q: Party, whole: bool, totals: &[u64], sheets: &[u64], else_long: bo
     if !(are_long(q.k, totals, sheets) & else_long) {
         return Judgement::Refused(Refusal::WrongLength);
     }
-    if finished(q.search) {
+    if ended(q) {
         return Judgement::Refused(Refusal::OutOfTurn);
     }
     Judgement::Accepted

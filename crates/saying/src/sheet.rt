@@ -5,16 +5,23 @@ ghost use Prim.Native.Nat.{_+_, _*_, _≤_, _<_};
 ghost use lib.Dec.{ltb};
 ghost use lib.ListN.{length, drop, getD};
 ghost use Rattle.ranges.specs.Lists.{every};
-ghost use Rattle.saying.specs.Say.{current, triple-share};
+ghost use Rattle.saying.specs.Say.{sheet-words, current, triple-share};
 use fields::BitShare;
 use record::Party;
 
+// How many words it has. After the last probe none is read.
+fn sheet_words(q: Party) -> usize
+    ensures { λ r. ⌜ r ≡ sheet-words q ⌝ }
+{
+    if q.round <= 33 { 127 } else { 0 }
+}
+
 pub fn current(q: Party, sheets: &[u64]) -> &[u64]
-    requires { ⌜ 127 * q .search .probes + 127 ≤ length (now sheets) ⌝ }
+    requires { ⌜ 127 * q .search .probes + sheet-words q ≤ length (now sheets) ⌝ }
     ensures { λ r. ⌜ now r ≡ current q (now (sheets .entry)) ⌝ }
 {
     let from = 127 * q.search.probes as usize;
-    let to = from + 127;
+    let to = from + sheet_words(q);
     &sheets[from..to]
 }
 

@@ -1,14 +1,14 @@
 // The message of a round: the words that it uses, and the word that it is.
 ghost use mathlib.Core.Path.{_≡_};
 ghost use mathlib.Core.Bool.{true, false};
-ghost use Prim.Native.Nat.{_*_};
+ghost use Prim.Native.Nat.{_*_, _≤_};
 ghost use lib.ListN.{length};
 ghost use Rattle.fields.specs.Amount.{amounts};
 ghost use Rattle.comparison.specs.Local.{on-shares};
 ghost use Rattle.comparison.specs.Rounds.{masked};
-ghost use Rattle.search.specs.Searches.{side, finished};
-ghost use Rattle.record.specs.Record.{sound};
-ghost use Rattle.saying.specs.Say.{demand-share, supply-share, in-field, message};
+ghost use Rattle.search.specs.Searches.{side};
+ghost use Rattle.record.specs.Record.{sound, ended};
+ghost use Rattle.saying.specs.Say.{index, demand-share, supply-share, total-share, sheet-words, in-field, message};
 use crate::sheet::byte_share;
 use crate::sheet::triple_share;
 use comparison::factors;
@@ -20,29 +20,63 @@ use fields::P;
 use ranges::all_below;
 use record::Party;
 use search::middle;
+use search::price;
 
-// Total demand at the probed index. Indices count from 1.
+// Where the totals are looked up: at the probed index, and after the last probe at the price.
+fn index(q: Party) -> u64
+    ensures { λ r. ⌜ r ≡ index q ⌝ }
+{
+    if 33 < q.round {
+        return price(q.search);
+    }
+    middle(q.search.bracket)
+}
+
+// Total demand there. Indices count from 1.
 pub(crate) fn demand_share(q: Party, totals: &[u64]) -> u64
-    requires { ⌜ (sound q ≡ true) × (finished (q .search) ≡ false) × (length (now totals) ≡ 2 * q .k) ⌝ }
+    requires { ⌜ (sound q ≡ true) × (ended q ≡ false) × (length (now totals) ≡ 2 * q .k) ⌝ }
     ensures { λ r. ⌜ r ≡ demand-share q (now (totals .entry)) ⌝ }
 {
-    let at = middle(q.search.bracket) as usize - 1;
+    let at = index(q) as usize - 1;
     totals[at]
 }
 
-// Total supply at the probed index: demand stands first.
+// Total supply there: demand stands first.
 pub(crate) fn supply_share(q: Party, totals: &[u64]) -> u64
-    requires { ⌜ (sound q ≡ true) × (finished (q .search) ≡ false) × (length (now totals) ≡ 2 * q .k) ⌝ }
+    requires { ⌜ (sound q ≡ true) × (ended q ≡ false) × (length (now totals) ≡ 2 * q .k) ⌝ }
     ensures { λ r. ⌜ r ≡ supply-share q (now (totals .entry)) ⌝ }
 {
-    let at = (q.k + middle(q.search.bracket)) as usize - 1;
+    let at = (q.k + index(q)) as usize - 1;
     totals[at]
+}
+
+// The total that is opened after the last probe: demand in round 34, supply in round 35.
+fn total_share(q: Party, totals: &[u64]) -> u64
+    requires { ⌜ (sound q ≡ true) × (ended q ≡ false) × (length (now totals) ≡ 2 * q .k) ⌝ }
+    ensures { λ r. ⌜ r ≡ total-share q (now (totals .entry)) ⌝ }
+{
+    if q.round == 34 {
+        return demand_share(q, totals);
+    }
+    supply_share(q, totals)
+}
+
+// The words that the word of the round uses. After the last probe that is a total alone.
+pub fn in_field(q: Party, used: bool, totals: &[u64], sheet: &[u64]) -> bool
+    requires { ⌜ (sound q ≡ true) × (ended q ≡ false) × (length (now totals) ≡ 2 * q .k)
+        × (length (now sheet) ≡ sheet-words q) ⌝ }
+    ensures { λ r. ⌜ r ≡ in-field q «used» (now (totals .entry)) (now (sheet .entry)) ⌝ }
+{
+    if q.round <= 33 {
+        return in_field_in_probe(q, used, totals, sheet);
+    }
+    !used | (total_share(q, totals) < P)
 }
 
 // The word of round 1 uses two words of the totals, later ones none. The sheet is judged whole.
-pub fn in_field(q: Party, used: bool, totals: &[u64], sheet: &[u64]) -> bool
-    requires { ⌜ (sound q ≡ true) × (finished (q .search) ≡ false) × (length (now totals) ≡ 2 * q .k)
-        × (length (now sheet) ≡ 127) ⌝ }
+fn in_field_in_probe(q: Party, used: bool, totals: &[u64], sheet: &[u64]) -> bool
+    requires { ⌜ (sound q ≡ true) × (ended q ≡ false) × (length (now totals) ≡ 2 * q .k)
+        × (length (now sheet) ≡ 127) × (q .round ≤ 33) ⌝ }
     ensures { λ r. ⌜ r ≡ in-field q «used» (now (totals .entry)) (now (sheet .entry)) ⌝ }
 {
     let small = (demand_share(q, totals) < P) & (supply_share(q, totals) < P);
@@ -61,10 +95,21 @@ fn compared(which: u64, mask: u64, demand: u64, supply: u64) -> u64
     masked(mask, AmountShare(demand), AmountShare(supply)).0
 }
 
-// The word of the round.
+// The word of the round: after the last probe a share of a total.
 pub fn message(q: Party, totals: &[u64], sheet: &[u64]) -> u64
-    requires { ⌜ (sound q ≡ true) × (finished (q .search) ≡ false) × (length (now totals) ≡ 2 * q .k)
-        × (length (now sheet) ≡ 127) × (in-field q true (now totals) (now sheet) ≡ true) ⌝ }
+    requires { ⌜ (sound q ≡ true) × (ended q ≡ false) × (length (now totals) ≡ 2 * q .k)
+        × (length (now sheet) ≡ sheet-words q) × (in-field q true (now totals) (now sheet) ≡ true) ⌝ }
+    ensures { λ r. ⌜ r ≡ message q (now (totals .entry)) (now (sheet .entry)) ⌝ }
+{
+    if q.round <= 33 {
+        return message_in_probe(q, totals, sheet);
+    }
+    total_share(q, totals)
+}
+
+fn message_in_probe(q: Party, totals: &[u64], sheet: &[u64]) -> u64
+    requires { ⌜ (sound q ≡ true) × (ended q ≡ false) × (length (now totals) ≡ 2 * q .k)
+        × (length (now sheet) ≡ 127) × (in-field q true (now totals) (now sheet) ≡ true) × (q .round ≤ 33) ⌝ }
     ensures { λ r. ⌜ r ≡ message q (now (totals .entry)) (now (sheet .entry)) ⌝ }
 {
     if q.round == 1 {

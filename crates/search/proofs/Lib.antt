@@ -7,5 +7,6 @@ pub mod Balance
 pub mod Narrowing
 pub mod Sides
 pub mod Bounds
+pub mod Cleared
 pub mod Promised
 pub mod Trails

@@ -52,6 +52,10 @@ finished s = eqb (s .which) 2 && over (s .bracket)
 unfoldable pub price : Search → ℕ
 price s = cond (leb (s .bracket .hi) (s .first)) ((s .first + s .bracket .hi) / 2) (s .first)
 
+-- "the searches end with m not 0"
+unfoldable pub clears : Search → Bool
+clears s = finished s && not (eqb (price s) 0)
+
 -- ---- free of refusal 1
 
 -- of a search of k indices with m probes: "not lo < hi <= k + 1, .. probes done above P, or equal to P with hi - lo above 1"

@@ -11,6 +11,7 @@ pub use bracket::middle;
 pub use bracket::most_probes;
 pub use bracket::over;
 pub use searches::Search;
+pub use searches::clears;
 pub use searches::finished;
 pub use searches::next;
 pub use searches::price;

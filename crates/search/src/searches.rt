@@ -1,7 +1,7 @@
 // Both searches: the second begins where the first ends, with the same step and the sides exchanged.
 ghost use mathlib.Core.Path.{_≡_};
 ghost use Prim.Native.Nat.{_+_, _^_, _<_};
-ghost use Rattle.search.specs.Searches.{side, moves-lo, turned, next, finished, price, bounded, sound};
+ghost use Rattle.search.specs.Searches.{side, moves-lo, turned, next, finished, price, clears, bounded, sound};
 use crate::bracket::Bracket;
 use crate::bracket::limit;
 use crate::bracket::middle;
@@ -80,6 +80,16 @@ pub fn price(s: Search) -> u64
         });
     }
     s.first
+}
+
+// Whether both have ended at a price, which is worked out only then.
+pub fn clears(s: Search) -> bool
+    ensures { λ r. ⌜ r ≡ clears s ⌝ }
+{
+    if !finished(s) {
+        return false;
+    }
+    price(s) != 0
 }
 
 // The bounds of a search of k indices that has made m probes.

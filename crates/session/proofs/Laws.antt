@@ -76,7 +76,7 @@ module _ (q : Party) (totals : List ℕ) (bidder : ℕ) (shares : List ℕ) wher
         totals-long = eqb-true _ _ (l .0);
         shares-long = eqb-true _ _ (l .1);
         no-probes = omega (arith, ltb-false 0 (q .search .probes) (t .0));
-        first-round = omega (arith, ltb-false 1 (q .round) (t .1), s .round-least);
+        first-round = omega (arith, ltb-false 1 (q .round) (t .1), s .round .least);
         totals-below = all-below p totals (f .0);
         shares-below = all-below p shares (f .1);
       }

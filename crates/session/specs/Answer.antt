@@ -7,14 +7,15 @@ use Rattle.refusal.specs.Judging.{_⇒_, judged}
 use Rattle.refusal.specs.declared.Judgement.{Judgement}
 use Rattle.refusal.specs.declared.Judgement.the-variants as judgement
 use Rattle.refusal.specs.declared.Refusal.the-variants.{OutOfRange, OutOfTurn}
-use Rattle.search.specs.Searches.{finished, price}
+use Rattle.search.specs.Searches.{price}
 use Rattle.record.specs.declared.Party.{Party}
 use Rattle.session.specs.declared.reply.Answer.{Answer}
 use Rattle.session.specs.declared.reply.Answer.the-variants.{Cleared, Refused}
-use Rattle.record.specs.Record.{sound}
+use Rattle.record.specs.Record.{sound, ended}
 
+-- 3 until it is there: "and then 36, when the session is over"
 unfoldable pub answer-judgement : Party → Judgement
-answer-judgement q = judged ((not (sound q) ⇒ OutOfRange) ∷ (not (finished (q .search)) ⇒ OutOfTurn) ∷ [])
+answer-judgement q = judged ((not (sound q) ⇒ OutOfRange) ∷ (not (ended q) ⇒ OutOfTurn) ∷ [])
 
 unfoldable pub answered : Judgement → Party → Answer
 answered judgement.Accepted q = Cleared (price (q .search)) (q .search .probes)

@@ -3,9 +3,9 @@ ghost use mathlib.Core.Path.{_≡_};
 ghost use Rattle.session.specs.Answer.{answer-reply};
 use crate::reply::Answer;
 use record::Party;
+use record::ended;
 use record::sound;
 use refusal::Refusal;
-use search::finished;
 use search::price;
 
 pub fn answer(q: Party) -> Answer
@@ -14,9 +14,9 @@ pub fn answer(q: Party) -> Answer
     if !sound(q) {
         return Answer::Refused(Refusal::OutOfRange);
     }
-    let s = q.search;
-    if !finished(s) {
+    if !ended(q) {
         return Answer::Refused(Refusal::OutOfTurn);
     }
+    let s = q.search;
     Answer::Cleared(price(s), s.probes)
 }

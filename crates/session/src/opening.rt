@@ -42,6 +42,8 @@ pub fn open(n: u64, own: u64, k: u64, totals: &mut [u64]) -> Reply
         sum: 0,
         carry: 0,
         roll: Roll::empty(),
+        demand: 0,
+        supply: 0,
     })
 }
 

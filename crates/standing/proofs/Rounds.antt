@@ -16,8 +16,8 @@ use Rattle.comparison.specs.Probe.{SheetCoins, Probe}
 use Rattle.record.specs.declared.Party.{Party}
 use Rattle.auction.specs.Auction.{Auction, IsAuction}
 use Rattle.auction.specs.Coins.{Coins, InRange}
-use Rattle.auction.specs.Canonical.{word-by, after-hearing}
-use Rattle.auction.proofs.Closed.{polynomials, probe-of, Stage, fresh-stage}
+use Rattle.auction.specs.Canonical.{Seat, word-by, after-hearing}
+use Rattle.auction.proofs.Closed.{polynomials, probe-of, Stage, decided-stage, record-at, seat}
 use Rattle.auction.proofs.Step.{Step}
 use Rattle.auction.proofs.Present.{all-hearable}
 use Rattle.auction.proofs.Round.{Ready, stage-of, words-at, opening-at, first-step, product-step, last-step}
@@ -33,6 +33,12 @@ map-shifted f g a (suc m) h =
     let e : f a ≡ g (suc a) = ap f (omega arith) ∙ h 0 (omega arith) ∙ ap g (omega arith) in
     ap₂ (λ (x : ℕ) (xs : List ℕ). x ∷ xs) e
     (map-shifted f g (suc a) m (λ i l. ap f (omega arith) ∙ h (suc i) (omega arith) ∙ ap g (omega arith)))
+
+-- party 1's record
+pub first-record : (a : Auction) (c : Coins) → IsAuction a → (σ : Stage) (parties : List Party) (totals sheets : List ℕ) → Stands a c σ parties totals sheets
+    → getD parties 0 blank ≡ record-at a c σ 1
+unfolding seat
+first-record a c A σ parties totals sheets H = ap (λ (s : Seat). s .party) (H 0 (omega (arith, A .n-least)))
 
 module _ (a : Auction) (c : Coins) (A : IsAuction a) (σ τ : Stage) (w : ℕ → ℕ) (o : Heard) (S : Step a c σ τ w o) (parties : List Party)
     (totals sheets : List ℕ) (H : Stands a c σ parties totals sheets) where
@@ -68,5 +74,5 @@ module _ (a : Auction) (c : Coins) (A : IsAuction a) (C : InRange a c) (here : S
   step-at (suc i) h = rw (add-one (suc i)) (product-step a c A C here s ss R i (omega arith))
 
   -- round 33
-  pub step-last : Step a c (stage-of here q 32) (fresh-stage (next here (verdict-at a c here s))) (words-at q 32) (opening-at q 32)
+  pub step-last : Step a c (stage-of here q 32) (decided-stage (next here (verdict-at a c here s))) (words-at q 32) (opening-at q 32)
   step-last = last-step a c A C here s ss R

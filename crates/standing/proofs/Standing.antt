@@ -14,9 +14,10 @@ use Rattle.roll.specs.Marks.{empty}
 use Rattle.auction.specs.Auction.{Auction, Bid, IsAuction}
 use Rattle.auction.specs.Coins.{Coins, InRange}
 use Rattle.auction.specs.Canonical.{Seat}
-use Rattle.auction.proofs.Closed.{totals-after, at-party, no-totals, polynomials, full-roll, probe-of, Stage, fresh-stage, seat}
+use Rattle.auction.proofs.Closed.{totals-after, at-party, no-totals, polynomials, full-roll, probe-of, Stage, fresh-stage, decided-stage, seat}
 use Rattle.auction.proofs.Bidding.{holding}
 use Rattle.auction.proofs.Round.{Ready}
+use Rattle.auction.proofs.Whole.{last, end}
 use Rattle.draws.specs.Draws.{bid-coins}
 use Rattle.sections.specs.Sections.{tables}
 use Rattle.record.specs.Record.{blank}
@@ -43,7 +44,14 @@ Probes n k parties totals sheets after =
     → (here : Search) (s : SheetCoins) (ss : List SheetCoins) → Ready (record { n = n; k = k; bids = bids }) c here s ss
     → Stands (record { n = n; k = k; bids = bids }) c (fresh-stage here) parties totals sheets
     → Stands (record { n = n; k = k; bids = bids }) c
-    (fresh-stage (next here (verdict-at (record { n = n; k = k; bids = bids }) c here s))) after totals sheets
+    (decided-stage (next here (verdict-at (record { n = n; k = k; bids = bids }) c here s))) after totals sheets
+
+-- and the rounds after the last probe end the session of every auction in which the parties may stand
+abbrev pub Closes : (n k : ℕ) → List Party → (totals sheets : List ℕ) → List Party → Type 0
+Closes n k parties totals sheets after =
+    (bids : List Bid) (c : Coins) → IsAuction (record { n = n; k = k; bids = bids }) → InRange (record { n = n; k = k; bids = bids }) c
+    → Stands (record { n = n; k = k; bids = bids }) c (decided-stage (last (record { n = n; k = k; bids = bids }) c)) parties totals sheets
+    → Stands (record { n = n; k = k; bids = bids }) c (end (record { n = n; k = k; bids = bids }) c) after totals sheets
 
 -- what holds of every auction in which the parties may stand at the start
 abbrev pub FromStart : (n k : ℕ) → List Party → (totals sheets : List ℕ) → (Auction → Type 0) → Type 0

@@ -25,7 +25,7 @@ use Rattle.openings_at.specs.At.{agreed, opened-at}
 use Rattle.present_openings.specs.Present.{sized, opened-by}
 use Rattle.search.specs.Bracket.{start, middle, over}
 use Rattle.search.specs.Limit.{digits, limit, most-probes}
-use Rattle.search.specs.Searches.{side, first-search, finished}
+use Rattle.search.specs.Searches.{side, first-search, finished, clears}
 use Rattle.verdict.specs.Verdict.{verdict}
 use Rattle.comparison.specs.Rounds.{offset, masked}
 use Rattle.comparison.specs.Probe.{Probe}
@@ -38,9 +38,10 @@ use Rattle.ranges.proofs.Loops.{and-false}
 use Rattle.ranges.proofs.Ranges.{on-list}
 use Rattle.record.proofs.Soundness.{sound-of}
 use Rattle.record.proofs.Updates.{fresh-sound}
+use Rattle.record.specs.Record.{ended}
 use Rattle.record.specs.Updates.{fresh}
 use Rattle.saying.specs.Say as saying
-use Rattle.saying.specs.Say.{current, in-field, message, say-judgement, say-reply}
+use Rattle.saying.specs.Say.{index, sheet-words, current, book-words, in-field, message, say-judgement, say-reply}
 use Rattle.round.specs.Round.{heard, unopened}
 use Rattle.hearing.specs.Hear.{hear-judgement}
 use Rattle.refusal.proofs.Judging.{refuses, passes}
@@ -77,7 +78,7 @@ unfolding party listed
 listed-one = refl
 
 said : say-reply (fresh 5 1 1) (0 ∷ 0 ∷ []) ((offset - 12) ∷ replicate 253 0) ≡ Message 12
-unfolding say-judgement judged saying.said fresh first-search start most-probes limit digits finished over middle current in-field every message side masked
+unfolding say-judgement judged saying.said fresh first-search start most-probes limit digits ended clears finished over middle index sheet-words current book-words in-field every message side masked
 said = rw (sound-of (fresh 5 1 1) (fresh-sound 5 1 1 (on-list 5 1 1 listed-one)))
 
 -- ---- comparisons

@@ -10,9 +10,9 @@ use Rattle.comparison.proofs.Values.{bit-byte}
 use Rattle.search.specs.Searches.{next}
 use Rattle.record.specs.declared.Party.{Party}
 use Rattle.round.specs.declared.Heard.{Heard}
-use Rattle.round.specs.declared.Heard.the-variants.{Sum, Factors, Verdict, Unopened}
+use Rattle.round.specs.declared.Heard.the-variants.{Sum, Factors, Verdict, Total, Unopened}
 use Rattle.stepping.specs.After.{after}
-use Rattle.record.proofs.Updates.{Same, in-round-same, in-round-roll, decided-same, decided-roll}
+use Rattle.record.proofs.Updates.{Same, in-round-same, in-round-roll, decided-same, decided-roll, totalled-same, totalled-roll}
 
 -- ---- n, own number and k stay
 
@@ -21,6 +21,7 @@ unfolding after
 after-same q sheet (Sum v) = in-round-same q _ _ _
 after-same q sheet (Factors d e) = in-round-same q _ _ _
 after-same q sheet (Verdict v) = decided-same q (next (q .search) v)
+after-same q sheet (Total v) = totalled-same q v
 after-same q sheet Unopened = record { n = refl; own = refl; k = refl }
 
 -- ---- and so does the roll
@@ -30,6 +31,7 @@ unfolding after
 roll-after q sheet (Sum v) = in-round-roll q _ _ _
 roll-after q sheet (Factors d e) = in-round-roll q _ _ _
 roll-after q sheet (Verdict v) = decided-roll q (next (q .search) v)
+roll-after q sheet (Total v) = totalled-roll q v
 roll-after q sheet Unopened = refl
 
 -- ---- the carry's share is a byte

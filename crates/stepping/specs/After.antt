@@ -6,16 +6,18 @@ use Rattle.comparison.specs.Local.{on-shares}
 use Rattle.comparison.specs.Rounds.{first-carry, next-carry}
 use Rattle.search.specs.Searches.{next}
 use Rattle.record.specs.declared.Party.{Party}
-use Rattle.record.specs.Updates.{in-round, decided}
+use Rattle.record.specs.Updates.{in-round, decided, totalled}
 use Rattle.round.specs.declared.Heard.{Heard}
-use Rattle.round.specs.declared.Heard.the-variants.{Sum, Factors, Verdict, Unopened}
+use Rattle.round.specs.declared.Heard.the-variants.{Sum, Factors, Verdict, Total, Unopened}
 use Rattle.saying.specs.Say.{bit-share, triple-share}
 
--- round 1 gives T and the first carry, rounds 2 to 32 the next carry, round 33 the verdict, by which the searches move
+-- round 1 gives T and the first carry, rounds 2 to 32 the next carry, round 33 the verdict, by which the searches move; rounds 34 and 35 the
+-- totals at the price
 unfoldable pub after : (q : Party) (sheet : List ℕ) → Heard → Party
 after q sheet (Sum v) = in-round q 2 v (first-carry (on-shares bytes) v (bit-share sheet 1))
 after q sheet (Factors d e) =
     in-round q (q .round + 1) (q .sum)
     (next-carry (on-shares bytes) (q .sum) (q .round) d e (triple-share sheet (q .round) 0) (triple-share sheet (q .round) 1) (triple-share sheet (q .round) 2))
 after q sheet (Verdict v) = decided q (next (q .search) v)
+after q sheet (Total v) = totalled q v
 after q sheet Unopened = q

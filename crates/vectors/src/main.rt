@@ -3,6 +3,7 @@
 mod line;
 mod of_hearing;
 mod of_presence;
+mod of_price;
 
 fn main() {
     worked_values::print();
@@ -10,5 +11,6 @@ fn main() {
     worked_party::print();
     of_hearing::print();
     of_presence::print();
+    of_price::print();
     worked_sessions::print();
 }

@@ -14,6 +14,9 @@ use worked_party::record;
 use worked_party::searches;
 use worked_shares::fill;
 
+// The party's own.
+pub(crate) const TOTALS: [u64; 2] = [2005, 4003];
+
 // 2^59 + 2^32 - 7 + 5 - 3.
 const SUM: u64 = (1 << 59) + (1 << 32) - 5;
 
@@ -74,6 +77,8 @@ fn at_round(round: u64, sum: u64, carry: u64) -> Party {
         sum,
         carry,
         roll: Roll::empty().mark(1000),
+        demand: 0,
+        supply: 0,
     }
 }
 
@@ -84,39 +89,47 @@ pub(crate) fn exchanged(q: Party) -> Party {
     next
 }
 
+// The totals at the price are open.
+pub(crate) fn over() -> Party {
+    let mut q = exchanged(first());
+    q.search.bracket.lo = 1;
+    q.round = 36;
+    q
+}
+
 // The verdict 1 ends the first search with 1, and the second begins. The verdict 0 ends it with 0, and
 // with it the session.
 fn accepted() {
     line::title(b"heard, round 1:");
-    heard(first(), &WORDS_1);
+    heard(first(), WORDS_1);
     line::end();
 
     line::title(b"heard, round 2:");
-    heard(second(), &WORDS_2);
+    heard(second(), WORDS_2);
     line::end();
 
     line::title(b"heard, round 33:");
-    heard(last(), &WORDS_33);
+    heard(last(), WORDS_33);
     line::end();
 
     line::title(b"heard, verdict 0:");
-    heard(last(), &[157, 33, 188]);
+    heard(last(), [157, 33, 188]);
     line::end();
 }
 
-// Of the second search the verdict is 0, which moves lo; a 1 moves hi.
+// Of the second search the verdict is 0, which moves lo; a 1 moves hi. Either ends it at the price.
 fn seconds() {
     line::title(b"heard, second search, round 1:");
-    heard(exchanged(first()), &EXCHANGED_1);
+    heard(exchanged(first()), EXCHANGED_1);
     line::end();
 
     line::title(b"heard, second search, round 33:");
     let q = exchanged(at_round(33, EXCHANGED_SUM, 14));
-    heard(q, &EXCHANGED_33);
+    heard(q, EXCHANGED_33);
     line::end();
 
     line::title(b"heard, second search, verdict 1:");
-    heard(q, &[174, 68, 235]);
+    heard(q, [174, 68, 235]);
     line::end();
 }
 
@@ -125,11 +138,11 @@ fn seconds() {
 fn sides() {
     line::title(b"hear sides:");
     let words = [576460756598391764, 576460756598392753, 576460756598393742];
-    hears(first(), &words);
-    hears(exchanged(first()), &words);
+    hears(first(), words);
+    hears(exchanged(first()), words);
     hears(
         exchanged(first()),
-        &[576460756598389764, 576460756598388751, 576460756598387738],
+        [576460756598389764, 576460756598388751, 576460756598387738],
     );
     line::end();
 }
@@ -140,13 +153,11 @@ fn records() {
     line::title(b"hear records:");
     let mut q = first();
     q.own = 4;
-    hears(q, &[576460756598389768, 576460756598388757]);
+    of_words(q, &[576460756598389768, 576460756598388757]);
     q = first();
     q.search.bracket.lo = 1;
-    hears(q, &WORDS_1);
-    q = exchanged(first());
-    q.search.bracket.lo = 1;
-    hears(q, &EXCHANGED_1);
+    hears(q, WORDS_1);
+    hears(over(), EXCHANGED_1);
     line::end();
 }
 
@@ -154,11 +165,11 @@ fn records() {
 fn rolls() {
     line::title(b"hear rolls:");
     let mut q = first();
-    hears(q, &WORDS_1);
+    hears(q, WORDS_1);
     q.bids = 2;
-    hears(q, &WORDS_1);
+    hears(q, WORDS_1);
     q.bids = 0;
-    hears(q, &WORDS_1);
+    hears(q, WORDS_1);
     enrolled(Roll::empty().mark(0));
     enrolled(Roll::empty().mark(1001));
     line::end();
@@ -168,14 +179,14 @@ fn rolls() {
 fn enrolled(roll: Roll) {
     let mut q = first();
     q.roll = roll;
-    hears(q, &WORDS_1);
+    hears(q, WORDS_1);
 }
 
 // Messages, totals and sheets, each one short and one long; and the sheets of one search.
 fn lengths() {
     line::title(b"hear lengths:");
-    hears(first(), &[576460756598389768, 576460756598388757]);
-    hears(
+    of_words(first(), &[576460756598389768, 576460756598388757]);
+    of_words(
         first(),
         &[
             576460756598389768,
@@ -184,14 +195,11 @@ fn lengths() {
             0,
         ],
     );
-    of_totals(first(), &[2005], &WORDS_1);
-    of_totals(first(), &[2005, 4003, 0], &WORDS_1);
-    let short = [0u64; 253];
-    call(first(), &[2005, 4003], &short, &WORDS_1);
-    let long = [0u64; 255];
-    call(first(), &[2005, 4003], &long, &WORDS_1);
-    let one = [0u64; 127];
-    call(first(), &[2005, 4003], &one, &WORDS_1);
+    of_book(&[2005]);
+    of_book(&[2005, 4003, 0]);
+    of_sheets(&[0; 253]);
+    of_sheets(&[0; 255]);
+    of_sheets(&[0; 127]);
     line::end();
 }
 
@@ -199,15 +207,15 @@ fn lengths() {
 // have it for the second sheet's mask: that sheet is current in the second search.
 fn shares() {
     line::title(b"hear shares:");
-    of_totals(first(), &[P, 4003], &WORDS_1);
-    of_totals(first(), &[2005, P], &WORDS_1);
-    of_totals(second(), &[P, P], &WORDS_2);
-    of_sheet(first(), 0, P, &WORDS_1);
-    of_sheet(first(), 1, 256, &WORDS_1);
-    of_sheet(first(), 126, 256, &WORDS_1);
-    of_sheet(second(), 0, P, &WORDS_2);
-    of_sheet(first(), 127, P, &WORDS_1);
-    of_sheet(exchanged(first()), 127, P, &EXCHANGED_1);
+    of_totals(first(), [P, 4003], WORDS_1);
+    of_totals(first(), [2005, P], WORDS_1);
+    of_totals(second(), [P, P], WORDS_2);
+    of_sheet(first(), 0, P, WORDS_1);
+    of_sheet(first(), 1, 256, WORDS_1);
+    of_sheet(first(), 126, 256, WORDS_1);
+    of_sheet(second(), 0, P, WORDS_2);
+    of_sheet(first(), 127, P, WORDS_1);
+    of_sheet(exchanged(first()), 127, P, EXCHANGED_1);
     line::end();
 }
 
@@ -216,10 +224,10 @@ fn own_words() {
     line::title(b"hear own words:");
     hears(
         first(),
-        &[576460756598389768, 576460756598388758, 576460756598387746],
+        [576460756598389768, 576460756598388758, 576460756598387746],
     );
-    hears(second(), &[49658, 40323, 43438]);
-    hears(last(), &[17, 32, 49]);
+    hears(second(), [49658, 40323, 43438]);
+    hears(last(), [17, 32, 49]);
     line::end();
 }
 
@@ -230,18 +238,18 @@ fn crooked() {
     line::title(b"hear crooked rounds:");
     hears(
         first(),
-        &[576460756598389768, 576460756598388757, 576460756598387747],
+        [576460756598389768, 576460756598388757, 576460756598387747],
     );
-    hears(first(), &[P, 576460756598388757, 576460756598387746]);
+    hears(first(), [P, 576460756598388757, 576460756598387746]);
     hears(
         first(),
-        &[576460756598389768, 576460756598388757, 2882303765812081697],
+        [576460756598389768, 576460756598388757, 2882303765812081697],
     );
-    hears(second(), &[49658, 40324, 43439]);
-    hears(second(), &[49658, 40324, 43182]);
-    hears(second(), &[49658, 40324, 108974]);
-    hears(last(), &[16, 33, 49]);
-    hears(last(), &[273, 33, 49]);
+    hears(second(), [49658, 40324, 43439]);
+    hears(second(), [49658, 40324, 43182]);
+    hears(second(), [49658, 40324, 108974]);
+    hears(last(), [16, 33, 49]);
+    hears(last(), [273, 33, 49]);
     line::end();
 }
 
@@ -250,23 +258,23 @@ fn sums() {
     line::title(b"hear sums:");
     hears(
         first(),
-        &[1585267070981897227, 576460756598388757, 1873497451428574238],
+        [1585267070981897227, 576460756598388757, 1873497451428574238],
     );
     hears(
         first(),
-        &[432345566375050251, 576460756598388757, 720575946821727263],
+        [432345566375050251, 576460756598388757, 720575946821727263],
     );
     hears(
         first(),
-        &[576460758745873418, 576460756598388757, 576460754450904096],
+        [576460758745873418, 576460756598388757, 576460754450904096],
     );
     hears(
         first(),
-        &[1729382263352720394, 576460756598388757, 1729382259057751071],
+        [1729382263352720394, 576460756598388757, 1729382259057751071],
     );
     hears(
         first(),
-        &[1441151882906041354, 576460756598388757, 2017612639504430111],
+        [1441151882906041354, 576460756598388757, 2017612639504430111],
     );
     line::end();
 }
@@ -274,38 +282,52 @@ fn sums() {
 // 1, 0, 2 and 255.
 fn verdicts() {
     line::title(b"hear verdicts:");
-    hears(last(), &WORDS_33);
-    hears(last(), &[157, 33, 188]);
-    hears(last(), &[158, 33, 189]);
-    hears(last(), &[144, 33, 78]);
+    hears(last(), WORDS_33);
+    hears(last(), [157, 33, 188]);
+    hears(last(), [158, 33, 189]);
+    hears(last(), [144, 33, 78]);
     line::end();
 }
 
-fn heard(q: Party, messages: &[u64]) {
+fn heard(q: Party, messages: [u64; 3]) {
     let sheets = dealt();
-    record(hearing::hear(q, &[2005, 4003], &sheets, messages, &EVERYONE));
+    record(hearing::hear(q, &TOTALS, &sheets, &messages, &EVERYONE));
 }
 
-fn hears(q: Party, messages: &[u64]) {
-    of_totals(q, &[2005, 4003], messages);
+fn hears(q: Party, messages: [u64; 3]) {
+    of_totals(q, TOTALS, messages);
 }
 
-fn of_totals(q: Party, totals: &[u64], messages: &[u64]) {
-    let sheets = dealt();
-    call(q, totals, &sheets, messages);
+fn of_totals(q: Party, totals: [u64; 2], messages: [u64; 3]) {
+    call(q, totals, dealt(), messages);
 }
 
 // One word of the sheets is another one.
-fn of_sheet(q: Party, at: usize, word: u64, messages: &[u64])
+fn of_sheet(q: Party, at: usize, word: u64, messages: [u64; 3])
     requires { ⌜ at < 254 ⌝ }
 {
     let mut sheets = dealt();
     sheets[at] = word;
-    call(q, &[2005, 4003], &sheets, messages);
+    call(q, TOTALS, sheets, messages);
 }
 
-fn call(q: Party, totals: &[u64], sheets: &[u64], messages: &[u64]) {
-    line::number(code(hearing::hear(q, totals, sheets, messages, &EVERYONE)));
+fn call(q: Party, totals: [u64; 2], sheets: [u64; 254], messages: [u64; 3]) {
+    line::number(code(hearing::hear(q, &totals, &sheets, &messages, &EVERYONE)));
+}
+
+// As many messages as there are.
+fn of_words(q: Party, messages: &[u64]) {
+    let sheets = dealt();
+    line::number(code(hearing::hear(q, &TOTALS, &sheets, messages, &EVERYONE)));
+}
+
+fn of_book(totals: &[u64]) {
+    let sheets = dealt();
+    line::number(code(hearing::hear(first(), totals, &sheets, &WORDS_1, &EVERYONE)));
+}
+
+fn of_sheets(sheets: &[u64]) {
+    line::number(code(hearing::hear(first(), &TOTALS, sheets, &WORDS_1, &EVERYONE)));
 }
 
 // Party 2's sheets, each dealt with bytes that follow a rule.

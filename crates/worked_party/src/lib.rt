@@ -2,7 +2,9 @@
 mod line;
 mod of_adding;
 mod of_bidders;
+mod of_fills;
 mod of_party;
+mod of_price;
 mod of_searches;
 mod records;
 

@@ -94,7 +94,8 @@ fn lengths() {
 }
 
 // A bid comes before the first heard round, be it heard in this probe or in an earlier one. Where no
-// round was heard it is taken in the second search too, and even when that is over.
+// round was heard it is taken in the second search too, and even when that is over with no price; a price
+// goes with rounds that are past the first.
 fn turns() {
     line::title(b"add turns:");
     let mut q = fresh();
@@ -104,7 +105,10 @@ fn turns() {
     adds(q, 7);
     q.search = searches(2, 0, 2, 0, 1, 0);
     adds(q, 7);
+    q.search = searches(2, 0, 1, 0, 0, 0);
+    adds(q, 7);
     q.search = searches(2, 0, 1, 0, 1, 0);
+    q.round = 34;
     adds(q, 7);
     line::end();
 }

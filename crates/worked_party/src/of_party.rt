@@ -4,11 +4,15 @@ ghost use Prim.Native.Nat.{_≤_, _<_};
 use crate::line;
 use crate::of_adding;
 use crate::of_bidders;
+use crate::of_fills;
+use crate::of_price;
 use crate::of_searches;
 use crate::records::answer;
+use crate::records::at_price;
 use crate::records::code;
 use crate::records::fresh;
 use crate::records::holding;
+use crate::records::no_price;
 use crate::records::record;
 use crate::records::searches;
 use crate::records::second;
@@ -31,6 +35,8 @@ pub fn print() {
     say_totals();
     answers();
     of_searches::print();
+    of_price::print();
+    of_fills::print();
 }
 
 fn open_accepted() {
@@ -128,7 +134,7 @@ fn say_seconds() {
 }
 
 // A record out of its range, a first search that has ended, a bid more than there are marks, a bid
-// fewer, lengths, the last being one search's sheets, and a session that is over.
+// fewer, lengths, the last being one search's sheets, and sessions that are over, at a price and with none.
 fn say_refusals() {
     line::title(b"say refusals:");
     let mut q = fresh();
@@ -144,7 +150,8 @@ fn say_refusals() {
     says(fresh(), 2, 253);
     says(fresh(), 2, 255);
     says(fresh(), 2, 127);
-    says(second(0, 1, 2), 2, 254);
+    says(at_price(36), 2, 254);
+    says(no_price(), 2, 254);
     line::end();
 }
 
@@ -196,14 +203,14 @@ fn says(q: Party, held: usize, lent: usize)
     said_code(q, &totals[..held], &sheets[..lent]);
 }
 
-fn said_code(q: Party, totals: &[u64], sheets: &[u64]) {
+pub(crate) fn said_code(q: Party, totals: &[u64], sheets: &[u64]) {
     match saying::say(q, totals, sheets) {
         Said::Message(_) => line::number(0),
         Said::Refused(why) => line::number(refusal::number(why)),
     }
 }
 
-fn said(q: Party, totals: &[u64], sheets: &[u64]) {
+pub(crate) fn said(q: Party, totals: &[u64], sheets: &[u64]) {
     match saying::say(q, totals, sheets) {
         Said::Message(word) => line::number(word),
         Said::Refused(_) => line::word(b"refused"),
@@ -218,10 +225,10 @@ fn answers() {
     q.search.bracket.hi = 3;
     answer(q);
     answer(fresh());
-    q.search = searches(2, 0, 1, 1, 0, 1);
-    answer(q);
+    answer(no_price());
     q = holding(2, two());
     q.search = searches(2, 0, 1, 2, 1, 1);
+    q.round = 36;
     answer(q);
     q.bids = 3;
     answer(q);

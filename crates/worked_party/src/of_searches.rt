@@ -116,10 +116,14 @@ fn answers() {
     line::end();
 }
 
+// The round is one that goes with the searches, the last where there is a price.
 fn searching(s: Search) -> Party {
     let mut q = fresh();
     q.k = 7;
     q.search = s;
+    if search::clears(s) {
+        q.round = 36;
+    }
     q
 }
 

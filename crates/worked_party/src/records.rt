@@ -25,6 +25,8 @@ pub(crate) fn holding(bids: u64, roll: Roll) -> Party {
         sum: 0,
         carry: 0,
         roll,
+        demand: 0,
+        supply: 0,
     }
 }
 
@@ -32,6 +34,20 @@ pub(crate) fn holding(bids: u64, roll: Roll) -> Party {
 pub(crate) fn second(lo: u64, hi: u64, probes: u64) -> Party {
     let mut q = fresh();
     q.search = searches(2, lo, hi, probes, 1, 1);
+    q
+}
+
+// Nobody is in, and both searches have ended at index 1, the price, in a probe each.
+pub(crate) fn at_price(round: u64) -> Party {
+    let mut q = second(0, 1, 2);
+    q.round = round;
+    q
+}
+
+// Nobody is in, and both searches have ended with no price, in a probe of the first.
+pub(crate) fn no_price() -> Party {
+    let mut q = fresh();
+    q.search = searches(2, 0, 1, 1, 0, 1);
     q
 }
 
@@ -80,7 +96,7 @@ pub(crate) fn answer(q: Party) {
     }
 }
 
-// Ten numbers, the 16 words of its roll, and what the ten leave out of its searches.
+// Ten numbers, the 16 words of its roll, what the ten leave out of its searches, and the totals.
 pub(crate) fn party(q: Party) {
     let s = q.search;
     line::number(q.n);
@@ -99,4 +115,6 @@ pub(crate) fn party(q: Party) {
     line::number(s.which);
     line::number(s.first);
     line::number(s.spent);
+    line::number(q.demand);
+    line::number(q.supply);
 }

@@ -1,8 +1,8 @@
 // Whole sessions over four prices, through every call and every round. A line has the number that a
 // first bidder gets who comes again, the index and the verdict of each probe, the highest price once
-// the first search has ended, the answer with its probes, the bidders on the roll, and a digest of all
-// that was said: the words depend on the draws, and the verdicts do not. `differ` stands where the
-// parties do not agree, and `refused` where the first gives no answer.
+// the first search has ended, the answer with its probes, the totals at the price, the bidders on the
+// roll, and a digest of all that was said: the words depend on the draws, and the verdicts and totals do
+// not. `differ` stands where the parties do not agree, and `refused` where the first gives no answer.
 //
 // An array that a call gives is bound before it is stored: the checker has no rule for both at once.
 ghost use mathlib.Core.Path.{_≡_};
@@ -134,8 +134,10 @@ fn hold(n: u64, bids: [Bid; 3], count: usize, totals: &mut [u64], sheets: &mut [
     let ready = add_bids(n, opened, totals, bids, count);
     deal_all(n, sheets);
     let mut digest = 0;
-    let done = probe_all(n, ready, &totals[..], &sheets[..], &mut digest);
+    let probed = probe_all(n, ready, &totals[..], &sheets[..], &mut digest);
+    let done = open_totals(n, probed, &totals[..], &sheets[..], &mut digest);
     answer_all(n as usize, done);
+    totals_all(n as usize, done);
     end(done[0], digest);
 }
 
@@ -218,7 +220,7 @@ fn deal_probe(n: u64, probe: usize, sheets: &mut [u64])
     );
 }
 
-// Probes until the first party is over: the others are over with it, or differ.
+// Probes until the first party's searches are over: the others' are over with them, or differ.
 fn probe_all(
     n: u64,
     parties: [Party; 9],
@@ -295,9 +297,11 @@ fn all_at(n: usize, parties: [Party; 9], q: Party) -> bool
 
 fn stands(p: Party, q: Party) -> bool {
     same_search(p.search, q.search)
-        & (p.round == 1)
+        & (p.round == q.round)
         & (p.bids == q.bids)
         & same_roll(p.roll, q.roll)
+        & (p.demand == q.demand)
+        & (p.supply == q.supply)
 }
 
 fn same_search(s: Search, r: Search) -> bool {
@@ -339,6 +343,23 @@ fn rounds(
         round += 1;
     }
     now
+}
+
+// The two rounds at the price, where there is one.
+fn open_totals(
+    n: u64,
+    parties: [Party; 9],
+    totals: &[u64],
+    sheets: &[u64],
+    digest: &mut u64,
+) -> [Party; 9]
+    requires { ⌜ (n ≤ 9) × (length (now totals) ≡ n * 8) × (length (now sheets) ≡ n * 762) ⌝ }
+{
+    if record::ended(parties[0]) {
+        return parties;
+    }
+    let demanded = say_and_hear(n, parties, totals, sheets, digest);
+    say_and_hear(n, demanded, totals, sheets, digest)
 }
 
 fn say_and_hear(
@@ -412,6 +433,24 @@ fn cleared(q: Party, index: u64, probes: u64) -> bool {
         Answer::Cleared(at, made) => (at == index) & (made == probes),
         Answer::Refused(_) => false,
     }
+}
+
+// The totals at the price, where there is one.
+fn totals_all(n: usize, parties: [Party; 9])
+    requires { ⌜ n ≤ 9 ⌝ }
+{
+    let q = parties[0];
+    if !search::clears(q.search) {
+        return;
+    }
+    report::word(b"demand");
+    if !all_at(n, parties, q) {
+        report::word(b"differ");
+        return;
+    }
+    report::number(q.demand);
+    report::word(b"supply");
+    report::number(q.supply);
 }
 
 // The end of the line: who is in, and the digest.

@@ -20,6 +20,7 @@ pub(crate) fn print() {
     code(Refusal::Malformed);
     code(Refusal::AlreadyEntered);
     code(Refusal::TooFewPresent);
+    code(Refusal::NotCleared);
     report::end();
 }
 

@@ -18,6 +18,7 @@ pub(crate) fn print() {
     other_verdicts();
     finishes();
     prices();
+    clearances();
 }
 
 fn limits() {
@@ -141,6 +142,18 @@ fn prices() {
     report::end();
 }
 
+// Both have ended: with a lowest balanced index, without one, and with no price. Then the second goes on,
+// and the first is on.
+fn clearances() {
+    report::title(b"ended at a price:");
+    clears(searches(2, 1, 2, 4, 2, 2));
+    clears(searches(2, 2, 3, 4, 2, 2));
+    clears(searches(2, 0, 1, 2, 0, 2));
+    clears(searches(2, 1, 3, 3, 2, 2));
+    clears(searches(1, 1, 2, 4, 2, 2));
+    report::end();
+}
+
 fn limit(k: u64) {
     report::number(search::limit(k));
 }
@@ -151,6 +164,14 @@ fn middle(lo: u64, hi: u64) {
 
 fn over(lo: u64, hi: u64) {
     end_word(search::over(Bracket { lo, hi }));
+}
+
+fn clears(s: Search) {
+    if search::clears(s) {
+        report::word(b"yes");
+    } else {
+        report::word(b"no");
+    }
 }
 
 fn price(first: u64, hi: u64) {

@@ -15,6 +15,8 @@ pub struct Attendance {
     pub heard_late_though_marked: u64,
     /// Those among them that were the last of a probe.
     pub verdicts_late: u64,
+    /// Those among them that opened a total.
+    pub totals_late: u64,
     /// How often a party that had heard late was marked again.
     pub marked_again: u64,
     /// Parties that came back when the others had their answer.
@@ -29,7 +31,7 @@ struct Event {
     holds: fn(&Attendance) -> bool,
 }
 
-const EVENTS: [Event; 10] = [
+const EVENTS: [Event; 11] = [
     Event {
         name: "all marked in every round",
         holds: |seen| seen.rounds_without_some == 0,
@@ -61,6 +63,10 @@ const EVENTS: [Event; 10] = [
     Event {
         name: "a verdict heard late",
         holds: |seen| seen.verdicts_late > 0,
+    },
+    Event {
+        name: "a total heard late",
+        holds: |seen| seen.totals_late > 0,
     },
     Event {
         name: "marked again after hearing late",

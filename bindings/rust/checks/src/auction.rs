@@ -1,15 +1,16 @@
 //! Whole auctions: every call is compared, shares that are split at once are
-//! checked against their entries, each verdict, what the first search gives and
-//! the answer against the totals of the bids, and damaged calls and bids that are
-//! sent again stand in between. Parties drop off in the middle of a probe and come
-//! back, or do not, and all who hear a round come to the same.
+//! checked against their entries, each verdict, what the first search gives, the
+//! answer, the totals that are opened and what all buyers get against the totals of
+//! the bids, and damaged calls and bids that are sent again stand in between. Parties
+//! drop off in the middle of a probe and come back, or do not, and all who hear a
+//! round come to the same.
 
 use clockivy::Refusal;
 use clockivy_hearings::count;
 use clockivy_reference::field::amount::P;
 use clockivy_reference::{
-    probe_limit, sheet_count, threshold, FIRST_SEARCH, LAST_ROUND, MAX_BIDS, RECORD, SECOND_SEARCH,
-    SHEET,
+    probe_limit, sheet_count, threshold, DEMAND_ROUND, FIRST_SEARCH, LAST_ROUND, MAX_AMOUNT,
+    MAX_BIDS, RECORD, SECOND_SEARCH, SHEET,
 };
 
 use crate::attendance::Attendance;
@@ -19,8 +20,8 @@ use crate::differential::{Difference, Tally};
 use crate::generate;
 use crate::outcome::Totals;
 use crate::record::{
-    has_bid, index, is_over, mark, BIDS, CARRY, FIRST, FIRST_PROBES, HI, LO, OWN, PROBES, ROLL,
-    ROUND, SEARCH,
+    has_bid, has_cleared, has_searched, index, is_over, mark, BIDS, CARRY, DEMAND, FIRST,
+    FIRST_PROBES, HI, LO, OWN, PROBES, ROLL, ROUND, SEARCH, SUPPLY,
 };
 use crate::rng::Rng;
 
@@ -121,12 +122,16 @@ pub fn whole(
     auction.bid()?;
     auction.deal()?;
     let mut verdicts = 0;
-    while !is_over(&auction.front().record) {
+    while !has_searched(&auction.front().record) {
         auction.probe()?;
         verdicts += 1;
     }
+    if has_cleared(&auction.front().record) {
+        auction.open_totals()?;
+    }
     auction.come_back_at_the_end()?;
     auction.ask(verdicts)?;
+    auction.share_out()?;
     auction.tally.count_auction(&auction.totals, &auction.seen);
     Ok(())
 }
@@ -310,7 +315,29 @@ impl Auction<'_> {
             record[HI] = record[FIRST] + 1;
             record[LO] = 0;
         }
+        if has_cleared(&record) {
+            record[ROUND] = DEMAND_ROUND;
+        }
         record
+    }
+
+    /// The two rounds after the probes: the totals at the price, and then it is over.
+    fn open_totals(&mut self) -> Result<(), Difference> {
+        let (demand, supply) = self.totals.at(self.totals.price());
+        let mut expected = self.front().record.clone();
+        for (place, total) in [(DEMAND, demand), (SUPPLY, supply)] {
+            self.holds(!is_over(&expected), "it is over before the totals are open")?;
+            self.round()?;
+            expected[place] = total;
+            expected[ROUND] += 1;
+            let after = &self.front().record;
+            let right = common(after) == common(&expected) && after[CARRY] == 0;
+            self.holds(right, "a total is not that of the bids")?;
+        }
+        self.holds(
+            is_over(&expected),
+            "it is not over when the totals are open",
+        )
     }
 
     /// One round: those who are there say their messages, and hear those that are
@@ -455,6 +482,7 @@ impl Auction<'_> {
         self.seen.heard_late += 1;
         self.seen.heard_late_though_marked += u64::from(marked);
         self.seen.verdicts_late += u64::from(seat.record[ROUND] == LAST_ROUND);
+        self.seen.totals_late += u64::from(seat.record[ROUND] > LAST_ROUND);
     }
 
     /// When there is an answer, some of those who are away come back for it.
@@ -496,6 +524,43 @@ impl Auction<'_> {
         )
     }
 
+    /// Asks every party for what each buyer gets. Those that have heard every round
+    /// tell, where there is a price.
+    fn share_out(&mut self) -> Result<(), Difference> {
+        let price = self.totals.price();
+        for place in 0..self.seats.len() {
+            if price == 0 || self.seats[place].heard < self.rounds.len() {
+                let record = &self.seats[place].record;
+                let amount = self.rng.below(2 * MAX_AMOUNT);
+                let call = Call::fill(record, amount, self.rng.word(), self.rng.word());
+                let (reply, _) = self.tally.compare(&call)?;
+                let not_cleared = reply == Refusal::NotCleared.number();
+                self.holds(not_cleared, "a fill without totals")?;
+                continue;
+            }
+            let (demand, supply) = self.totals.at(price);
+            let (mut got, mut remainders, mut buyers) = (0, 0, 0);
+            for bid in 0..self.bids.len() {
+                let amount = self.bids[bid].table[price as usize - 1];
+                let record = &self.seats[place].record;
+                let call = Call::fill(record, amount, self.rng.word(), self.rng.word());
+                let left = self.accepted(call)?;
+                let (hours, remainder) = (left.words[1][0], left.words[2][0]);
+                self.holds(hours <= amount, "a buyer gets more than it wants")?;
+                got += hours;
+                remainders += remainder;
+                buyers += u64::from(amount > 0);
+            }
+            self.holds(
+                got * demand + remainders == demand * supply,
+                "what the buyers get does not come to what is sold",
+            )?;
+            let little = demand == 0 || supply - got < buyers;
+            self.holds(little, "too much is left over")?;
+        }
+        Ok(())
+    }
+
     /// Makes a call that must be accepted, with damaged ones before it now and
     /// then.
     fn accepted(&mut self, call: Call) -> Result<Call, Difference> {
@@ -528,8 +593,10 @@ impl Auction<'_> {
         };
         let messages = self.rng.words(self.n as usize, |rng| rng.below(256));
         let present = generate::present(self.rng, self.n as usize);
+        let amount = self.rng.below(2 * MAX_AMOUNT);
         let calls = [
             Call::answer(&seat.record, self.rng.word(), self.rng.word()),
+            Call::fill(&seat.record, amount, self.rng.word(), self.rng.word()),
             Call::add(&seat.record, &seat.totals, bidder, &shares),
             Call::hear(
                 &seat.record,

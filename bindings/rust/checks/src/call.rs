@@ -8,7 +8,7 @@ use clockivy_reference::RECORD;
 
 use crate::engine::Engine;
 
-/// The eight calls, in the order of the tables.
+/// The nine calls, in the order of the tables.
 #[derive(Clone, Copy, Debug, PartialEq, Eq)]
 pub enum Kind {
     /// Opens a session. Words: totals, record.
@@ -28,11 +28,13 @@ pub enum Kind {
     Hear,
     /// Asks for the answer. Words: record, the index, the probes.
     Answer,
+    /// Asks for what a buyer gets. Words: record, the hours, the remainder.
+    Fill,
 }
 
 impl Kind {
-    /// All eight.
-    pub const ALL: [Kind; 8] = [
+    /// All nine.
+    pub const ALL: [Kind; 9] = [
         Kind::Open,
         Kind::Split,
         Kind::SplitEntry,
@@ -41,6 +43,7 @@ impl Kind {
         Kind::Say,
         Kind::Hear,
         Kind::Answer,
+        Kind::Fill,
     ];
 
     /// The name in tables.
@@ -54,6 +57,7 @@ impl Kind {
             Kind::Say => "say",
             Kind::Hear => "hear",
             Kind::Answer => "answer",
+            Kind::Fill => "fill",
         }
     }
 
@@ -67,6 +71,7 @@ impl Kind {
             Kind::Say => &[0, 1, 2, 3, 8],
             Kind::Hear => &[0, 1, 2, 3, 8, 9, 10, 11, 12, 15],
             Kind::Answer => &[0, 1, 2, 3],
+            Kind::Fill => &[0, 1, 2, 6, 16],
         }
     }
 
@@ -84,12 +89,12 @@ impl Kind {
         match self {
             Kind::Open => Some(1),
             Kind::Split | Kind::SplitEntry | Kind::Deal => None,
-            Kind::Add | Kind::Say | Kind::Hear | Kind::Answer => Some(0),
+            Kind::Add | Kind::Say | Kind::Hear | Kind::Answer | Kind::Fill => Some(0),
         }
     }
 
     /// The calls that read a record, and so judge it.
-    pub const ON_RECORDS: [Kind; 4] = [Kind::Add, Kind::Say, Kind::Hear, Kind::Answer];
+    pub const ON_RECORDS: [Kind; 5] = [Kind::Add, Kind::Say, Kind::Hear, Kind::Answer, Kind::Fill];
 
     /// How many of the word slices have a length of their own; those after
     /// them are single words.
@@ -98,7 +103,7 @@ impl Kind {
             Kind::Open | Kind::Deal => 2,
             Kind::Split | Kind::SplitEntry | Kind::Add | Kind::Say => 3,
             Kind::Hear => 4,
-            Kind::Answer => 1,
+            Kind::Answer | Kind::Fill => 1,
         }
     }
 
@@ -161,6 +166,8 @@ pub struct Call {
     pub entry: u64,
     /// The bidder that [`Kind::Add`] is given, else 0.
     pub bidder: u64,
+    /// The amount that [`Kind::Fill`] is given, else 0.
+    pub amount: u64,
     /// The slices of words, and then the single words, in the order of the C
     /// declaration.
     pub words: Vec<Lent<u64>>,
@@ -176,6 +183,7 @@ impl Call {
             numbers,
             entry: 0,
             bidder: 0,
+            amount: 0,
             words: words.iter().map(|contents| Lent::new(contents)).collect(),
             bytes: Lent::new(&[]),
         }
@@ -247,6 +255,14 @@ impl Call {
         Call::new(Kind::Answer, [0; 3], &[record, &[index], &[probes]])
     }
 
+    /// Asks for what a buyer gets, into words that hold `hours` and `remainder`.
+    pub fn fill(record: &[u64], amount: u64, hours: u64, remainder: u64) -> Call {
+        Call {
+            amount,
+            ..Call::new(Kind::Fill, [0; 3], &[record, &[hours], &[remainder]])
+        }
+    }
+
     /// The record that the call judges, where it has the length of one.
     pub fn judged_record(&self) -> Option<&[u64]> {
         let place = self.kind.record()?;
@@ -274,6 +290,9 @@ impl Call {
             (Kind::Answer, [record, index, probes]) => {
                 E::answer(record, &mut index[0], &mut probes[0])
             }
+            (Kind::Fill, [record, hours, remainder]) => {
+                E::fill(record, self.amount, &mut hours[0], &mut remainder[0])
+            }
             _ => unreachable!("each kind of call is made with its own buffers"),
         }
     }
@@ -287,6 +306,9 @@ impl fmt::Display for Call {
         }
         if self.kind == Kind::Add {
             write!(f, " bidder {}", self.bidder)?;
+        }
+        if self.kind == Kind::Fill {
+            write!(f, " amount {}", self.amount)?;
         }
         for (place, words) in self.words.iter().enumerate() {
             // A record is shown whole.

@@ -5,14 +5,14 @@
 
 use clockivy_reference::field::amount::P;
 use clockivy_reference::{
-    probe_limit, FIRST_SEARCH, LAST_ROUND, MASK_LIMIT, MAX_AMOUNT, MAX_BIDS, MAX_PRICES, RECORD,
-    SECOND_SEARCH, SHEET, SUM_LIMIT,
+    probe_limit, FIRST_SEARCH, LAST_ROUND, MASK_LIMIT, MAX_AMOUNT, MAX_BIDS, MAX_PRICES,
+    NO_MORE_ROUNDS, RECORD, SECOND_SEARCH, SHEET, SUM_LIMIT, TOTAL_LIMIT,
 };
 
 use crate::call::{Call, Kind};
 use crate::record::{
-    has_bid, mark, marks, unmark, BIDS, CARRY, FIRST, FIRST_PROBES, HI, K, LO, N, NOBODY, OWN,
-    PROBES, ROLL, ROUND, SEARCH, SUM,
+    has_bid, index, mark, marks, unmark, BIDS, CARRY, DEMAND, FIRST, FIRST_PROBES, HI, K, LO, N,
+    NOBODY, OWN, PROBES, ROLL, ROUND, SEARCH, SUM, SUPPLY,
 };
 use crate::rng::Rng;
 use crate::soundness::CLAUSES;
@@ -51,6 +51,7 @@ pub fn damage(rng: &mut Rng, call: &mut Call) {
         0 if call.kind == Kind::SplitEntry => entry(rng, call),
         0..=1 if call.kind.numbers() > 0 => number(rng, call),
         0 if call.kind == Kind::Add => bidder(rng, call),
+        0 if call.kind == Kind::Fill => amount(rng, call),
         0..=2 if call.kind.record().is_some() => record(rng, call),
         3..=4 => length(rng, call),
         5 if call.kind == Kind::Hear => swap(rng, call),
@@ -83,6 +84,12 @@ fn entry(rng: &mut Rng, call: &mut Call) {
 fn bidder(rng: &mut Rng, call: &mut Call) {
     let near = [0, 1, MAX_BIDS, MAX_BIDS + 1, rng.between(1, MAX_BIDS)];
     call.bidder = value(rng, call.bidder, &near);
+}
+
+/// Changes the amount.
+fn amount(rng: &mut Rng, call: &mut Call) {
+    let near = [0, 1, MAX_AMOUNT, MAX_AMOUNT + 1, call.amount ^ (1 << 22)];
+    call.amount = value(rng, call.amount, &near);
 }
 
 /// Makes a slice longer or shorter.
@@ -152,7 +159,7 @@ fn roll(rng: &mut Rng, record: &mut [u64]) {
 }
 
 /// The fields of a record beside the roll.
-const FIELDS: [usize; 13] = [
+const FIELDS: [usize; 15] = [
     N,
     OWN,
     K,
@@ -166,6 +173,8 @@ const FIELDS: [usize; 13] = [
     SEARCH,
     FIRST,
     FIRST_PROBES,
+    DEMAND,
+    SUPPLY,
 ];
 
 /// Changes a field of the record beside the roll.
@@ -175,6 +184,7 @@ fn field(rng: &mut Rng, record: &mut [u64]) {
         unreachable!("it has the words of a record");
     };
     let [search, first, first_probes] = [SEARCH, FIRST, FIRST_PROBES].map(|place| record[place]);
+    let [demand, supply] = [DEMAND, SUPPLY].map(|place| record[place]);
     // The last index that the search may give, and the most probes by its end.
     let (last, most) = match search {
         SECOND_SEARCH => (first, first_probes.wrapping_add(probe_limit(first))),
@@ -212,7 +222,13 @@ fn field(rng: &mut Rng, record: &mut [u64]) {
             most,
             most.wrapping_add(1),
         ],
-        ROUND => [0, 1, 2, LAST_ROUND, LAST_ROUND + 1],
+        ROUND => [
+            rng.below(3),
+            LAST_ROUND,
+            LAST_ROUND + 1,
+            NO_MORE_ROUNDS,
+            NO_MORE_ROUNDS + 1,
+        ],
         SUM => [0, 1, SUM_LIMIT - 1, SUM_LIMIT, SUM_LIMIT + 1],
         SEARCH => [0, FIRST_SEARCH, SECOND_SEARCH, 3, search ^ 3],
         FIRST => [
@@ -228,6 +244,20 @@ fn field(rng: &mut Rng, record: &mut [u64]) {
             probe_limit(k).wrapping_add(rng.below(2)),
             probes,
             probes.wrapping_add(1),
+        ],
+        DEMAND => [
+            0,
+            supply.wrapping_sub(1),
+            supply,
+            TOTAL_LIMIT - 1,
+            TOTAL_LIMIT,
+        ],
+        SUPPLY => [
+            0,
+            demand,
+            demand.wrapping_add(1),
+            TOTAL_LIMIT - 1,
+            TOTAL_LIMIT,
         ],
         _ => [0, 1, 255, 256, 511],
     };
@@ -267,9 +297,9 @@ fn used(rng: &mut Rng, call: &Call, slice: usize) -> Option<usize> {
     if k > MAX_PRICES || hi > k + 1 || lo >= hi || probes > 64 || n > 9 {
         return None;
     }
-    let index = (lo + hi) / 2;
+    let index = index(&call.words[0]) as u64;
     let place = match slice {
-        1 => index.saturating_sub(1) + rng.pick(&[0, k]),
+        1 => index.saturating_sub(1).saturating_add(rng.pick(&[0, k])),
         2 => probes * SHEET as u64 + rng.pick(&[0, 1, 33, 34, 64, 126]),
         _ => own.saturating_sub(1),
     };

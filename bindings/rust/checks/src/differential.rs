@@ -11,27 +11,32 @@ use crate::damage::damage;
 use crate::engine::{ByteProduct, Engine, Plain, Verified};
 use crate::meeting::meeting;
 use crate::outcome::{Endings, Totals};
+use crate::record::{DEMAND, SUPPLY};
 use crate::rng::Rng;
 use crate::soundness::{self, Found};
-use crate::{auction, generate, presence};
+use crate::{auction, generate, opened, presence};
 
 /// The two implementations differ, or an auction went wrong.
 pub struct Difference(pub String);
 
 /// One more than the highest reply.
-const REPLIES: usize = 16;
+const REPLIES: usize = 17;
 
 /// The reply to a record that is not sound.
 const OUT_OF_RANGE: u64 = 1;
 
+/// The reply to a sum or a total that is none.
+const SUM_OUT_OF_RANGE: u64 = 11;
+
 /// How many calls of each kind had each reply, how many were lent a record in each
-/// condition, and how many hearings had each reply by who was present; how the
-/// whole auctions ended, and who was there; and how many byte products were the
-/// same.
+/// condition, how many hearings had each reply by who was present, and how many
+/// were refused for what was opened; how the whole auctions ended, and who was
+/// there; and how many byte products were the same.
 pub struct Tally {
     counts: [[u64; REPLIES]; Kind::ALL.len()],
     records: [[u64; Kind::ALL.len()]; soundness::CONDITIONS],
     hearings: [[u64; presence::REPLIES.len()]; presence::CONDITIONS],
+    opened: [u64; opened::COUNT],
     endings: Endings,
     events: Events,
     byte_products: u64,
@@ -43,6 +48,7 @@ impl Default for Tally {
             counts: Default::default(),
             records: [[0; Kind::ALL.len()]; soundness::CONDITIONS],
             hearings: [[0; presence::REPLIES.len()]; presence::CONDITIONS],
+            opened: [0; opened::COUNT],
             endings: Endings::default(),
             events: Events::default(),
             byte_products: 0,
@@ -80,8 +86,10 @@ impl Tally {
         }
         self.counts[call.kind as usize][reply as usize] += 1;
         self.count_record(call, reply)?;
-        if call.kind == Kind::Hear {
-            self.count_hearing(call, reply)?;
+        match (call.kind, reply) {
+            (Kind::Hear, _) => self.count_hearing(call, reply)?,
+            (Kind::Fill, 0) => filled(&verified)?,
+            _ => {}
         }
         Ok((reply, verified))
     }
@@ -125,6 +133,16 @@ impl Tally {
             )));
         }
         self.hearings[condition][column] += 1;
+        if reply == SUM_OUT_OF_RANGE {
+            match opened::reason(call) {
+                Some(reason) => self.opened[reason] += 1,
+                None => {
+                    return Err(Difference(format!(
+                        "both replied {reply} for no reason, given\n{call}"
+                    )))
+                }
+            }
+        }
         Ok(())
     }
 
@@ -203,6 +221,14 @@ impl Tally {
             .collect()
     }
 
+    /// The reasons to refuse what was opened that did not come up.
+    pub fn unopened(&self) -> Vec<&'static str> {
+        (0..opened::COUNT)
+            .filter(|&reason| self.opened[reason] == 0)
+            .map(opened::name)
+            .collect()
+    }
+
     /// The endings that no auction had, and what did not come up in any.
     pub fn unended(&self) -> Vec<&'static str> {
         let counts = self.endings.counts().chain(self.events.counts());
@@ -235,20 +261,44 @@ impl fmt::Display for Tally {
         self.write_records(f)?;
         writeln!(f, "\n\nHearings by who was present, and by reply\n")?;
         self.write_hearings(f)?;
-        writeln!(f, "\n\nWhole auctions by the balanced prices\n")?;
-        write_counts(f, "balanced prices", self.endings.counts())?;
+        writeln!(f, "\n\nHearings refused with 11, by what was opened\n")?;
+        let reasons = (0..opened::COUNT).map(opened::name).zip(self.opened);
+        write_counts(f, ["opened", "hearings"], reasons)?;
+        writeln!(
+            f,
+            "\n\nWhole auctions by the balanced prices, and by the totals\n"
+        )?;
+        write_counts(f, ["prices", "auctions"], self.endings.counts())?;
         writeln!(f, "\n\nWhole auctions by who was there\n")?;
-        write_counts(f, "parties", self.events.counts())
+        write_counts(f, ["parties", "auctions"], self.events.counts())
     }
 }
 
-/// A table of auctions.
+/// A fill is a times S divided by D, and the remainder, or 0 and 0.
+fn filled(left: &Call) -> Result<(), Difference> {
+    let [record, hours, remainder] = &left.words[..] else {
+        unreachable!("it is a fill");
+    };
+    let (demand, supply) = (record[DEMAND], record[SUPPLY]);
+    let exact = match demand {
+        0 => hours[0] == 0 && remainder[0] == 0,
+        _ => hours[0] * demand + remainder[0] == left.amount * supply && remainder[0] < demand,
+    };
+    if exact {
+        return Ok(());
+    }
+    Err(Difference(format!(
+        "both left a fill that is none,\n{left}"
+    )))
+}
+
+/// A table of what came up, and how often.
 fn write_counts(
     f: &mut fmt::Formatter<'_>,
-    heading: &str,
+    [heading, counted]: [&str; 2],
     counts: impl Iterator<Item = (&'static str, u64)>,
 ) -> fmt::Result {
-    write!(f, "{heading:<50}{:>8}", "auctions")?;
+    write!(f, "{heading:<50}{counted:>8}")?;
     for (name, count) in counts {
         write!(f, "\n{name:<50}{count:>8}")?;
     }

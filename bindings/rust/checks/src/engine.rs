@@ -3,7 +3,7 @@
 use clockivy::words;
 use clockivy_reference as reference;
 
-/// The eight calls.
+/// The nine calls.
 pub trait Engine {
     /// What tables and messages call it.
     const NAME: &'static str;
@@ -37,6 +37,8 @@ pub trait Engine {
     ) -> u64;
     /// Asks for the answer.
     fn answer(record: &[u64], index: &mut u64, probes: &mut u64) -> u64;
+    /// Asks for what a buyer gets.
+    fn fill(record: &[u64], amount: u64, hours: &mut u64, remainder: &mut u64) -> u64;
 }
 
 macro_rules! engine {
@@ -98,6 +100,10 @@ macro_rules! engine {
 
             fn answer(record: &[u64], index: &mut u64, probes: &mut u64) -> u64 {
                 $library::answer(record, index, probes)
+            }
+
+            fn fill(record: &[u64], amount: u64, hours: &mut u64, remainder: &mut u64) -> u64 {
+                $library::fill(record, amount, hours, remainder)
             }
         }
     };

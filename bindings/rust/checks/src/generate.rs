@@ -4,14 +4,15 @@
 use clockivy_reference as reference;
 use clockivy_reference::field::{amount, byte};
 use clockivy_reference::{
-    probe_limit, sheet_count, FIRST_SEARCH, LAST_ROUND, MAX_BIDS, MAX_PRICES, RECORD,
-    SECOND_SEARCH, SHEET, SUM_LIMIT, SUM_LOW,
+    probe_limit, sheet_count, DEMAND_ROUND, FIRST_SEARCH, LAST_ROUND, MAX_AMOUNT, MAX_BIDS,
+    MAX_PRICES, NO_MORE_ROUNDS, RECORD, SECOND_SEARCH, SHEET, SUM_LIMIT, SUM_LOW, SUPPLY_ROUND,
+    TOTAL_LIMIT,
 };
 
 use crate::call::{Call, Kind};
 use crate::record::{
-    has_bid, index, mark, marks, unmark, BIDS, FIRST, FIRST_PROBES, HI, K, LO, N, NOBODY, OWN,
-    PROBES, ROLL, ROUND, SEARCH,
+    has_bid, has_cleared, index, mark, marks, unmark, BIDS, DEMAND, FIRST, FIRST_PROBES, HI, K, LO,
+    N, NOBODY, OWN, PROBES, ROLL, ROUND, SEARCH, SUPPLY,
 };
 use crate::rng::Rng;
 
@@ -96,6 +97,7 @@ pub fn call(rng: &mut Rng, kind: Kind) -> Call {
             hear(rng, &said)
         }
         Kind::Answer => answer(rng, shape),
+        Kind::Fill => fill(rng, shape),
     }
 }
 
@@ -154,6 +156,7 @@ fn add(rng: &mut Rng, shape: Shape) -> Call {
         record[PROBES] = 0;
         record[FIRST_PROBES] = 0;
         record[ROUND] = 1;
+        fit_round(rng, &mut record);
     }
     let totals = rng.words(shape.table_len(), Rng::amount_share);
     let mut shares = rng.words(shape.table_len(), Rng::amount_share);
@@ -184,14 +187,33 @@ fn bidder(rng: &mut Rng, record: &[u64]) -> u64 {
 }
 
 fn say(rng: &mut Rng, shape: Shape) -> Call {
-    let record = record(rng, shape);
+    let mut record = record(rng, shape);
+    if rng.once_in(8) {
+        end(rng, &mut record);
+        if has_cleared(&record) {
+            record[ROUND] = rng.between(DEMAND_ROUND, SUPPLY_ROUND);
+        }
+    }
     let mut totals = totals(rng, shape, &record);
     let sheets = sheets(rng, shape, &record);
     let message = rng.word();
-    if rng.once_in(8) {
-        silence(&record, &mut totals, &sheets);
+    match rng.below(32) {
+        0..=3 => silence(&record, &mut totals, &sheets),
+        4 => spoil(rng, &record, &mut totals),
+        _ => {}
     }
     Call::say(&record, &totals, &sheets, message)
+}
+
+/// Puts what is no share into a place of the totals that the round may use.
+fn spoil(rng: &mut Rng, record: &[u64], totals: &mut [u64]) {
+    let place = match rng.below(2) {
+        0 => index(record),
+        _ => index(record).saturating_add(record[K] as usize),
+    };
+    if let Some(word) = totals.get_mut(place.wrapping_sub(1)) {
+        *word = rng.pick(&[amount::P, amount::P + 1, u64::MAX]);
+    }
 }
 
 /// Changes the demand that is probed so that the message of round 1 is 0. In the
@@ -223,9 +245,8 @@ pub fn hear(rng: &mut Rng, said: &Call) -> Call {
         if present[record[OWN] as usize - 1] != 1 {
             // Its message is not compared, nor are its totals used.
             own_message = in_range(rng, record[ROUND]);
-            if record[ROUND] == 1 && rng.once_in(2) {
-                let place = index(record) - 1 + rng.pick(&[0, record[K] as usize]);
-                totals[place] = rng.pick(&[amount::P, amount::P + 1, u64::MAX]);
+            if is_of_amounts(record[ROUND]) && rng.once_in(2) {
+                spoil(rng, record, &mut totals);
             }
         }
         messages = self::messages(rng, record, &present, own_message);
@@ -259,10 +280,36 @@ pub fn present(rng: &mut Rng, n: usize) -> Vec<u8> {
 fn answer(rng: &mut Rng, shape: Shape) -> Call {
     let mut record = record(rng, shape);
     if !rng.once_in(4) {
-        second_search(rng, &mut record);
-        record[LO] = record[HI] - 1;
+        end(rng, &mut record);
     }
     Call::answer(&record, rng.word(), rng.word())
+}
+
+fn fill(rng: &mut Rng, shape: Shape) -> Call {
+    let mut record = record(rng, shape);
+    if !rng.once_in(4) {
+        end(rng, &mut record);
+    }
+    let amount = match rng.below(16) {
+        0 => 0,
+        1 => MAX_AMOUNT,
+        2 => rng.pick(&[MAX_AMOUNT + 1, 1 << 32, 1 << 63, u64::MAX]),
+        3 => record[DEMAND].min(MAX_AMOUNT),
+        4..=8 => rng.below(100),
+        _ => rng.between(0, MAX_AMOUNT),
+    };
+    Call::fill(&record, amount, rng.word(), rng.word())
+}
+
+/// Ends the searches of a record, and mostly opens the totals where there is a
+/// price.
+fn end(rng: &mut Rng, record: &mut [u64]) {
+    second_search(rng, record);
+    record[LO] = record[HI] - 1;
+    fit_round(rng, record);
+    if has_cleared(record) && !rng.once_in(4) {
+        record[ROUND] = NO_MORE_ROUNDS;
+    }
 }
 
 /// A record, not always one that an auction can reach, and mostly a sound one.
@@ -283,7 +330,40 @@ fn record(rng: &mut Rng, shape: Shape) -> Vec<u64> {
     record.resize(RECORD, 0);
     roll(rng, &mut record);
     any_search(rng, &mut record);
+    opened_totals(rng, &mut record);
     record
+}
+
+/// Puts totals into a record, sound ones: often none yet, and now and then such as
+/// are at an end of their range.
+fn opened_totals(rng: &mut Rng, record: &mut [u64]) {
+    let top = TOTAL_LIMIT - 1;
+    let demand = match rng.below(8) {
+        0..=1 => 0,
+        2 => top,
+        3 => rng.between(1, 9),
+        4 => rng.between(1, MAX_AMOUNT),
+        _ => rng.between(0, top),
+    };
+    record[DEMAND] = demand;
+    record[SUPPLY] = match rng.below(8) {
+        0..=1 => 0,
+        2 => demand,
+        3 => demand.saturating_sub(1),
+        _ => rng.between(0, demand),
+    };
+}
+
+/// Puts a record into a round that its searches allow, where it is in none.
+pub fn fit_round(rng: &mut Rng, record: &mut [u64]) {
+    let (first, last) = if has_cleared(record) {
+        (DEMAND_ROUND, NO_MORE_ROUNDS)
+    } else {
+        (1, LAST_ROUND)
+    };
+    if !(first..=last).contains(&record[ROUND]) {
+        record[ROUND] = rng.between(first, last);
+    }
 }
 
 /// Puts a search into a record, sound where the record allows one. Over no prices
@@ -315,6 +395,7 @@ pub fn first_search(rng: &mut Rng, record: &mut [u64]) {
     record[SEARCH] = FIRST_SEARCH;
     record[FIRST] = 0;
     record[FIRST_PROBES] = 0;
+    fit_round(rng, record);
 }
 
 /// Puts a sound second search into a record. Often it has ended, now and then as
@@ -347,6 +428,7 @@ pub fn second_search(rng: &mut Rng, record: &mut [u64]) {
     record[FIRST] = first;
     record[FIRST_PROBES] = rng.between(0, probe_limit(k));
     record[PROBES] = record[FIRST_PROBES] + own_probes;
+    fit_round(rng, record);
 }
 
 /// The prices of a record, or as many as leave room for numbers above.
@@ -398,15 +480,17 @@ fn roll(rng: &mut Rng, record: &mut [u64]) {
     }
 }
 
-/// Totals: the two words that round 1 uses are shares, the others anything.
+/// Totals: the words that the round uses are shares, the others anything.
 fn totals(rng: &mut Rng, shape: Shape, record: &[u64]) -> Vec<u64> {
     if rng.once_in(2) {
         return rng.words(shape.table_len(), Rng::amount_share);
     }
     let mut totals = rng.words(shape.table_len(), Rng::word);
-    let index = index(record);
-    if record[ROUND] == 1 && index > 0 {
+    let (index, round) = (index(record), record[ROUND]);
+    if index > 0 && [1, DEMAND_ROUND].contains(&round) {
         totals[index - 1] = rng.amount_share();
+    }
+    if index > 0 && [1, SUPPLY_ROUND].contains(&round) {
         totals[shape.k as usize + index - 1] = rng.amount_share();
     }
     totals
@@ -414,9 +498,10 @@ fn totals(rng: &mut Rng, shape: Shape, record: &[u64]) -> Vec<u64> {
 
 /// Preprocessing: the current probe's is sound, the others hold anything.
 fn sheets(rng: &mut Rng, shape: Shape, record: &[u64]) -> Vec<u64> {
+    let current = (record[ROUND] <= LAST_ROUND).then_some(record[PROBES]);
     let mut sheets = Vec::new();
     for probe in 0..sheet_count(shape.k) {
-        if probe == record[PROBES] || rng.once_in(2) {
+        if current == Some(probe) || rng.once_in(2) {
             sheets.push(rng.amount_share());
             sheets.extend(rng.words(SHEET - 1, |rng| u64::from(rng.byte())));
         } else {
@@ -426,10 +511,15 @@ fn sheets(rng: &mut Rng, shape: Shape, record: &[u64]) -> Vec<u64> {
     sheets
 }
 
+/// Whether the messages of a round are shares of amounts.
+fn is_of_amounts(round: u64) -> bool {
+    [1, DEMAND_ROUND, SUPPLY_ROUND].contains(&round)
+}
+
 /// A message of a round: any that is in range.
 fn in_range(rng: &mut Rng, round: u64) -> u64 {
     match round {
-        1 => rng.amount_share(),
+        _ if is_of_amounts(round) => rng.amount_share(),
         LAST_ROUND => rng.below(256),
         _ => rng.below(65_536),
     }
@@ -444,7 +534,7 @@ fn messages(rng: &mut Rng, record: &[u64], present: &[u8], own_message: u64) -> 
         own: record[OWN],
     };
     let mut messages = match record[ROUND] {
-        1 => {
+        round if is_of_amounts(round) => {
             let other = rng.between(1, places.n);
             if rng.once_in(16) && other != places.own {
                 // Another party's message is 0, or the prime, which is not 0.
@@ -452,8 +542,11 @@ fn messages(rng: &mut Rng, record: &[u64], present: &[u8], own_message: u64) -> 
                 messages[other as usize - 1] = rng.pick(&[0, amount::P]);
                 messages
             } else {
-                let sum = sum(rng);
-                places.amounts(rng, own_message, 0, sum)
+                let opened = match round {
+                    1 => sum(rng),
+                    _ => total(rng, record),
+                };
+                places.amounts(rng, own_message, 0, opened)
             }
         }
         LAST_ROUND => {
@@ -497,6 +590,23 @@ fn sum(rng: &mut Rng) -> u64 {
         2 => rng.between(SUM_LIMIT - 3, SUM_LIMIT + 2),
         3 => rng.pick(&[0, 1, 1 << 58, 1 << 59, amount::P - 1]),
         _ => rng.between(SUM_LOW, SUM_LIMIT - 1),
+    }
+}
+
+/// A total of round 34 or 35: mostly one that fits the other, often as it just does
+/// or just does not.
+fn total(rng: &mut Rng, record: &[u64]) -> u64 {
+    let (least, most) = match record[ROUND] {
+        DEMAND_ROUND => (record[SUPPLY], TOTAL_LIMIT - 1),
+        _ => (0, record[DEMAND]),
+    };
+    match rng.below(8) {
+        0 => rng.below(amount::P),
+        1 => rng.between(TOTAL_LIMIT - 2, TOTAL_LIMIT + 2),
+        2 => rng.between(least.saturating_sub(2), least + 1),
+        3 => rng.between(most.saturating_sub(1), most + 2),
+        4 => rng.pick(&[0, 1, 1 << 33, 1 << 58, amount::P - 1]),
+        _ => rng.between(least, most),
     }
 }
 
@@ -550,7 +660,7 @@ impl Places {
                 if point != self.own {
                     messages[point as usize - 1] = match round {
                         _ if !rng.once_in(8) => in_range(rng, round),
-                        1 => amount::P,
+                        _ if is_of_amounts(round) => amount::P,
                         LAST_ROUND => 256,
                         _ => 65_536,
                     };
@@ -570,7 +680,7 @@ impl Places {
         let factor = rng.between(1, 255);
         for (place, message) in messages.iter_mut().enumerate() {
             let point = place as u64 + 1;
-            if round == 1 {
+            if is_of_amounts(round) {
                 let mut value = factor;
                 for &root in &roots {
                     value = amount::mul(value, amount::sub(point, root));

@@ -11,6 +11,7 @@ pub mod differential;
 pub mod engine;
 pub mod generate;
 pub mod meeting;
+pub mod opened;
 pub mod outcome;
 pub mod presence;
 pub mod record;

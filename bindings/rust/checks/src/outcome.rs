@@ -1,8 +1,8 @@
 //! What an auction comes to, from the totals in the clear.
 
-/// Total demand and total supply at each price.
+/// The bids of an auction, and their total demand and total supply at each price.
 pub struct Totals {
-    bids: usize,
+    tables: Vec<Vec<u64>>,
     demand: Vec<u64>,
     supply: Vec<u64>,
 }
@@ -12,12 +12,11 @@ impl Totals {
     pub fn of<'a>(k: u64, tables: impl IntoIterator<Item = &'a [u64]>) -> Totals {
         let k = k as usize;
         let mut totals = Totals {
-            bids: 0,
+            tables: tables.into_iter().map(<[u64]>::to_vec).collect(),
             demand: vec![0; k],
             supply: vec![0; k],
         };
-        for table in tables {
-            totals.bids += 1;
+        for table in &totals.tables {
             for place in 0..k {
                 totals.demand[place] += table[place];
                 totals.supply[place] += table[k + place];
@@ -30,16 +29,22 @@ impl Totals {
         self.demand.len() as u64
     }
 
+    /// Total demand and total supply at an index.
+    pub fn at(&self, index: u64) -> (u64, u64) {
+        let place = index as usize - 1;
+        (self.demand[place], self.supply[place])
+    }
+
     /// Whether demand at an index is at least supply.
     pub fn clears(&self, index: u64) -> bool {
-        let place = index as usize - 1;
-        self.demand[place] >= self.supply[place]
+        let (demand, supply) = self.at(index);
+        demand >= supply
     }
 
     /// Whether supply at an index is at least demand.
     pub fn supplies(&self, index: u64) -> bool {
-        let place = index as usize - 1;
-        self.supply[place] >= self.demand[place]
+        let (demand, supply) = self.at(index);
+        supply >= demand
     }
 
     /// The highest index with demand at least supply, or 0.
@@ -61,6 +66,23 @@ impl Totals {
         }
     }
 
+    /// Total demand and total supply at the price, where there is one.
+    fn at_price(&self) -> Option<(u64, u64)> {
+        match self.price() {
+            0 => None,
+            index => Some(self.at(index)),
+        }
+    }
+
+    /// What is sold at the price and goes to nobody, where there is demand: each
+    /// buyer's part is rounded down.
+    fn left_over(&self) -> Option<u64> {
+        let (demand, supply) = self.at_price().filter(|&(demand, _)| demand > 0)?;
+        let place = self.price() as usize - 1;
+        let part = |table: &Vec<u64>| table[place] * supply / demand;
+        Some(supply - self.tables.iter().map(part).sum::<u64>())
+    }
+
     /// How many indices are balanced.
     fn balanced(&self) -> u64 {
         self.lowest()
@@ -76,7 +98,7 @@ impl Totals {
     }
 
     /// Where the balanced indices stand.
-    fn at(&self, from_first: bool, to_last: bool) -> bool {
+    fn stand(&self, from_first: bool, to_last: bool) -> bool {
         (self.lowest() == Some(1)) == from_first && (self.highest() == self.prices()) == to_last
     }
 }
@@ -89,54 +111,78 @@ struct Ending {
 
 /// The endings. An auction without bids has every price balanced, and is counted
 /// there too.
-const ENDINGS: [Ending; 12] = [
+const ENDINGS: [Ending; 16] = [
     Ending {
         name: "no price",
         holds: |totals| totals.highest() == 0,
     },
     Ending {
         name: "none balanced, inside",
-        holds: |totals| totals.balanced() == 0 && totals.highest() > 0 && totals.at(false, false),
+        holds: |totals| {
+            totals.balanced() == 0 && totals.highest() > 0 && totals.stand(false, false)
+        },
     },
     Ending {
         name: "none balanced, at the last",
-        holds: |totals| totals.balanced() == 0 && totals.at(false, true),
+        holds: |totals| totals.balanced() == 0 && totals.stand(false, true),
     },
     Ending {
         name: "odd number balanced, inside",
-        holds: |totals| totals.is_odd() && totals.at(false, false),
+        holds: |totals| totals.is_odd() && totals.stand(false, false),
     },
     Ending {
         name: "odd number balanced, from the first",
-        holds: |totals| totals.is_odd() && totals.at(true, false),
+        holds: |totals| totals.is_odd() && totals.stand(true, false),
     },
     Ending {
         name: "odd number balanced, to the last",
-        holds: |totals| totals.is_odd() && totals.at(false, true),
+        holds: |totals| totals.is_odd() && totals.stand(false, true),
     },
     Ending {
         name: "odd number balanced, all",
-        holds: |totals| totals.is_odd() && totals.at(true, true),
+        holds: |totals| totals.is_odd() && totals.stand(true, true),
     },
     Ending {
         name: "even number balanced, inside",
-        holds: |totals| totals.is_even() && totals.at(false, false),
+        holds: |totals| totals.is_even() && totals.stand(false, false),
     },
     Ending {
         name: "even number balanced, from the first",
-        holds: |totals| totals.is_even() && totals.at(true, false),
+        holds: |totals| totals.is_even() && totals.stand(true, false),
     },
     Ending {
         name: "even number balanced, to the last",
-        holds: |totals| totals.is_even() && totals.at(false, true),
+        holds: |totals| totals.is_even() && totals.stand(false, true),
     },
     Ending {
         name: "even number balanced, all",
-        holds: |totals| totals.is_even() && totals.at(true, true),
+        holds: |totals| totals.is_even() && totals.stand(true, true),
     },
     Ending {
         name: "no bids",
-        holds: |totals| totals.bids == 0,
+        holds: |totals| totals.tables.is_empty(),
+    },
+    Ending {
+        name: "at the price, no demand",
+        holds: |totals| totals.at_price().is_some_and(|(demand, _)| demand == 0),
+    },
+    Ending {
+        name: "at the price, demand and no supply",
+        holds: |totals| {
+            let at_price = totals.at_price();
+            at_price.is_some_and(|(demand, supply)| demand > 0 && supply == 0)
+        },
+    },
+    Ending {
+        name: "at the price, less supply than demand",
+        holds: |totals| {
+            let at_price = totals.at_price();
+            at_price.is_some_and(|(demand, supply)| demand > supply && supply > 0)
+        },
+    },
+    Ending {
+        name: "at the price, something left over",
+        holds: |totals| totals.left_over().is_some_and(|tenths| tenths > 0),
     },
 ];
 

@@ -2,7 +2,7 @@
 //! those of the two implementations, by which the hearings are counted.
 
 use clockivy_hearings::count;
-use clockivy_reference::{threshold, LAST_ROUND};
+use clockivy_reference::{threshold, DEMAND_ROUND, LAST_ROUND, SUPPLY_ROUND};
 
 use crate::record::{N, OWN, ROUND};
 
@@ -11,7 +11,13 @@ use crate::record::{N, OWN, ROUND};
 pub const REPLIES: [u64; 7] = [0, 8, 9, 10, 11, 12, 15];
 
 /// The rounds, by what their messages are.
-const ROUNDS: [&str; 3] = ["round 1", "rounds 2 to 32", "round 33"];
+const ROUNDS: [&str; 5] = [
+    "round 1",
+    "rounds 2 to 32",
+    "round 33",
+    "round 34",
+    "round 35",
+];
 
 /// Who was present, by how many and whether the hearing party is among them.
 const WHO: [&str; 6] = [
@@ -35,14 +41,17 @@ pub fn name(condition: usize) -> String {
     format!("{}: {}", ROUNDS[round], WHO[who])
 }
 
-/// Whether a hearing in this condition can give one of the replies.
+/// Whether a hearing in this condition can give one of the replies. A party that is
+/// not marked uses no totals, and the rounds of the totals read no sheet.
 pub fn can_reply(condition: usize, reply: u64) -> bool {
     let (round, who) = parts(condition);
+    let own = [0, 1, 3].contains(&who);
     match reply {
         15 => who == FEWER,
         _ if who == FEWER => false,
-        9 => [0, 1, 3].contains(&who),
-        11 => round == 0,
+        8 => own || round < 3,
+        9 => own,
+        11 => [0, 3, 4].contains(&round),
         12 => round == 2,
         _ => true,
     }
@@ -64,6 +73,8 @@ pub fn found(record: &[u64], present: &[u8]) -> usize {
     let round = match record[ROUND] {
         1 => 0,
         LAST_ROUND => 2,
+        DEMAND_ROUND => 3,
+        SUPPLY_ROUND => 4,
         _ => 1,
     };
     round * WHO.len() + who

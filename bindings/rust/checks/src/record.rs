@@ -1,6 +1,6 @@
 //! The places of a record's fields, and its roll by bidders.
 
-use clockivy_reference::{MAX_BIDS, SECOND_SEARCH};
+use clockivy_reference::{LAST_ROUND, MAX_BIDS, NO_MORE_ROUNDS, SECOND_SEARCH};
 
 /// The number of parties.
 pub const N: usize = 0;
@@ -30,6 +30,10 @@ pub const SEARCH: usize = ROLL + clockivy_reference::ROLL;
 pub const FIRST: usize = SEARCH + 1;
 /// The probes of the first search, or 0.
 pub const FIRST_PROBES: usize = SEARCH + 2;
+/// Total demand at the price, or 0.
+pub const DEMAND: usize = SEARCH + 3;
+/// Total supply at the price, or 0.
+pub const SUPPLY: usize = SEARCH + 4;
 
 /// The numbers that have a place on the roll and are no bidder's: 0, and those
 /// past the last bidder's.
@@ -64,12 +68,34 @@ pub fn marks(record: &[u64]) -> u64 {
     roll.iter().map(|word| u64::from(word.count_ones())).sum()
 }
 
-/// The probed index.
+/// The probed index or, once the totals are opened, that of the price.
 pub fn index(record: &[u64]) -> usize {
-    ((record[LO] + record[HI]) / 2) as usize
+    let [lo, hi, first] = [LO, HI, FIRST].map(|place| record[place]);
+    let index = match record[ROUND] {
+        ..=LAST_ROUND => lo.midpoint(hi),
+        _ if hi <= first => first.midpoint(hi),
+        _ => first,
+    };
+    index as usize
 }
 
 /// Whether the second search has ended.
+pub fn has_searched(record: &[u64]) -> bool {
+    record[SEARCH] == SECOND_SEARCH && record[HI].checked_sub(record[LO]) == Some(1)
+}
+
+/// Whether the searches have ended with a price: then the totals are opened.
+pub fn has_cleared(record: &[u64]) -> bool {
+    // Where the first search has found an index, so does the second, or it leaves
+    // that of the first.
+    has_searched(record) && record[FIRST] > 0
+}
+
+/// Whether nothing is left to say.
 pub fn is_over(record: &[u64]) -> bool {
-    record[SEARCH] == SECOND_SEARCH && record[HI] - record[LO] == 1
+    if has_cleared(record) {
+        record[ROUND] == NO_MORE_ROUNDS
+    } else {
+        has_searched(record)
+    }
 }

@@ -3,13 +3,14 @@
 //! can be broken by itself in a record that is otherwise sound.
 
 use clockivy_reference::{
-    probe_limit, FIRST_SEARCH, LAST_ROUND, MAX_PRICES, RECORD, SECOND_SEARCH, SUM_LIMIT,
+    probe_limit, DEMAND_ROUND, FIRST_SEARCH, LAST_ROUND, MAX_PRICES, NO_MORE_ROUNDS, RECORD,
+    SECOND_SEARCH, SUM_LIMIT, SUPPLY_ROUND, TOTAL_LIMIT,
 };
 
-use crate::generate::{any_search, first_search, second_search};
+use crate::generate::{any_search, first_search, fit_round, second_search};
 use crate::record::{
-    has_bid, mark, marks, BIDS, CARRY, FIRST, FIRST_PROBES, HI, K, LO, N, NOBODY, OWN, PROBES,
-    ROUND, SEARCH, SUM,
+    has_bid, mark, marks, BIDS, CARRY, DEMAND, FIRST, FIRST_PROBES, HI, K, LO, N, NOBODY, OWN,
+    PROBES, ROUND, SEARCH, SUM, SUPPLY,
 };
 use crate::rng::Rng;
 
@@ -22,12 +23,14 @@ struct Numbers {
     lo: i128,
     hi: i128,
     probes: i128,
-    round: i128,
+    round: u64,
     sum: i128,
     carry: i128,
     search: u64,
     first: i128,
     first_probes: i128,
+    demand: u64,
+    supply: u64,
     /// The marks on the roll, and whether one of them is nobody's.
     marks: i128,
     marks_nobody: bool,
@@ -44,12 +47,14 @@ impl Numbers {
             lo: number(LO),
             hi: number(HI),
             probes: number(PROBES),
-            round: number(ROUND),
+            round: record[ROUND],
             sum: number(SUM),
             carry: number(CARRY),
             search: record[SEARCH],
             first: number(FIRST),
             first_probes: number(FIRST_PROBES),
+            demand: record[DEMAND],
+            supply: record[SUPPLY],
             marks: i128::from(marks(record)),
             marks_nobody: NOBODY.iter().any(|&nobody| has_bid(record, nobody)),
         }
@@ -72,6 +77,21 @@ impl Numbers {
     fn own_probes(&self) -> i128 {
         self.probes - self.first_probes
     }
+
+    /// Whether both searches have ended.
+    fn has_searched(&self) -> bool {
+        self.in_second() && self.width() == 1
+    }
+
+    /// Whether they have ended with a price.
+    fn has_cleared(&self) -> bool {
+        let price = if self.hi <= self.first {
+            (self.first + self.hi) / 2
+        } else {
+            self.first
+        };
+        self.has_searched() && price != 0
+    }
 }
 
 /// The most probes of a search that can give `last`.
@@ -88,14 +108,15 @@ pub struct Clause {
 }
 
 impl Clause {
-    /// Breaks the clause in a record. Where it was sound, no other is broken.
+    /// Breaks the clause in a record. Where it was sound, no other is broken: where
+    /// the searches then have a price, or have none any more, the round is another.
     pub fn break_in(&self, rng: &mut Rng, record: &mut [u64]) {
         (self.break_in)(rng, record);
     }
 }
 
 /// All clauses.
-pub const CLAUSES: [Clause; 24] = [
+pub const CLAUSES: [Clause; 28] = [
     Clause {
         name: "n outside 3 to 9",
         broken: |r| !(3..=9).contains(&r.n),
@@ -147,15 +168,65 @@ pub const CLAUSES: [Clause; 24] = [
         },
     },
     Clause {
-        name: "round outside 1 to 33",
-        broken: |r| !(1..=i128::from(LAST_ROUND)).contains(&r.round),
+        name: "no price, or not yet: round outside 1 to 33",
+        broken: |r| !r.has_cleared() && !(1..=LAST_ROUND).contains(&r.round),
         break_in: |rng, record| {
-            record[ROUND] = if rng.once_in(2) {
-                0
-            } else {
-                at_least(rng, LAST_ROUND + 1)
+            match rng.below(8) {
+                0 => no_price(rng, record),
+                1..=4 => first_search(rng, record),
+                _ => {
+                    second_search(rng, record);
+                    if record[HI] - record[LO] == 1 {
+                        no_price(rng, record);
+                    }
+                }
+            }
+            record[ROUND] = match rng.below(4) {
+                0 => 0,
+                1..=2 => rng.between(DEMAND_ROUND, NO_MORE_ROUNDS),
+                _ => at_least(rng, LAST_ROUND + 1),
             };
         },
+    },
+    Clause {
+        name: "ended with a price: round outside 34 to 36",
+        broken: |r| r.has_cleared() && !(DEMAND_ROUND..=NO_MORE_ROUNDS).contains(&r.round),
+        break_in: |rng, record| {
+            second_search(rng, record);
+            record[FIRST] = rng.between(1, record[K].max(1));
+            record[HI] = rng.between(1, record[FIRST].saturating_add(1));
+            record[LO] = record[HI] - 1;
+            record[PROBES] = record[FIRST_PROBES] + rng.between(0, probe_limit(record[FIRST]));
+            record[ROUND] = match rng.below(4) {
+                0 => LAST_ROUND,
+                1 => rng.below(LAST_ROUND),
+                _ => at_least(rng, NO_MORE_ROUNDS + 1),
+            };
+        },
+    },
+    Clause {
+        name: "demand 2^32 or more",
+        broken: |r| r.demand >= TOTAL_LIMIT,
+        break_in: |rng, record| record[DEMAND] = at_least(rng, TOTAL_LIMIT),
+    },
+    Clause {
+        name: "supply above demand",
+        broken: |r| r.supply > r.demand && r.supply < TOTAL_LIMIT,
+        break_in: |rng, record| {
+            let demand = record[DEMAND].min(TOTAL_LIMIT - 2);
+            record[DEMAND] = demand;
+            record[SUPPLY] = if rng.once_in(2) {
+                demand + 1
+            } else {
+                rng.between(demand + 1, TOTAL_LIMIT - 1)
+            };
+        },
+    },
+    // It is above every demand that is in range, and that is counted here alone.
+    Clause {
+        name: "supply 2^32 or more",
+        broken: |r| r.supply >= TOTAL_LIMIT,
+        break_in: |rng, record| record[SUPPLY] = at_least(rng, TOTAL_LIMIT),
     },
     Clause {
         name: "sum at or above its limit",
@@ -170,12 +241,18 @@ pub const CLAUSES: [Clause; 24] = [
     Clause {
         name: "search below 1",
         broken: |r| r.search < FIRST_SEARCH,
-        break_in: |_, record| record[SEARCH] = 0,
+        break_in: |rng, record| {
+            record[SEARCH] = 0;
+            fit_round(rng, record);
+        },
     },
     Clause {
         name: "search above 2",
         broken: |r| r.search > SECOND_SEARCH,
-        break_in: |rng, record| record[SEARCH] = at_least(rng, SECOND_SEARCH + 1),
+        break_in: |rng, record| {
+            record[SEARCH] = at_least(rng, SECOND_SEARCH + 1);
+            fit_round(rng, record);
+        },
     },
     Clause {
         name: "first search: lo not below hi",
@@ -250,6 +327,7 @@ pub const CLAUSES: [Clause; 24] = [
         break_in: |rng, record| {
             second_search(rng, record);
             record[FIRST] = at_least(rng, record[K].saturating_add(1));
+            fit_round(rng, record);
         },
     },
     Clause {
@@ -290,6 +368,7 @@ pub const CLAUSES: [Clause; 24] = [
             record[HI] = rng.between(2, record[FIRST].saturating_add(1));
             record[LO] = rng.below(record[HI] - 1);
             record[PROBES] = record[FIRST_PROBES] + probe_limit(record[FIRST]);
+            fit_round(rng, record);
         },
     },
     Clause {
@@ -299,6 +378,7 @@ pub const CLAUSES: [Clause; 24] = [
             second_search(rng, record);
             record[HI] = rng.between(0, record[FIRST] + 1);
             record[LO] = at_least(rng, record[HI]);
+            fit_round(rng, record);
         },
     },
     Clause {
@@ -311,9 +391,19 @@ pub const CLAUSES: [Clause; 24] = [
             if own_probes == probe_limit(record[FIRST]) || rng.once_in(2) {
                 record[LO] = record[HI] - 1;
             }
+            fit_round(rng, record);
         },
     },
 ];
+
+/// Ends the searches of a record without a price.
+fn no_price(rng: &mut Rng, record: &mut [u64]) {
+    second_search(rng, record);
+    record[LO] = 0;
+    record[HI] = 1;
+    record[FIRST] = 0;
+    record[PROBES] = record[FIRST_PROBES];
+}
 
 /// A number that is at least so much, mostly at or near it.
 fn at_least(rng: &mut Rng, least: u64) -> u64 {
@@ -331,7 +421,7 @@ struct Standing {
     holds: fn(&Numbers) -> bool,
 }
 
-const STANDINGS: [Standing; 5] = [
+const STANDINGS: [Standing; 7] = [
     Standing {
         name: "sound: first search",
         holds: |r| r.in_first(),
@@ -341,12 +431,20 @@ const STANDINGS: [Standing; 5] = [
         holds: |r| r.in_second() && r.width() > 1,
     },
     Standing {
+        name: "sound: round 34",
+        holds: |r| r.has_cleared() && r.round == DEMAND_ROUND,
+    },
+    Standing {
+        name: "sound: round 35",
+        holds: |r| r.has_cleared() && r.round == SUPPLY_ROUND,
+    },
+    Standing {
         name: "sound: over, balanced",
-        holds: |r| r.in_second() && r.width() == 1 && r.hi <= r.first,
+        holds: |r| r.has_searched() && r.hi <= r.first,
     },
     Standing {
         name: "sound: over, none balanced",
-        holds: |r| r.in_second() && r.width() == 1 && r.hi > r.first && r.first > 0,
+        holds: |r| r.has_searched() && r.hi > r.first && r.first > 0,
     },
     Standing {
         name: "sound: over, no price",

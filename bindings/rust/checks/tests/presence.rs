@@ -9,7 +9,7 @@ use clockivy_checks::rng::Rng;
 use clockivy_checks::soundness::{found, Found};
 use clockivy_hearings::{choices, count, refused, Hearing};
 use clockivy_reference::field::amount::P;
-use clockivy_reference::{say, threshold, LAST_ROUND};
+use clockivy_reference::{say, threshold, DEMAND_ROUND, LAST_ROUND, SUPPLY_ROUND};
 
 /// The places of the slices.
 const RECORD: usize = 0;
@@ -67,7 +67,7 @@ fn with(call: &Call, present: &[u8]) -> Call {
 fn every_choice_of_who_was_present() {
     let mut rng = Rng::new(1979);
     for n in 3..=9 {
-        for round in 1..=LAST_ROUND {
+        for round in 1..=SUPPLY_ROUND {
             let call = good(&mut rng, n, round);
             let (done, left) = heard(&call);
             assert_eq!(done, 0);
@@ -97,7 +97,7 @@ fn every_choice_of_who_was_present() {
 fn one_altered_message() {
     let mut rng = Rng::new(1991);
     for n in 3..=9 {
-        for round in [1, 2, 17, 32, LAST_ROUND] {
+        for round in [1, 2, 17, 32, LAST_ROUND, DEMAND_ROUND, SUPPLY_ROUND] {
             let call = good(&mut rng, n, round);
             let own = call.words[RECORD][OWN] as usize - 1;
             for present in choices(n).filter(|present| count(present) > threshold(n)) {
@@ -105,7 +105,7 @@ fn one_altered_message() {
                     let mut altered = with(&call, &present);
                     let message = &mut altered.words[MESSAGES][place];
                     *message = match round {
-                        1 => (*message + rng.between(1, P - 1)) % P,
+                        1 | DEMAND_ROUND | SUPPLY_ROUND => (*message + rng.between(1, P - 1)) % P,
                         LAST_ROUND => *message ^ rng.between(1, 255),
                         _ => *message ^ rng.between(1, 65_535),
                     };
@@ -125,12 +125,12 @@ fn one_altered_message() {
 }
 
 /// A party that was away compares no own message and uses no totals; its sheet is
-/// judged as ever.
+/// judged as ever, where one is read.
 #[test]
 fn an_own_place_that_is_not_marked() {
     let mut rng = Rng::new(1999);
     for n in 3..=9 {
-        for round in [1, 2, 32, LAST_ROUND] {
+        for round in [1, 2, 32, LAST_ROUND, DEMAND_ROUND, SUPPLY_ROUND] {
             let call = good(&mut rng, n, round);
             let expected = heard(&call);
             let own = call.words[RECORD][OWN] as usize - 1;
@@ -141,12 +141,18 @@ fn an_own_place_that_is_not_marked() {
                 away.words[MESSAGES][own] = u64::MAX;
                 let marked = present[own] == 1;
                 match (marked, round) {
-                    (true, 1) => assert_eq!(reply(&away), 8, "given\n{away}"),
+                    (true, 1 | DEMAND_ROUND | SUPPLY_ROUND) => {
+                        assert_eq!(reply(&away), 8, "given\n{away}");
+                    }
                     (true, _) => assert_eq!(reply(&away), 9, "given\n{away}"),
                     (false, _) => assert_eq!(heard(&away), expected, "given\n{away}"),
                 }
                 away.words[SHEETS].fill(P);
-                assert_eq!(reply(&away), 8, "given\n{away}");
+                if round > LAST_ROUND && !marked {
+                    assert_eq!(heard(&away), expected, "given\n{away}");
+                } else {
+                    assert_eq!(reply(&away), 8, "given\n{away}");
+                }
             }
         }
     }
@@ -155,11 +161,13 @@ fn an_own_place_that_is_not_marked() {
 #[test]
 fn every_way_to_be_refused_and_any_two() {
     let mut rng = Rng::new(2005);
-    for _ in 0..20 {
-        // Five parties, of whom the third was away and the fourth hears.
-        let mut call = good(&mut rng, 5, 1);
-        while call.words[RECORD][OWN] != 4 || call.words[RECORD][FIRST] > 0 {
-            call = good(&mut rng, 5, 1);
+    for round in [1, DEMAND_ROUND, SUPPLY_ROUND].into_iter().cycle().take(60) {
+        // Five parties, of whom the third was away and the fourth hears: in round 1
+        // of the first search.
+        let suits = |record: &[u64]| record[OWN] == 4 && (round > 1 || record[FIRST] == 0);
+        let mut call = good(&mut rng, 5, round);
+        while !suits(&call.words[RECORD]) {
+            call = good(&mut rng, 5, round);
         }
         call.bytes[2] = 0;
         assert_eq!(reply(&call), 0);

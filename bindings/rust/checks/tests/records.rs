@@ -1,11 +1,14 @@
 //! Every clause by which a record is sound, broken by itself, on every call that
-//! judges a record and on both implementations; and sound records beside them.
+//! judges a record and on both implementations; and sound records beside them. Then
+//! every way in which a fill is refused.
 
 use clockivy_checks::call::{Call, Kind};
 use clockivy_checks::differential::{Difference, Tally};
 use clockivy_checks::generate::{call, first_search, second_search};
+use clockivy_checks::record::{has_cleared, DEMAND, ROUND, SUPPLY};
 use clockivy_checks::rng::Rng;
 use clockivy_checks::soundness::{found, name, Found, CLAUSES};
+use clockivy_reference::{LAST_ROUND, MAX_AMOUNT, NO_MORE_ROUNDS, RECORD, TOTAL_LIMIT};
 
 /// Makes the call on both and gives the reply.
 fn reply(call: &Call) -> u64 {
@@ -73,6 +76,74 @@ fn sound_searches() {
                 call.bytes.iter_mut().for_each(|mark| *mark %= 2);
                 assert!(matches!(found(&call.words[0]), Found::Sound(_)), "{call}");
                 assert_ne!(reply(&call), 1, "{call}");
+            }
+        }
+    }
+}
+
+/// A change that makes a good fill one that is refused, and with which number, in
+/// the order in which they are judged.
+type Way = (u64, fn(&mut Call));
+
+const WAYS: [Way; 14] = [
+    // Without a record nothing else is judged.
+    (2, |call| call.words[0].resize(0, 0)),
+    (2, |call| call.words[0].resize(RECORD - 1, 0)),
+    (2, |call| call.words[0].resize(RECORD + 1, 0)),
+    (1, |call| put(call, DEMAND, TOTAL_LIMIT)),
+    (1, |call| put(call, SUPPLY, TOTAL_LIMIT)),
+    (1, |call| put(call, SUPPLY, 21)),
+    (1, |call| put(call, ROUND, LAST_ROUND)),
+    (1, |call| put(call, ROUND, NO_MORE_ROUNDS + 1)),
+    (1, |call| put(call, ROUND, u64::MAX)),
+    (16, |call| put_round(call, LAST_ROUND + 1)),
+    (16, |call| put_round(call, NO_MORE_ROUNDS - 1)),
+    (6, |call| call.amount = MAX_AMOUNT + 1),
+    (6, |call| call.amount = 1 << 32),
+    (6, |call| call.amount = u64::MAX),
+];
+
+/// Puts a word into the record, where it is long enough.
+fn put(call: &mut Call, place: usize, word: u64) {
+    if let Some(held) = call.words[0].get_mut(place) {
+        *held = word;
+    }
+}
+
+/// Another round, unless it is one that is none.
+fn put_round(call: &mut Call, round: u64) {
+    if call.words[0].get(ROUND) == Some(&NO_MORE_ROUNDS) {
+        put(call, ROUND, round);
+    }
+}
+
+/// A fill by a record with a price, demand 20 and supply 15.
+fn good(rng: &mut Rng, amount: u64) -> Call {
+    loop {
+        let mut call = sound(rng, Kind::Fill);
+        let record = &mut call.words[0];
+        if has_cleared(record) {
+            [record[ROUND], record[DEMAND], record[SUPPLY]] = [NO_MORE_ROUNDS, 20, 15];
+            call.amount = amount;
+            return call;
+        }
+    }
+}
+
+#[test]
+fn every_way_to_be_refused_a_fill_and_any_two() {
+    let mut rng = Rng::new(2007);
+    for amount in [0, 1, 7, 20, MAX_AMOUNT] {
+        assert_eq!(reply(&good(&mut rng, amount)), 0);
+        for (place, (number, change)) in WAYS.into_iter().enumerate() {
+            let mut call = good(&mut rng, amount);
+            change(&mut call);
+            assert_eq!(reply(&call), number, "given\n{call}");
+            for (number, change) in &WAYS[place..] {
+                let mut both = call.clone();
+                change(&mut both);
+                let first = WAYS[place].0;
+                assert_eq!(reply(&both), first, "{number} after\n{call}");
             }
         }
     }

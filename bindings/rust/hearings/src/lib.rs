@@ -4,6 +4,7 @@
 #![forbid(unsafe_code)]
 
 use std::iter;
+use std::ops::RangeInclusive;
 
 const PRIME: u64 = (1 << 61) - 1;
 /// The words of a sheet.
@@ -12,10 +13,13 @@ const SHEET: usize = 127;
 const LO: usize = 4;
 const HI: usize = 5;
 const PROBES: usize = 6;
+const ROUND: usize = 7;
 const CARRY: usize = 9;
 const SEARCH: usize = 26;
 const FIRST: usize = 27;
 const FIRST_PROBES: usize = 28;
+const DEMAND: usize = 29;
+const SUPPLY: usize = 30;
 
 /// Every choice of who was present among so many.
 pub fn choices(n: u64) -> impl Iterator<Item = Vec<u8>> {
@@ -49,32 +53,45 @@ pub struct Hearing {
     pub present: Vec<u8>,
 }
 
-/// A change of a hearing, and the number of the refusal that it then meets.
-type Way = (u64, fn(&mut Hearing));
+/// A change of a hearing, the number of the refusal that it then meets, and the
+/// rounds in which it does.
+type Way = (u64, Rounds, fn(&mut Hearing));
+type Rounds = RangeInclusive<u64>;
+
+const ANY: Rounds = 1..=35;
+/// The round of a probe whose messages are amounts.
+const SUM: Rounds = 1..=1;
+/// The rounds of the totals at the price.
+const TOTALS: Rounds = 34..=35;
 
 /// In the order in which they are judged.
-const WAYS: [Way; 28] = [
-    (1, |h| put(&mut h.record, CARRY, 256)),
-    (1, |h| put(&mut h.present, 0, 2)),
-    (1, |h| put(&mut h.present, 2, 255)),
-    (1, |h| put(&mut h.present, 3, 128)),
+const WAYS: [Way; 33] = [
+    (1, ANY, |h| put(&mut h.record, CARRY, 256)),
+    (1, ANY, |h| put(&mut h.record, DEMAND, 1 << 32)),
+    (1, ANY, |h| {
+        let demand = h.record.get(DEMAND).copied().unwrap_or(0);
+        put(&mut h.record, SUPPLY, demand + 1);
+    }),
+    (1, ANY, |h| put(&mut h.present, 0, 2)),
+    (1, ANY, |h| put(&mut h.present, 2, 255)),
+    (1, ANY, |h| put(&mut h.present, 3, 128)),
     // In a slice that is too long.
-    (1, |h| {
+    (1, ANY, |h| {
         h.present.resize(9, 1);
         put(&mut h.present, 1, 3);
     }),
-    (2, |h| h.totals.clear()),
-    (2, |h| h.totals.push(0)),
-    (2, |h| h.totals.resize(4_000, 0)),
-    (2, |h| h.sheets.truncate(SHEET)),
-    (2, |h| h.sheets.push(0)),
-    (2, |h| h.sheets.resize(9_000, 0)),
-    (2, |h| h.messages.truncate(4)),
-    (2, |h| h.messages.resize(6, 0)),
-    (2, |h| h.present.truncate(4)),
-    (2, |h| h.present.resize(6, 0)),
+    (2, ANY, |h| h.totals.clear()),
+    (2, ANY, |h| h.totals.push(0)),
+    (2, ANY, |h| h.totals.resize(4_000, 0)),
+    (2, ANY, |h| h.sheets.truncate(SHEET)),
+    (2, ANY, |h| h.sheets.push(0)),
+    (2, ANY, |h| h.sheets.resize(9_000, 0)),
+    (2, ANY, |h| h.messages.truncate(4)),
+    (2, ANY, |h| h.messages.resize(6, 0)),
+    (2, ANY, |h| h.present.truncate(4)),
+    (2, ANY, |h| h.present.resize(6, 0)),
     // The first search has given 0, and with that all is over.
-    (3, |h| {
+    (3, SUM, |h| {
         let probes = h.record.get(PROBES).copied().unwrap_or(0);
         let fields = [
             (LO, 0),
@@ -87,36 +104,39 @@ const WAYS: [Way; 28] = [
             put(&mut h.record, place, word);
         }
     }),
-    (15, |h| take_marks(h, &[0, 1, 2])),
-    (15, |h| take_marks(h, &[1, 2, 4])),
-    (15, |h| take_marks(h, &[1, 3])),
-    (15, |h| take_marks(h, &[0, 1, 2, 3, 4])),
+    // Both totals are opened.
+    (3, TOTALS, |h| put(&mut h.record, ROUND, 36)),
+    (15, ANY, |h| take_marks(h, &[0, 1, 2])),
+    (15, ANY, |h| take_marks(h, &[1, 2, 4])),
+    (15, ANY, |h| take_marks(h, &[1, 3])),
+    (15, ANY, |h| take_marks(h, &[0, 1, 2, 3, 4])),
     // At every index, and in every sheet: whichever the party has come to.
-    (8, |h| {
-        let k = h.totals.len() / 2;
-        h.totals[..k].fill(PRIME);
-    }),
-    (8, |h| {
-        let k = h.totals.len() / 2;
-        h.totals[k..].fill(u64::MAX);
-    }),
-    (8, |h| put_in_sheets(h, 0, PRIME)),
-    (8, |h| put_in_sheets(h, SHEET - 1, 256)),
-    (9, |h| add_to_message(h, 3)),
-    (9, |h| put(&mut h.messages, 3, 12_345)),
-    (10, |h| put(&mut h.messages, 0, PRIME)),
-    (10, |h| add_to_message(h, 1)),
+    (8, SUM, |h| fill_demand(h, PRIME)),
+    (8, SUM, |h| fill_supply(h, u64::MAX)),
+    (8, 34..=34, |h| fill_demand(h, PRIME)),
+    (8, 35..=35, |h| fill_supply(h, u64::MAX)),
+    (8, SUM, |h| put_in_sheets(h, 0, PRIME)),
+    (8, SUM, |h| put_in_sheets(h, SHEET - 1, 256)),
+    (9, ANY, |h| add_to_message(h, 3)),
+    (9, ANY, |h| put(&mut h.messages, 3, 12_345)),
+    (10, ANY, |h| put(&mut h.messages, 0, PRIME)),
+    (10, ANY, |h| add_to_message(h, 1)),
 ];
 
 /// A hearing changed in every way to be refused and in any two of them, made in
 /// either order; each with the number of its refusal, which is that of the way judged
 /// first. The hearing is that of the fourth of five parties in round 1 of the first
-/// search, all but the third being present, and its messages open.
+/// search, or in round 34 or 35, all but the third being present, and its messages
+/// open.
 pub fn refused(good: &Hearing) -> impl Iterator<Item = (Hearing, u64)> + '_ {
-    let ways = || WAYS.into_iter().enumerate();
-    let pairs = ways().flat_map(move |one| ways().map(move |other| (one, other)));
+    let round = good.record[ROUND];
+    let ways = move || {
+        let all = WAYS.into_iter().enumerate();
+        all.filter(move |(_, (_, rounds, _))| rounds.contains(&round))
+    };
+    let pairs = ways().flat_map(move |one| ways().map(move |other| (one.clone(), other)));
     pairs.map(
-        |((place, (number, change)), (other_place, (other, another)))| {
+        |((place, (number, _, change)), (other_place, (other, _, another)))| {
             let mut hearing = good.clone();
             change(&mut hearing);
             if place != other_place {
@@ -126,6 +146,18 @@ pub fn refused(good: &Hearing) -> impl Iterator<Item = (Hearing, u64)> + '_ {
             (hearing, first)
         },
     )
+}
+
+/// Puts a word into every place of the demand.
+fn fill_demand(hearing: &mut Hearing, word: u64) {
+    let k = hearing.totals.len() / 2;
+    hearing.totals[..k].fill(word);
+}
+
+/// Puts a word into every place of the supply.
+fn fill_supply(hearing: &mut Hearing, word: u64) {
+    let k = hearing.totals.len() / 2;
+    hearing.totals[k..].fill(word);
 }
 
 /// Writes an element, where there is such a place.

@@ -1,4 +1,4 @@
-//! A plain implementation of the auction's eight calls, written from the paper
+//! A plain implementation of the auction's nine calls, written from the paper
 //! and, for the layout of a record, from the C header: the ordinary loops,
 //! 128-bit products, one test after the other. The library is compared with it
 //! call by call, and timed against it.
@@ -10,6 +10,8 @@
 #![forbid(unsafe_code)]
 
 pub mod field;
+
+use std::ops::RangeInclusive;
 
 use field::{amount, byte};
 
@@ -26,11 +28,12 @@ const SUM_OUT_OF_RANGE: u64 = 11;
 const VERDICT_NOT_BIT: u64 = 12;
 const ALREADY_ENTERED: u64 = 14;
 const TOO_FEW_PRESENT: u64 = 15;
+const NOT_CLEARED: u64 = 16;
 
 /// The words of a roll, with a bit for each bidder's number.
 pub const ROLL: usize = 16;
-/// The words of a party's record: ten numbers, the roll, and three numbers.
-pub const RECORD: usize = 10 + ROLL + 3;
+/// The words of a party's record: ten numbers, the roll, and five numbers.
+pub const RECORD: usize = 10 + ROLL + 5;
 /// The words of one probe's preprocessing.
 pub const SHEET: usize = 127;
 /// The most bids that are held, and the highest bidder number.
@@ -47,6 +50,14 @@ pub const SUM_LOW: u64 = (1 << 58) + 2;
 pub const SUM_LIMIT: u64 = (1 << 59) + (1 << 33);
 /// The last round of a probe.
 pub const LAST_ROUND: u64 = 33;
+/// The round in which total demand at the price is opened.
+pub const DEMAND_ROUND: u64 = 34;
+/// The round in which total supply at the price is opened.
+pub const SUPPLY_ROUND: u64 = 35;
+/// The round at which a session that has a price is over.
+pub const NO_MORE_ROUNDS: u64 = 36;
+/// The opened totals are below this.
+pub const TOTAL_LIMIT: u64 = 1 << 32;
 /// The search for the highest index with demand at least supply.
 pub const FIRST_SEARCH: u64 = 1;
 /// The search for the lowest index, up to that one, with supply at least demand.
@@ -126,6 +137,11 @@ pub fn answer(record: &[u64], index: &mut u64, probes: &mut u64) -> u64 {
     reply(try_answer(record, index, probes))
 }
 
+/// Writes what a buyer of this amount gets at the price, and the remainder.
+pub fn fill(record: &[u64], amount: u64, hours: &mut u64, remainder: &mut u64) -> u64 {
+    reply(try_fill(record, amount, hours, remainder))
+}
+
 fn reply(outcome: Result<(), u64>) -> u64 {
     match outcome {
         Ok(()) => 0,
@@ -171,6 +187,8 @@ fn try_open(n: u64, own: u64, k: u64, totals: &mut [u64], record: &mut [u64]) ->
         search: FIRST_SEARCH,
         first: 0,
         first_probes: 0,
+        demand: 0,
+        supply: 0,
     };
     opened.write(record);
     Ok(())
@@ -309,8 +327,10 @@ fn try_say(record: &[u64], totals: &[u64], sheets: &[u64], message: &mut u64) ->
     need(party.lengths_fit(totals, sheets), WRONG_LENGTH)?;
     need(!party.is_over(), OUT_OF_TURN)?;
     need(party.totals_in_range(totals), SHARE_OUT_OF_RANGE)?;
-    let sheet = party.current_sheet(sheets)?;
-    *message = party.message(totals, &sheet);
+    *message = match party.total_share(totals) {
+        Some(share) => share,
+        None => party.message(totals, &party.current_sheet(sheets)?),
+    };
     Ok(())
 }
 
@@ -336,15 +356,20 @@ fn try_hear(
     // party was present.
     let here = present[own] == 1;
     need(!here || party.totals_in_range(totals), SHARE_OUT_OF_RANGE)?;
-    let sheet = party.current_sheet(sheets)?;
-    need(
-        !here || messages[own] == party.message(totals, &sheet),
-        OWN_MESSAGE_DIFFERS,
-    )?;
-    match party.round {
-        1 => party.hear_sum(&sheet, &heard)?,
-        LAST_ROUND => party.hear_verdict(&heard)?,
-        _ => party.hear_product(&sheet, &heard)?,
+    if let Some(share) = party.total_share(totals) {
+        need(!here || messages[own] == share, OWN_MESSAGE_DIFFERS)?;
+        party.hear_total(&heard)?;
+    } else {
+        let sheet = party.current_sheet(sheets)?;
+        need(
+            !here || messages[own] == party.message(totals, &sheet),
+            OWN_MESSAGE_DIFFERS,
+        )?;
+        match party.round {
+            1 => party.hear_sum(&sheet, &heard)?,
+            LAST_ROUND => party.hear_verdict(&heard)?,
+            _ => party.hear_product(&sheet, &heard)?,
+        }
     }
     party.write(record);
     Ok(())
@@ -358,6 +383,17 @@ fn try_answer(record: &[u64], index: &mut u64, probes: &mut u64) -> Result<(), u
     Ok(())
 }
 
+fn try_fill(record: &[u64], amount: u64, hours: &mut u64, remainder: &mut u64) -> Result<(), u64> {
+    let party = Record::read(record)?;
+    need(party.has_cleared() && party.is_over(), NOT_CLEARED)?;
+    need(amount <= MAX_AMOUNT, AMOUNT_TOO_LARGE)?;
+    // Without demand nobody buys.
+    let (product, demand) = (amount * party.supply, party.demand);
+    *hours = product.checked_div(demand).unwrap_or(0);
+    *remainder = product.checked_rem(demand).unwrap_or(0);
+    Ok(())
+}
+
 /// The number of marks on a roll.
 fn marks(roll: &[u64; ROLL]) -> u64 {
     roll.iter().map(|word| u64::from(word.count_ones())).sum()
@@ -366,6 +402,11 @@ fn marks(roll: &[u64; ROLL]) -> u64 {
 /// Whether a roll has no mark below bidder 1 and none past bidder 1,000.
 fn marks_bidders_alone(roll: &[u64; ROLL]) -> bool {
     roll[0] & 1 == 0 && roll[ROLL - 1] >> (MAX_BIDS % 64 + 1) == 0
+}
+
+/// Whether these can be total demand and total supply at the price.
+fn are_totals(demand: u64, supply: u64) -> bool {
+    demand < TOTAL_LIMIT && supply < TOTAL_LIMIT && supply <= demand
 }
 
 /// Bit `i` of a number, bit 1 being the lowest.
@@ -391,6 +432,9 @@ struct Record {
     /// The index that the first search gave, and its probes; 0 until it ends.
     first: u64,
     first_probes: u64,
+    /// Total demand and total supply at the price, once they are opened.
+    demand: u64,
+    supply: u64,
 }
 
 /// The preprocessing of the current probe, judged.
@@ -465,13 +509,13 @@ impl Record {
     fn read(words: &[u64]) -> Result<Record, u64> {
         let words: &[u64; RECORD] = words.try_into().map_err(|_| WRONG_LENGTH)?;
         let &[n, own, k, bids, lo, hi, probes, round, sum, carry, rest @ ..] = words;
-        let [roll @ .., search, first, first_probes] = rest;
+        let [roll @ .., search, first, first_probes, demand, supply] = rest;
         need(party_in_range(n, own) && prices_in_range(k), OUT_OF_RANGE)?;
         need(bids == marks(&roll), OUT_OF_RANGE)?;
         need(marks_bidders_alone(&roll), OUT_OF_RANGE)?;
-        need((1..=LAST_ROUND).contains(&round), OUT_OF_RANGE)?;
         need(sum < SUM_LIMIT, OUT_OF_RANGE)?;
         need(carry <= 255, OUT_OF_RANGE)?;
+        need(are_totals(demand, supply), OUT_OF_RANGE)?;
         let party = Record {
             n,
             own,
@@ -487,14 +531,17 @@ impl Record {
             search,
             first,
             first_probes,
+            demand,
+            supply,
         };
         need(party.search_in_range(), OUT_OF_RANGE)?;
+        need(party.rounds().contains(&round), OUT_OF_RANGE)?;
         Ok(party)
     }
 
     fn write(&self, words: &mut [u64]) {
         let (numbers, rest) = words.split_at_mut(10);
-        let (roll, searches) = rest.split_at_mut(ROLL);
+        let (roll, others) = rest.split_at_mut(ROLL);
         numbers.copy_from_slice(&[
             self.n,
             self.own,
@@ -508,7 +555,23 @@ impl Record {
             self.carry,
         ]);
         roll.copy_from_slice(&self.roll);
-        searches.copy_from_slice(&[self.search, self.first, self.first_probes]);
+        others.copy_from_slice(&[
+            self.search,
+            self.first,
+            self.first_probes,
+            self.demand,
+            self.supply,
+        ]);
+    }
+
+    /// The rounds that a record may stand at: those of a probe or, once the
+    /// searches have ended with a price, those of the totals and the one after.
+    fn rounds(&self) -> RangeInclusive<u64> {
+        if self.has_cleared() {
+            DEMAND_ROUND..=NO_MORE_ROUNDS
+        } else {
+            1..=LAST_ROUND
+        }
     }
 
     /// Whether the numbers of the search that is on are within their ranges. A
@@ -557,12 +620,28 @@ impl Record {
         self.bids += 1;
     }
 
-    fn is_over(&self) -> bool {
+    /// Whether both searches have ended.
+    fn has_searched(&self) -> bool {
         self.search == SECOND_SEARCH && self.has_ended()
     }
 
-    /// The index of the price, when over: the middle of those at which demand
-    /// equals supply or, where there are none, what the first search gave.
+    /// Whether the searches have ended with a price.
+    fn has_cleared(&self) -> bool {
+        self.has_searched() && self.price() != 0
+    }
+
+    /// Whether nothing is left to say: without a price there are no totals.
+    fn is_over(&self) -> bool {
+        if self.has_cleared() {
+            self.round == NO_MORE_ROUNDS
+        } else {
+            self.has_searched()
+        }
+    }
+
+    /// The index of the price, when the searches have ended: the middle of those
+    /// at which demand equals supply or, where there are none, what the first
+    /// search gave.
     fn price(&self) -> u64 {
         let lowest = self.hi;
         if lowest <= self.first {
@@ -581,19 +660,32 @@ impl Record {
         totals.len() == 2 * self.k as usize && sheets.len() == SHEET * sheet_count(self.k) as usize
     }
 
-    /// This party's shares of total demand and total supply at the probed index.
-    fn totals_at_index(&self, totals: &[u64]) -> (u64, u64) {
-        let place = self.index() as usize - 1;
+    /// This party's shares of total demand and total supply at an index.
+    fn totals_at(&self, index: u64, totals: &[u64]) -> (u64, u64) {
+        let place = index as usize - 1;
         (totals[place], totals[self.k as usize + place])
     }
 
-    /// Whether the totals that the message of this round uses are shares. Only
-    /// that of round 1 uses any.
+    /// The share that is this party's message in the two rounds of the totals,
+    /// and nothing in the rounds of a probe.
+    fn total_share(&self, totals: &[u64]) -> Option<u64> {
+        match self.round {
+            DEMAND_ROUND => Some(self.totals_at(self.price(), totals).0),
+            SUPPLY_ROUND => Some(self.totals_at(self.price(), totals).1),
+            _ => None,
+        }
+    }
+
+    /// Whether the totals that the message of this round uses are shares. Of a
+    /// probe only round 1 uses any.
     fn totals_in_range(&self, totals: &[u64]) -> bool {
+        if let Some(share) = self.total_share(totals) {
+            return share < amount::P;
+        }
         if self.round != 1 {
             return true;
         }
-        let (demand, supply) = self.totals_at_index(totals);
+        let (demand, supply) = self.totals_at(self.index(), totals);
         demand < amount::P && supply < amount::P
     }
 
@@ -608,11 +700,11 @@ impl Record {
         Ok(Sheet { words })
     }
 
-    /// What this party says in the current round.
+    /// What this party says in the current round of a probe.
     fn message(&self, totals: &[u64], sheet: &Sheet) -> u64 {
         match self.round {
             1 => {
-                let (demand, supply) = self.totals_at_index(totals);
+                let (demand, supply) = self.totals_at(self.index(), totals);
                 let (plus, minus) = match self.search {
                     FIRST_SEARCH => (demand, supply),
                     _ => (supply, demand),
@@ -639,9 +731,7 @@ impl Record {
 
     /// Round 1: opens the masked sum and starts the carries.
     fn hear_sum(&mut self, sheet: &Sheet, heard: &Heard) -> Result<(), u64> {
-        let words = heard.words();
-        need(words.iter().all(|&word| word < amount::P), INCONSISTENT)?;
-        let sum = amount::open(heard.points(), words, threshold(self.n)).ok_or(INCONSISTENT)?;
+        let sum = self.open_amount(heard)?;
         need((SUM_LOW..SUM_LIMIT).contains(&sum), SUM_OUT_OF_RANGE)?;
         let sum_bit = bit(sum, 1);
         let c = byte::add(sheet.bit(1), sum_bit);
@@ -686,7 +776,29 @@ impl Record {
         if self.search == FIRST_SEARCH && self.has_ended() {
             self.begin_second();
         }
+        if self.has_cleared() {
+            self.round = DEMAND_ROUND;
+        }
         Ok(())
+    }
+
+    /// Rounds 34 and 35: opens total demand and then total supply.
+    fn hear_total(&mut self, heard: &Heard) -> Result<(), u64> {
+        let total = self.open_amount(heard)?;
+        match self.round {
+            DEMAND_ROUND => self.demand = total,
+            _ => self.supply = total,
+        }
+        need(are_totals(self.demand, self.supply), SUM_OUT_OF_RANGE)?;
+        self.round += 1;
+        Ok(())
+    }
+
+    /// The amount of which the words are shares.
+    fn open_amount(&self, heard: &Heard) -> Result<u64, u64> {
+        let words = heard.words();
+        need(words.iter().all(|&word| word < amount::P), INCONSISTENT)?;
+        amount::open(heard.points(), words, threshold(self.n)).ok_or(INCONSISTENT)
     }
 
     /// Keeps what the first search came to and begins the second.

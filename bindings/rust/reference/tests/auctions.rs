@@ -1,19 +1,24 @@
 //! Whole auctions by the plain calls, each against its totals in the clear: the
-//! verdicts, what the first search gives, and the price. In some of them parties
-//! drop off, and come back or do not.
+//! verdicts, what the first search gives, the price, the totals that are opened
+//! there and what each buyer gets. In some of them parties drop off, and come back
+//! or do not.
 
 use clockivy_reference::{
-    add, answer, deal, hear, open, probe_limit, say, sheet_count, split, threshold, FIRST_SEARCH,
-    LAST_ROUND, RECORD, SECOND_SEARCH, SHEET,
+    add, answer, deal, fill, hear, open, probe_limit, say, sheet_count, split, threshold,
+    DEMAND_ROUND, FIRST_SEARCH, LAST_ROUND, MAX_AMOUNT, NO_MORE_ROUNDS, RECORD, SECOND_SEARCH,
+    SHEET, SUPPLY_ROUND,
 };
 
 /// The places of a record's fields.
 const LO: usize = 4;
 const HI: usize = 5;
 const PROBES: usize = 6;
+const ROUND: usize = 7;
 const SEARCH: usize = 26;
 const FIRST: usize = 27;
 const FIRST_PROBES: usize = 28;
+const DEMAND: usize = 29;
+const SUPPLY: usize = 30;
 
 /// Total demand and total supply at each price.
 struct Totals {
@@ -90,9 +95,16 @@ struct Round {
     present: Vec<u8>,
 }
 
-/// Whether a party, from 1 to n, is away in a round, counted from 0 over all
-/// probes.
-type Away = fn(n: u64, party: u64, round: usize) -> bool;
+/// When a round is: counted from 0 over the whole auction, and by its number, 1 to
+/// 33 in each probe and then 34 and 35.
+#[derive(Clone, Copy)]
+struct When {
+    count: usize,
+    round: u64,
+}
+
+/// Whether a party, from 1 to n, is away in a round.
+type Away = fn(n: u64, party: u64, when: When) -> bool;
 
 /// Everybody is there.
 const NOBODY: Away = |_, _, _| false;
@@ -137,30 +149,40 @@ fn probe(seats: &mut [Seat], rounds: &mut Vec<Round>, away: Away, coins: &mut Co
         assert_eq!(deal(n, own, &words, &bytes, sheet), 0);
     }
     for _ in 1..=LAST_ROUND {
-        let number = rounds.len();
-        let mut round = Round {
-            messages: coins.words(seats.len()),
-            present: vec![0; seats.len()],
-        };
-        for (place, seat) in seats.iter_mut().enumerate() {
-            if !away(n, place as u64 + 1, number) {
-                // A party that comes back hears what it has missed, in order.
-                catch_up(seat, rounds);
-                round.present[place] = 1;
-                let message = &mut round.messages[place];
-                assert_eq!(say(&seat.record, &seat.totals, &seat.sheets, message), 0);
-            }
+        one_round(seats, rounds, away, coins);
+    }
+}
+
+/// One round, of a probe or of the totals.
+fn one_round(seats: &mut [Seat], rounds: &mut Vec<Round>, away: Away, coins: &mut Coins) {
+    let n = seats.len() as u64;
+    let when = When {
+        count: rounds.len(),
+        round: front(seats, rounds).record[ROUND],
+    };
+    let mut round = Round {
+        messages: coins.words(seats.len()),
+        present: vec![0; seats.len()],
+    };
+    for (place, seat) in seats.iter_mut().enumerate() {
+        if !away(n, place as u64 + 1, when) {
+            // A party that comes back hears what it has missed, in order.
+            catch_up(seat, rounds);
+            round.present[place] = 1;
+            let message = &mut round.messages[place];
+            assert_eq!(say(&seat.record, &seat.totals, &seat.sheets, message), 0);
         }
-        rounds.push(round);
-        for (own, seat) in (1..).zip(seats.iter_mut()) {
-            if !away(n, own, number) {
-                catch_up(seat, rounds);
-            }
+    }
+    rounds.push(round);
+    for (own, seat) in (1..).zip(seats.iter_mut()) {
+        if !away(n, own, when) {
+            catch_up(seat, rounds);
         }
     }
 }
 
-/// A party hears all rounds that it has not heard yet.
+/// A party hears all rounds that it has not heard yet. What stood in the place of
+/// a sheet that has been used is none from then on.
 fn catch_up(seat: &mut Seat, rounds: &[Round]) {
     let Seat {
         record,
@@ -203,7 +225,7 @@ fn run_without(away: Away, n: u64, k: u64, bids: &[Vec<u64>]) -> u64 {
     while hi - lo > 1 {
         let record = &front(&seats, &rounds).record;
         assert_eq!(search(record), [FIRST_SEARCH, lo, hi, 0, 0]);
-        assert_eq!(answer(record, &mut 0, &mut 0), 3);
+        assert_going_on(record);
         let index = (lo + hi) / 2;
         let (demand, supply) = totals.at(index);
         probe(&mut seats, &mut rounds, away, &mut coins);
@@ -224,7 +246,7 @@ fn run_without(away: Away, n: u64, k: u64, bids: &[Vec<u64>]) -> u64 {
         if hi - lo == 1 {
             break;
         }
-        assert_eq!(answer(record, &mut 0, &mut 0), 3);
+        assert_going_on(record);
         let index = (lo + hi) / 2;
         let (demand, supply) = totals.at(index);
         probe(&mut seats, &mut rounds, away, &mut coins);
@@ -237,19 +259,72 @@ fn run_without(away: Away, n: u64, k: u64, bids: &[Vec<u64>]) -> u64 {
     }
     assert!(first_probes <= probe_limit(k));
     assert!(probes - first_probes <= probe_limit(first));
+    if totals.price() > 0 {
+        for round in [DEMAND_ROUND, SUPPLY_ROUND] {
+            let record = &front(&seats, &rounds).record;
+            assert_eq!(record[ROUND], round);
+            assert_going_on(record);
+            one_round(&mut seats, &mut rounds, away, &mut coins);
+        }
+    }
     let mut answered = 0;
     for seat in &seats {
-        let (mut index, mut made) = (0, 0);
-        let reply = answer(&seat.record, &mut index, &mut made);
         if seat.heard < rounds.len() {
-            assert_eq!(reply, 3);
+            assert_going_on(&seat.record);
             continue;
         }
+        let (mut index, mut made) = (0, 0);
+        let reply = answer(&seat.record, &mut index, &mut made);
         assert_eq!((reply, index, made), (0, totals.price(), probes));
         assert_silent(seat, n as usize);
+        assert_filled(&seat.record, &totals, bids);
         answered += 1;
     }
     answered
+}
+
+/// Before the auction is over, there is no answer and no fill.
+fn assert_going_on(record: &[u64; RECORD]) {
+    assert_eq!(answer(record, &mut 0, &mut 0), 3);
+    assert_eq!(fill(record, 0, &mut 0, &mut 0), 16);
+}
+
+/// The totals in a record that is over, and what each bid gets by them.
+fn assert_filled(record: &[u64; RECORD], totals: &Totals, bids: &[Vec<u64>]) {
+    let price = totals.price();
+    let mut left = (7, 8);
+    if price == 0 {
+        assert_eq!([record[ROUND], record[DEMAND], record[SUPPLY]], [1, 0, 0]);
+        for amount in [0, 1, u64::MAX] {
+            assert_eq!(fill(record, amount, &mut left.0, &mut left.1), 16);
+        }
+        assert_eq!(left, (7, 8));
+        return;
+    }
+    let (demand, supply) = totals.at(price);
+    let opened = [record[ROUND], record[DEMAND], record[SUPPLY]];
+    assert_eq!(opened, [NO_MORE_ROUNDS, demand, supply]);
+    let (mut sold, mut remainders, mut buyers) = (0, 0, 0);
+    for table in bids {
+        let amount = table[price as usize - 1];
+        let (mut hours, mut remainder) = (7, 8);
+        assert_eq!(fill(record, amount, &mut hours, &mut remainder), 0);
+        assert_eq!(hours * demand + remainder, amount * supply);
+        assert!(hours <= amount && remainder < demand.max(1));
+        sold += hours;
+        remainders += remainder;
+        buyers += u64::from(amount > 0);
+    }
+    assert_eq!(sold * demand + remainders, demand * supply);
+    if demand > 0 {
+        assert!(supply - sold < buyers);
+    }
+    // Of any amount, and one that is too large.
+    assert_eq!(fill(record, MAX_AMOUNT, &mut 0, &mut 0), 0);
+    for amount in [MAX_AMOUNT + 1, u64::MAX] {
+        assert_eq!(fill(record, amount, &mut left.0, &mut left.1), 6);
+    }
+    assert_eq!(left, (7, 8));
 }
 
 /// When the auction is over, nothing is said or heard.
@@ -343,18 +418,26 @@ fn spare(n: u64) -> u64 {
 
 /// A window of so many parties as can be away moves on by one every third round,
 /// so that each comes back in the middle of a probe and drops off again.
-const IN_TURN: Away = |n, party, round| (party + round as u64 / 3) % n < spare(n);
+const IN_TURN: Away = |n, party, when| (party + when.count as u64 / 3) % n < spare(n);
 
 /// The first parties drop off in round 20 of the first probe and hear no more.
-const FOR_GOOD: Away = |n, party, round| party <= spare(n) && round >= 20;
+const FOR_GOOD: Away = |n, party, when| party <= spare(n) && when.count >= 20;
 
 /// The last parties miss three rounds of each probe, the verdict's among them.
-const OVER_THE_END: Away = |n, party, round| party > n - spare(n) && (round + 2) % 33 < 3;
+const OVER_THE_END: Away =
+    |n, party, when| party > n - spare(n) && [32, 33, 1].contains(&when.round);
 
 /// The second party misses the whole first probe and more, and then the first two
 /// rounds of the fourth.
 const A_WHOLE_PROBE: Away =
-    |_, party, round| party == 2 && (round < 40 || (99..101).contains(&round));
+    |_, party, when| party == 2 && (when.count < 40 || (99..101).contains(&when.count));
+
+/// The last parties miss the round of total demand, and hear it before they say
+/// their share of supply.
+const WITHOUT_DEMAND: Away = |n, party, when| party > n - spare(n) && when.round == DEMAND_ROUND;
+
+/// The first parties hear neither total.
+const WITHOUT_TOTALS: Away = |n, party, when| party <= spare(n) && when.round > LAST_ROUND;
 
 #[test]
 fn parties_that_drop_off() {
@@ -365,12 +448,17 @@ fn parties_that_drop_off() {
     ];
     for n in 3..=9 {
         for bids in [&bids[..], &bids[..2], &bids[2..], &[]] {
+            let clears = Totals::of(5, bids).price() > 0;
             let answered = |away| run_without(away, n, 5, bids);
             assert_eq!(answered(IN_TURN), n - spare(n));
             assert_eq!(answered(FOR_GOOD), n - spare(n));
-            // The last round is among those that are missed.
-            assert_eq!(answered(OVER_THE_END), n - spare(n));
+            // Without a price the last round is one that is missed.
+            let missed = if clears { 0 } else { spare(n) };
+            assert_eq!(answered(OVER_THE_END), n - missed);
             assert_eq!(answered(A_WHOLE_PROBE), n);
+            assert_eq!(answered(WITHOUT_DEMAND), n);
+            let missed = if clears { spare(n) } else { 0 };
+            assert_eq!(answered(WITHOUT_TOTALS), n - missed);
         }
     }
 }

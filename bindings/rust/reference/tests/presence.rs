@@ -3,20 +3,34 @@
 use clockivy_hearings::{choices, count, refused, Hearing};
 use clockivy_reference::field::amount::P;
 use clockivy_reference::field::{amount, byte};
-use clockivy_reference::{hear, say, sheet_count, threshold, LAST_ROUND, RECORD, SHEET};
+use clockivy_reference::{
+    hear, say, sheet_count, threshold, DEMAND_ROUND, LAST_ROUND, RECORD, SHEET, SUPPLY_ROUND,
+    TOTAL_LIMIT,
+};
 
 /// The places of a record's fields.
 const ROUND: usize = 7;
 const SUM: usize = 8;
 const SEARCH: usize = 26;
+const DEMAND: usize = 29;
+const SUPPLY: usize = 30;
 
 /// A hearing of this round over two prices. The messages open to these, the two
-/// bytes apart in rounds 2 to 32; all are present.
+/// bytes apart in rounds 2 to 32; all are present. The totals are those of the
+/// second price, and then every sheet has been used.
 fn hearing(n: u64, own: u64, round: u64, opened: u64) -> Hearing {
     let mut record = vec![0; RECORD];
-    record[..ROUND].copy_from_slice(&[n, own, 2, 0, 0, 3, 0]);
+    if round > LAST_ROUND {
+        record[..ROUND].copy_from_slice(&[n, own, 2, 0, 1, 2, 4]);
+        record[SEARCH..DEMAND].copy_from_slice(&[2, 2, 2]);
+        if round == SUPPLY_ROUND {
+            record[DEMAND] = TOTAL_LIMIT - 1;
+        }
+    } else {
+        record[..ROUND].copy_from_slice(&[n, own, 2, 0, 0, 3, 0]);
+        record[SEARCH] = 1;
+    }
     record[ROUND] = round;
-    record[SEARCH] = 1;
     let t = threshold(n);
     let messages = (1..=n)
         .map(|point| {
@@ -24,7 +38,7 @@ fn hearing(n: u64, own: u64, round: u64, opened: u64) -> Hearing {
             let share = |secret: u64| byte::share(secret as u8, &bytes, point as u8);
             let low = u64::from(share(opened % 256));
             match round {
-                1 => amount::share(opened, &vec![P / 3; t], point),
+                1 | DEMAND_ROUND | SUPPLY_ROUND => amount::share(opened, &vec![P / 3; t], point),
                 LAST_ROUND => low,
                 _ => low + 256 * u64::from(share(opened / 256)),
             }
@@ -37,12 +51,14 @@ fn hearing(n: u64, own: u64, round: u64, opened: u64) -> Hearing {
         messages,
         present: vec![1; n as usize],
     };
-    // The own word is what the party says, by its sheet.
+    // The own word is what the party says, by its sheet or its totals.
     let wanted = hearing.messages[own as usize - 1];
     let word = said(&hearing);
     match round {
         1 => hearing.sheets[0] = amount::sub(word, wanted),
         LAST_ROUND => hearing.sheets[33] = word ^ wanted,
+        DEMAND_ROUND => hearing.totals[1] = wanted,
+        SUPPLY_ROUND => hearing.totals[3] = wanted,
         _ => {
             let triple = 34 + 3 * (round as usize - 2);
             hearing.sheets[triple] = (word ^ wanted) % 256;
@@ -72,7 +88,14 @@ fn reply(h: &Hearing) -> u64 {
 }
 
 /// What the messages of each kind of round open to, and are accepted.
-const ROUNDS: [(u64, u64); 4] = [(1, (1 << 59) + 77), (2, 0x5A_C3), (32, 0), (33, 1)];
+const ROUNDS: [(u64, u64); 6] = [
+    (1, (1 << 59) + 77),
+    (2, 0x5A_C3),
+    (32, 0),
+    (33, 1),
+    (34, 123_456),
+    (35, 99),
+];
 
 #[test]
 fn any_t_plus_1_or_more_open_to_the_same_and_fewer_are_refused() {
@@ -82,8 +105,14 @@ fn any_t_plus_1_or_more_open_to_the_same_and_fewer_are_refused() {
                 let mut hearing = hearing(n, own, round, opened);
                 let (done, left) = heard(&hearing);
                 assert_eq!(done, 0);
-                if round == 1 {
-                    assert_eq!(left[SUM], opened);
+                let place = match round {
+                    1 => Some(SUM),
+                    DEMAND_ROUND => Some(DEMAND),
+                    SUPPLY_ROUND => Some(SUPPLY),
+                    _ => None,
+                };
+                if let Some(place) = place {
+                    assert_eq!((left[ROUND], left[place]), (round + 1, opened));
                 }
                 for present in choices(n) {
                     hearing.present = present;
@@ -151,10 +180,10 @@ fn one_altered_word_is_noticed_where_more_than_t_plus_1_are_present() {
     }
 }
 
-/// A hearing of five parties in round 1 whose messages open to this: the third is
-/// away and the fourth hears.
-fn of_five(opened: u64) -> Hearing {
-    let mut hearing = hearing(5, 4, 1, opened);
+/// A hearing of five parties whose messages open to this: the third is away and
+/// the fourth hears.
+fn of_five(round: u64, opened: u64) -> Hearing {
+    let mut hearing = hearing(5, 4, round, opened);
     hearing.present[2] = 0;
     hearing.messages[2] = u64::MAX;
     hearing
@@ -162,16 +191,73 @@ fn of_five(opened: u64) -> Hearing {
 
 #[test]
 fn every_way_to_be_refused_and_any_two() {
-    let good = of_five(ROUNDS[0].1);
-    assert_eq!(reply(&good), 0);
-    for (hearing, number) in refused(&good) {
-        assert_eq!(reply(&hearing), number, "{hearing:?}");
+    for (round, opened, wrong) in [(1, ROUNDS[0].1, 7), (34, 5, 1 << 32), (35, 5, 1 << 32)] {
+        let good = of_five(round, opened);
+        assert_eq!(reply(&good), 0);
+        for (hearing, number) in refused(&good) {
+            assert_eq!(reply(&hearing), number, "{hearing:?}");
+        }
+        // What the messages open to is judged last.
+        let no_sum = of_five(round, wrong);
+        assert_eq!(reply(&no_sum), 11);
+        for (hearing, number) in refused(&no_sum) {
+            assert_eq!(reply(&hearing), number, "{hearing:?}");
+        }
     }
-    // What the messages open to is judged last.
-    let no_sum = of_five(7);
-    assert_eq!(reply(&no_sum), 11);
-    for (hearing, number) in refused(&no_sum) {
-        assert_eq!(reply(&hearing), number, "{hearing:?}");
+}
+
+/// An opened total is below 2^32, and supply is at most demand, whichever of the
+/// two comes to the other.
+#[test]
+fn totals_that_are_none() {
+    let heard = |round, [demand, supply]: [u64; 2], opened| {
+        let mut hearing = hearing(5, 2, round, opened);
+        hearing.record[DEMAND] = demand;
+        hearing.record[SUPPLY] = supply;
+        let (reply, left) = heard(&hearing);
+        (reply, [left[ROUND], left[DEMAND], left[SUPPLY]])
+    };
+    let top = TOTAL_LIMIT - 1;
+    for opened in [0, 1, 77, top] {
+        let done = (0, [35, opened, 0]);
+        assert_eq!(heard(DEMAND_ROUND, [0, 0], opened), done);
+        // What stood there before does not count.
+        assert_eq!(heard(DEMAND_ROUND, [top, 0], opened), done);
+        let done = (0, [36, top, opened]);
+        assert_eq!(heard(SUPPLY_ROUND, [top, 0], opened), done);
+        assert_eq!(heard(SUPPLY_ROUND, [top, top], opened), done);
+    }
+    for opened in [1 << 32, (1 << 32) + 1, 1 << 58, P - 1] {
+        let refused = (11, [34, 0, 0]);
+        assert_eq!(heard(DEMAND_ROUND, [0, 0], opened), refused);
+        let refused = (11, [35, top, 0]);
+        assert_eq!(heard(SUPPLY_ROUND, [top, 0], opened), refused);
+    }
+    // A supply that the record has already.
+    assert_eq!(heard(DEMAND_ROUND, [99, 77], 77), (0, [35, 77, 77]));
+    assert_eq!(heard(DEMAND_ROUND, [99, 77], 76), (11, [34, 99, 77]));
+    assert_eq!(heard(DEMAND_ROUND, [99, 77], 0), (11, [34, 99, 77]));
+    assert_eq!(heard(SUPPLY_ROUND, [77, 3], 77), (0, [36, 77, 77]));
+    assert_eq!(heard(SUPPLY_ROUND, [77, 3], 78), (11, [35, 77, 3]));
+    assert_eq!(heard(SUPPLY_ROUND, [0, 0], 1), (11, [35, 0, 0]));
+}
+
+/// The words are the totals at the price, and no sheet is read.
+#[test]
+fn totals_are_said_of_the_price_alone() {
+    for (round, place) in [(DEMAND_ROUND, 1), (SUPPLY_ROUND, 3)] {
+        let good = hearing(5, 4, round, 5);
+        let expected = heard(&good);
+        assert_eq!(expected.0, 0);
+        let mut other = good.clone();
+        other.sheets.fill(u64::MAX);
+        other.totals.fill(P);
+        other.totals[place] = good.totals[place];
+        assert_eq!(said(&other), good.totals[place]);
+        assert_eq!(heard(&other), expected);
+        other.totals[place] = P;
+        assert_eq!(reply(&other), 8);
+        assert_eq!(say(&other.record, &other.totals, &other.sheets, &mut 0), 8);
     }
 }
 
@@ -191,7 +277,7 @@ fn a_verdict_that_is_no_bit() {
 #[test]
 fn a_record_that_is_none() {
     for length in [0, RECORD - 1, RECORD + 1] {
-        let mut hearing = of_five(ROUNDS[0].1);
+        let mut hearing = of_five(1, ROUNDS[0].1);
         hearing.record.resize(length, u64::MAX);
         hearing.present[0] = 2;
         assert_eq!(reply(&hearing), 2);
@@ -209,9 +295,10 @@ fn an_own_place_that_is_not_marked() {
         away.messages[3] = u64::MAX;
         away.totals.fill(u64::MAX);
         assert_eq!(heard(&away), heard(&here));
-        // The sheet is judged as ever.
+        // The sheet is judged as ever, where one is read.
         away.sheets[0] = P;
-        assert_eq!(reply(&away), 8);
+        let number = if round > LAST_ROUND { 0 } else { 8 };
+        assert_eq!(reply(&away), number);
     }
     let mut here = hearing(5, 4, 1, ROUNDS[0].1);
     here.totals[0] = P;

@@ -1,25 +1,41 @@
-//! When a record's searches are within their ranges, number by number.
+//! When a record's searches, its round and its totals are within their ranges,
+//! number by number; and what a buyer gets by such a record.
 
-use clockivy_reference::{answer, probe_limit, sheet_count, RECORD};
+use clockivy_reference::{answer, fill, probe_limit, sheet_count, MAX_AMOUNT, RECORD};
 
 /// A record among three parties over five prices, which take at most three
 /// probes: lo, hi, probes, then search, first and its probes.
 fn record([lo, hi, probes, search, first, first_probes]: [u64; 6]) -> [u64; RECORD] {
     let mut record = [0; RECORD];
-    record[..10].copy_from_slice(&[3, 1, 5, 0, lo, hi, probes, 1, 0, 0]);
-    record[26..].copy_from_slice(&[search, first, first_probes]);
+    // Where the searches have ended with a price, the totals are opened too.
+    let ended = search == 2 && hi.wrapping_sub(lo) == 1;
+    let round = if ended && first > 0 { 36 } else { 1 };
+    record[..10].copy_from_slice(&[3, 1, 5, 0, lo, hi, probes, round, 0, 0]);
+    record[26..29].copy_from_slice(&[search, first, first_probes]);
     record
 }
 
 /// What asking for the answer replies, and the answer.
 fn asked(numbers: [u64; 6]) -> (u64, u64, u64) {
+    asked_of(&record(numbers))
+}
+
+fn asked_of(record: &[u64; RECORD]) -> (u64, u64, u64) {
     let (mut index, mut probes) = (77, 88);
-    let reply = answer(&record(numbers), &mut index, &mut probes);
+    let reply = answer(record, &mut index, &mut probes);
     (reply, index, probes)
+}
+
+/// What asking for a fill replies, and the fill.
+fn filled(record: &[u64; RECORD], amount: u64) -> (u64, u64, u64) {
+    let (mut hours, mut remainder) = (77, 88);
+    let reply = fill(record, amount, &mut hours, &mut remainder);
+    (reply, hours, remainder)
 }
 
 const SOUND: u64 = 3;
 const REFUSED: (u64, u64, u64) = (1, 77, 88);
+const NOT_CLEARED: (u64, u64, u64) = (16, 77, 88);
 
 #[test]
 fn the_first_search() {
@@ -131,5 +147,126 @@ fn no_other_search() {
         for numbers in [[0, 6, 0, search, 0, 0], [0, 1, 3, search, 0, 3]] {
             assert_eq!(asked(numbers), REFUSED);
         }
+    }
+}
+
+/// The round and the totals of a record: its words 7, 29 and 30.
+fn totalled(numbers: [u64; 6], [round, demand, supply]: [u64; 3]) -> [u64; RECORD] {
+    let mut record = record(numbers);
+    record[7] = round;
+    record[29..].copy_from_slice(&[demand, supply]);
+    record
+}
+
+/// Searches that have ended with price 4, without one, and such as go on.
+const ENDED: [u64; 6] = [2, 3, 6, 2, 5, 3];
+const NO_PRICE: [u64; 6] = [0, 1, 3, 2, 0, 3];
+const GOING_ON: [[u64; 6]; 2] = [[0, 6, 0, 1, 0, 0], [0, 6, 3, 2, 5, 3]];
+
+#[test]
+fn rounds_by_the_searches() {
+    let most = u64::MAX;
+    for round in (0..=40).chain([64, 290, 1 << 32, most]) {
+        let of_a_probe = (1..=33).contains(&round);
+        for numbers in GOING_ON {
+            let record = totalled(numbers, [round, 9, 9]);
+            let reply = if of_a_probe { SOUND } else { 1 };
+            assert_eq!(asked_of(&record), (reply, 77, 88));
+            let reply = if of_a_probe { NOT_CLEARED } else { REFUSED };
+            assert_eq!(filled(&record, 5), reply);
+        }
+        let record = totalled(NO_PRICE, [round, 9, 9]);
+        let reply = if of_a_probe { (0, 0, 3) } else { REFUSED };
+        assert_eq!(asked_of(&record), reply);
+        let reply = if of_a_probe { NOT_CLEARED } else { REFUSED };
+        assert_eq!(filled(&record, 5), reply);
+
+        let record = totalled(ENDED, [round, 9, 9]);
+        let (answered, filled_up) = match round {
+            34 | 35 => ((SOUND, 77, 88), NOT_CLEARED),
+            36 => ((0, 4, 6), (0, 5, 0)),
+            _ => (REFUSED, REFUSED),
+        };
+        assert_eq!(asked_of(&record), answered);
+        assert_eq!(filled(&record, 5), filled_up);
+    }
+}
+
+#[test]
+fn totals_of_a_record() {
+    let top = (1 << 32) - 1;
+    let far = u64::MAX;
+    for (numbers, round, reply) in [
+        (GOING_ON[0], 1, SOUND),
+        (GOING_ON[1], 33, SOUND),
+        (NO_PRICE, 1, 0),
+        (ENDED, 34, SOUND),
+        (ENDED, 35, SOUND),
+        (ENDED, 36, 0),
+    ] {
+        // Before they are opened any in range are sound.
+        for [demand, supply] in [[0, 0], [1, 0], [7, 7], [top, 0], [top, top]] {
+            let record = totalled(numbers, [round, demand, supply]);
+            assert_eq!(asked_of(&record).0, reply);
+        }
+        for [demand, supply] in [
+            [0, 1],
+            [6, 7],
+            [top - 1, top],
+            [top + 1, 0],
+            [top + 1, top],
+            [top + 1, top + 1],
+            [top, top + 1],
+            [far, 0],
+            [0, far],
+            [far, far],
+        ] {
+            let record = totalled(numbers, [round, demand, supply]);
+            assert_eq!(asked_of(&record), REFUSED);
+            assert_eq!(filled(&record, 5), REFUSED);
+        }
+    }
+}
+
+#[test]
+fn fills_and_their_remainders() {
+    let filled = |demand, supply, amount| {
+        let record = totalled(ENDED, [36, demand, supply]);
+        filled(&record, amount)
+    };
+    assert_eq!(filled(20, 15, 20), (0, 15, 0));
+    assert_eq!(filled(20, 15, 1), (0, 0, 15));
+    assert_eq!(filled(20, 15, 7), (0, 5, 5));
+    assert_eq!(filled(20, 0, 7), (0, 0, 0));
+    for amount in [0, 1, MAX_AMOUNT] {
+        assert_eq!(filled(0, 0, amount), (0, 0, 0));
+        assert_eq!(filled(9, 9, amount), (0, amount, 0));
+    }
+    let top = (1 << 32) - 1;
+    assert_eq!(filled(top, top, MAX_AMOUNT), (0, MAX_AMOUNT, 0));
+    assert_eq!(
+        filled(top, top - 1, MAX_AMOUNT),
+        (0, MAX_AMOUNT - 1, top - MAX_AMOUNT)
+    );
+    assert_eq!(filled(1, 1, MAX_AMOUNT), (0, MAX_AMOUNT, 0));
+    for amount in [MAX_AMOUNT + 1, 1 << 32, u64::MAX] {
+        assert_eq!(filled(20, 15, amount), (6, 77, 88));
+    }
+}
+
+/// First the record, then whether it has cleared, then the amount.
+#[test]
+fn a_fill_is_judged_in_its_order() {
+    let large = MAX_AMOUNT + 1;
+    let unsound = totalled(ENDED, [36, 6, 7]);
+    assert_eq!(filled(&unsound, large), REFUSED);
+    let early = totalled(ENDED, [35, 7, 7]);
+    assert_eq!(filled(&early, large), NOT_CLEARED);
+    assert_eq!(filled(&record(NO_PRICE), large), NOT_CLEARED);
+    for length in [0, 29, RECORD - 1, RECORD + 1] {
+        let (mut hours, mut remainder) = (77, 88);
+        let words = vec![u64::MAX; length];
+        assert_eq!(fill(&words, large, &mut hours, &mut remainder), 2);
+        assert_eq!((hours, remainder), (77, 88));
     }
 }

@@ -8,7 +8,7 @@ use Rattle.record.specs.declared.Party.{Party}
 use Rattle.record.specs.declared.Reply.{Reply}
 use Rattle.session.specs.Add.{add-reply, add-left}
 use Rattle.record_words.specs.Words.{party-of, on-record, number-on, stored}
-use Rattle.record_words.proofs.Lent.{with-record, no-record}
+use Rattle.record_words.proofs.Lent.{lent-long, with-record, no-record}
 use borrow.Author.Needs.{needs}
 use Rattle.exchange.proofs.clockivy_add.Statement.{statement}
 use Rattle.exchange.proofs.clockivy_add.Tie as tie
@@ -46,7 +46,9 @@ returns c =
     (c .number .ensures ∙ sym (no-record (words j) _ _ no), sym (no-record (words j) _ _ no), sym (no-record (words j) _ _ no))
 
 read-requires : tie.Need-read-requires
-read-requires c κs = search needs
+read-requires c κs =
+    let j = c .before .before in
+    lent-long (words j) (ap not (sym (j .is-record .ensures)) ∙ c .before .if1 .left)
 
 add-requires : tie.Need-add-requires
 add-requires c κs = search needs

@@ -8,7 +8,7 @@ use Rattle.session.specs.declared.reply.Answer.{Answer}
 use Rattle.session.specs.Answer.{answer-reply, answer-number, cleared-index, cleared-probes}
 use Rattle.exchange.specs.Calls.{answer-code, answer-index, answer-probes}
 use Rattle.record_words.specs.Words.{record-size, party-of}
-use Rattle.record_words.proofs.Lent.{with-record, no-record}
+use Rattle.record_words.proofs.Lent.{lent-long, with-record, no-record}
 use borrow.Author.Needs.{needs}
 use Rattle.exchange.proofs.clockivy_answer.Statement.{statement}
 use Rattle.exchange.proofs.clockivy_answer.Tie as tie
@@ -27,7 +27,7 @@ returns c =
     (c .number .ensures ∙ sym (no-record words _ _ no), sym (no-record words _ _ no), sym (no-record words _ _ no))
 
 read-requires : tie.Need-read-requires
-read-requires c κs = search needs
+read-requires c κs = lent-long (c .before .before .before .args .words .now) (ap not (sym (c .before .is-record .ensures)) ∙ c .if1 .left)
 
 answer-requires : tie.Need-answer-requires
 answer-requires c κs = search needs

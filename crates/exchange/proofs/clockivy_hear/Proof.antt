@@ -8,7 +8,7 @@ use Rattle.record.specs.declared.Party.{Party}
 use Rattle.record.specs.declared.Reply.{Reply}
 use Rattle.hearing.specs.Hear.{hear-reply}
 use Rattle.record_words.specs.Words.{party-of, on-record, number-on, stored}
-use Rattle.record_words.proofs.Lent.{no-record}
+use Rattle.record_words.proofs.Lent.{lent-long, no-record}
 use borrow.Author.Needs.{needs}
 use Rattle.exchange.proofs.clockivy_hear.Statement.{statement}
 use Rattle.exchange.proofs.clockivy_hear.Tie as tie
@@ -40,7 +40,9 @@ returns c =
     (c .number .ensures ∙ sym (no-record (words j) _ _ no), sym (no-record (words j) _ _ no))
 
 read-requires : tie.Need-read-requires
-read-requires c κs = search needs
+read-requires c κs =
+    let j = c .before .before in
+    lent-long (words j) (ap not (sym (j .is-record .ensures)) ∙ c .before .if1 .left)
 
 hear-requires : tie.Need-hear-requires
 hear-requires c κs = search needs

@@ -9,7 +9,7 @@ use Rattle.saying.specs.declared.Said.{Said}
 use Rattle.saying.specs.Say.{say-reply, said-number, said-word}
 use Rattle.exchange.specs.Calls.{say-code, say-message}
 use Rattle.record_words.specs.Words.{record-size, party-of}
-use Rattle.record_words.proofs.Lent.{with-record, no-record}
+use Rattle.record_words.proofs.Lent.{lent-long, with-record, no-record}
 use borrow.Author.Needs.{needs}
 use Rattle.exchange.proofs.clockivy_say.Statement.{statement}
 use Rattle.exchange.proofs.clockivy_say.Tie as tie
@@ -28,7 +28,7 @@ returns c =
     (c .number .ensures ∙ sym (no-record words _ _ no), sym (no-record words _ _ no))
 
 read-requires : tie.Need-read-requires
-read-requires c κs = search needs
+read-requires c κs = lent-long (c .before .before .before .before .before .args .words .now) (ap not (sym (c .before .is-record .ensures)) ∙ c .if1 .left)
 
 say-requires : tie.Need-say-requires
 say-requires c κs = search needs

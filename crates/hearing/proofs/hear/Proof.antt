@@ -19,17 +19,16 @@ use Rattle.presence.proofs.Laws.{all-counted}
 use Rattle.record.specs.declared.Party.{Party}
 use Rattle.round.specs.declared.Heard.{Heard}
 use Rattle.record.specs.declared.Reply.{Reply}
-use Rattle.saying.specs.Say.{turn-judgement, in-field, message, current}
+use Rattle.saying.specs.Say.{turn-judgement, in-field, message, sheet-words, current}
 use Rattle.round.specs.Round.{heard}
 use Rattle.hearing.specs.Hear.{hear-judgement, opening-judgement}
 use Rattle.stepping.specs.After.{after}
 use Rattle.refusal.proofs.Judging.{refuses, passes}
 use Rattle.record.proofs.Replies.{next-accepted, next-refused}
-use Rattle.search.proofs.Bounds.{Probing}
 use Rattle.record.proofs.Soundness.{sound-of}
 use Rattle.ranges.proofs.Loops.{and-true, and-false}
 use Rattle.saying.proofs.Sheets.{in-field-bytes, current-there, current-long}
-use Rattle.saying.proofs.Laws.{InTurn, turn-probing, turns}
+use Rattle.saying.proofs.Laws.{InTurn, turns}
 use Rattle.round.proofs.Opened.{heard-possible}
 use Rattle.hearing.proofs.Hears.{turn-of, of-words, of-messages, no-turn, by-messages}
 use borrow.Author.Needs.{needs}
@@ -98,9 +97,6 @@ module _ (c : tie.After-enum-told) where
       counts t .count-marks .ensures .1
       ∙ ap (λ (b : Bool). cond b (how-many (present t)) 0) (turns (q t) (totals t) (sheets t) _ _ in-turn .1)
 
-  left-to-probe : Probing (q t .k) (q t .search)
-  left-to-probe = turn-probing (q t) (totals t) (sheets t) facts
-
   listening : hear-judgement (q t) (totals t) (sheets t) (messages t) (present t) ≡ judged (of-messages (q t) (totals t) (sheets t) (messages t) (present t))
   listening = by-messages (q t) (totals t) (sheets t) (messages t) (present t) in-turn
 
@@ -126,8 +122,8 @@ module _ (c : tie.After-current) where
   abbrev u : tie.After-turn
   u = t e
 
-  sheet-long : length (now (c .current .result)) ≡ 127
-  sheet-long = ap length (c .current .ensures) ∙ current-long (q u) (sheets u) (left-to-probe e) (facts e .sheets-long)
+  sheet-long : length (now (c .current .result)) ≡ sheet-words (q u)
+  sheet-long = ap length (c .current .ensures) ∙ current-long (q u) (facts e .sound) (facts e .going) (sheets u) (facts e .sheets-long)
 
 judges : (c : tie.After-in-field) →
     let u = u (c .before) in
@@ -180,14 +176,14 @@ module _ (c : tie.After-open-round) where
       ∙ ap (λ (m : ℕ). heard (q o .n) (q o .round) (all-or (eqb m (q o .n)) (q o .n) (present o)) (messages o)) (count-is k)
       ∙ ap (λ (ms : List ℕ). heard (q o .n) (q o .round) ms (messages o)) (all-counted (q o .n) (present o) (lengths k .1))
 
-  opened : hear-judgement (q o) (totals o) (sheets o) (messages o) (present o) ≡ opening-judgement (opening o)
+  opened : hear-judgement (q o) (totals o) (sheets o) (messages o) (present o) ≡ opening-judgement (q o .round) (q o .demand) (q o .supply) (opening o)
   opened = listened (same .before) ∙ passes _ _ _ (own-word same)
 
 -- and judged
 rules : (c : tie.After-judge) →
     let w = o (c .before) in
     hear-judgement (q w) (totals w) (sheets w) (messages w) (present w) ≡ c .judge .result
-rules c = opened (c .before) ∙ ap opening-judgement (sym (opened-is (c .before))) ∙ sym (c .judge .ensures)
+rules c = opened (c .before) ∙ ap (opening-judgement (q (o (c .before)) .round) (q (o (c .before)) .demand) (q (o (c .before)) .supply)) (sym (opened-is (c .before))) ∙ sym (c .judge .ensures)
 
 abbrev accepted : Party → Reply
 accepted next = record { judgement = Accepted; party = next }
@@ -240,7 +236,7 @@ shared-slice-read-here c =
 current-requires : tie.Need-current-requires
 current-requires c κs =
     let e = told (c .before) in
-    current-there (q (t e)) (sheets (t e)) (left-to-probe e) (facts e .sheets-long)
+    current-there (q (t e)) (facts e .sound) (facts e .going) (sheets (t e)) (facts e .sheets-long)
 
 in-field-requires : tie.Need-in-field-requires
 in-field-requires c κs =
@@ -311,7 +307,7 @@ after-requires c κs =
       sound-of (q w) (f .sound),
       sheet-long k,
       rw (k .current .ensures) (in-field-bytes (q w) (here w) (totals w) (sheet w) (in-range field)),
-      rw (opened-is h) (heard-possible (q w .n) (q w .round) (present w) (messages w) (f .sound .round-least)),
+      rw (opened-is h) (heard-possible (q w .n) (q w .round) (present w) (messages w) (f .sound .round .least)),
     )
 
 accepted-requires : tie.Need-accepted-requires

@@ -4,51 +4,59 @@ use borrow.Author.Needs.{needs}
 use Rattle.record_words.proofs.read.Statement.{statement}
 use Rattle.record_words.proofs.read.Tie as tie
 
-word-requires : tie.Need-word-requires
-word-requires c κs = search needs
+shared-slice-read-t3 : tie.Need-shared-slice-read-t3
+shared-slice-read-t3 c = search needs
 
-word-requires-2 : tie.Need-word-requires-2
-word-requires-2 c κs = search needs
+shared-slice-read-t5 : tie.Need-shared-slice-read-t5
+shared-slice-read-t5 c = search needs
 
-word-requires-3 : tie.Need-word-requires-3
-word-requires-3 c κs = search needs
+shared-slice-read-t7 : tie.Need-shared-slice-read-t7
+shared-slice-read-t7 c = search needs
 
-word-requires-4 : tie.Need-word-requires-4
-word-requires-4 c κs = search needs
+shared-slice-read-t9 : tie.Need-shared-slice-read-t9
+shared-slice-read-t9 c = search needs
 
 read-search-requires : tie.Need-read-search-requires
 read-search-requires c κs = search needs
 
-word-requires-5 : tie.Need-word-requires-5
-word-requires-5 c κs = search needs
+shared-slice-read-t12 : tie.Need-shared-slice-read-t12
+shared-slice-read-t12 c = search needs
 
-word-requires-6 : tie.Need-word-requires-6
-word-requires-6 c κs = search needs
+shared-slice-read-t14 : tie.Need-shared-slice-read-t14
+shared-slice-read-t14 c = search needs
 
-word-requires-7 : tie.Need-word-requires-7
-word-requires-7 c κs = search needs
+shared-slice-read-t16 : tie.Need-shared-slice-read-t16
+shared-slice-read-t16 c = search needs
 
 read-roll-requires : tie.Need-read-roll-requires
 read-roll-requires c κs = search needs
 
+shared-slice-read-t19 : tie.Need-shared-slice-read-t19
+shared-slice-read-t19 c = search needs
+
+shared-slice-read-t21 : tie.Need-shared-slice-read-t21
+shared-slice-read-t21 c = search needs
+
 returns : tie.Need-returns
 unfolding party-of
 returns c =
-    let w = c .before in
-    let s = w .before .before .before in
-    rw (c .read-roll .ensures, w .word7 .ensures, w .before .word6 .ensures, w .before .before .word5 .ensures, s .read-search .ensures, s .before .word4 .ensures, s .before .before .word3 .ensures, s .before .before .before .word2 .ensures, s .before .before .before .before .word .ensures)
+    let r = c .before .before in
+    let s = r .before .before .before .before in
+    rw (r .read-roll .ensures, s .read-search .ensures)
 
 pub read-spec : {M : Type 1} → statement M
 read-spec =
     tie.close
     (tie.spec
-    word-requires
-    word-requires-2
-    word-requires-3
-    word-requires-4
+    shared-slice-read-t3
+    shared-slice-read-t5
+    shared-slice-read-t7
+    shared-slice-read-t9
     read-search-requires
-    word-requires-5
-    word-requires-6
-    word-requires-7
+    shared-slice-read-t12
+    shared-slice-read-t14
+    shared-slice-read-t16
     read-roll-requires
+    shared-slice-read-t19
+    shared-slice-read-t21
     returns)

@@ -8,14 +8,13 @@ use denote.Ref.{now}
 use borrow.Author.Tests.{not-false}
 use Rattle.refusal.specs.Judging.{judged}
 use Rattle.refusal.specs.declared.Judgement.the-variants.{Accepted}
-use Rattle.search.proofs.Bounds.{Probing}
 use Rattle.record.specs.declared.Party.{Party}
 use Rattle.record.specs.Record.{sound}
 use Rattle.record.proofs.Soundness.{sound-of}
 use Rattle.saying.specs.declared.Said.the-variants.{Message}
-use Rattle.saying.specs.Say.{current, in-field, message, turn-judgement, say-judgement}
+use Rattle.saying.specs.Say.{sheet-words, current, in-field, message, turn-judgement, say-judgement}
 use Rattle.refusal.proofs.Judging.{refuses, passes, all-passed}
-use Rattle.saying.proofs.Laws.{said-accepted, said-refused, InTurn, turn-probing, says-turn, of-words, no-turn, by-words}
+use Rattle.saying.proofs.Laws.{said-accepted, said-refused, InTurn, says-turn, of-words, no-turn, by-words}
 use Rattle.saying.proofs.Sheets.{current-there, current-long}
 use borrow.Author.Needs.{needs}
 use Rattle.saying.proofs.say.Statement.{statement}
@@ -46,13 +45,12 @@ module _ (c : tie.After-enum-told) where
   going-on : say-judgement q totals sheets ≡ judged (of-words q totals sheets)
   going-on = by-words q totals sheets in-turn
 
-  left-to-probe : Probing (q .k) (q .search)
-  left-to-probe = turn-probing q totals sheets facts
-
 -- the sheet that was lent on
 module _ (c : tie.After-current) where
-  sheet-long : length (now (c .current .result)) ≡ 127
-  sheet-long = ap length (c .current .ensures) ∙ current-long (q (c .before)) (sheets (c .before)) (left-to-probe (c .before)) (facts (c .before) .sheets-long)
+  sheet-long : length (now (c .current .result)) ≡ sheet-words (q (c .before))
+  sheet-long =
+      let f = facts (c .before) in
+      ap length (c .current .ensures) ∙ current-long (q (c .before)) (f .sound) (f .going) (sheets (c .before)) (f .sheets-long)
 
 judges : (c : tie.After-in-field) →
     let t = c .before .before in
@@ -84,7 +82,9 @@ returns c =
     ∙ sym (t .turn .ensures) ∙ c .before .why .given .1)))
 
 current-requires : tie.Need-current-requires
-current-requires c κs = current-there (q c) (sheets c) (left-to-probe c) (facts c .sheets-long)
+current-requires c κs =
+    let f = facts c in
+    current-there (q c) (f .sound) (f .going) (sheets c) (f .sheets-long)
 
 in-field-requires : tie.Need-in-field-requires
 in-field-requires c κs =

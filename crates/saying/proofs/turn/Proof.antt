@@ -26,22 +26,22 @@ returns-2 : tie.Need-returns-2
 unfolding turn-judgement
 returns-2 c = sym (passes _ _ _ (c .before .before .if1 .left) ∙ refuses _ _ _ (judges (c .before) ∙ c .if2 .taken))
 
-finished-requires : tie.Need-finished-requires
-finished-requires c κs = search needs
+ended-requires : tie.Need-ended-requires
+ended-requires c κs = search needs
 
 returns-3 : tie.Need-returns-3
 unfolding turn-judgement
 returns-3 c =
     let two = c .before .before in
-    let over = sym (c .before .finished .ensures) ∙ c .if3 .taken in
+    let over = sym (c .before .ended .ensures) ∙ c .if3 .taken in
     sym (passes _ _ _ (two .before .before .if1 .left) ∙ passes _ _ _ (judges (two .before) ∙ two .if2 .left) ∙ refuses _ _ _ over)
 
 returns-4 : tie.Need-returns-4
 unfolding turn-judgement
 returns-4 c =
     let two = c .before .before in
-    let going = sym (c .before .finished .ensures) ∙ c .if3 .left in
+    let going = sym (c .before .ended .ensures) ∙ c .if3 .left in
     sym (passes _ _ _ (two .before .before .if1 .left) ∙ passes _ _ _ (judges (two .before) ∙ two .if2 .left) ∙ passes _ _ _ going ∙ all-passed)
 
 pub turn-spec : {M : Type 1} → statement M
-turn-spec = tie.close (tie.spec returns are-long-requires returns-2 finished-requires returns-3 returns-4)
+turn-spec = tie.close (tie.spec returns are-long-requires returns-2 ended-requires returns-3 returns-4)

@@ -11,11 +11,13 @@ use Rattle.search.specs.Searches.{next}
 use Rattle.search.proofs.Bounds.{probes-few}
 use Rattle.record.specs.declared.Party.{Party}
 use Rattle.round.specs.declared.Heard.{Heard}
-use Rattle.round.specs.declared.Heard.the-variants.{Sum, Verdict}
+use Rattle.round.specs.declared.Heard.the-variants.{Sum, Factors, Verdict}
+use Rattle.round.specs.Round.{Possible}
 use Rattle.saying.specs.Say.{bit-share}
+use Rattle.saying.proofs.Sheets.{probe-words}
 use Rattle.record.specs.Updates.{in-round, decided}
 use Rattle.stepping.specs.After.{after}
-use Rattle.record.proofs.Soundness.{sound-facts, sheets-most}
+use Rattle.record.proofs.Soundness.{sound-facts, few-rounds, sheets-most}
 use borrow.Author.Needs.{needs}
 use Rattle.stepping.proofs.after.Statement.{statement}
 use Rattle.stepping.proofs.after.Tie as tie
@@ -34,7 +36,10 @@ enum-known-heard : tie.Need-enum-known-heard
 enum-known-heard c = search needs
 
 byte-share-requires : tie.Need-byte-share-requires
-byte-share-requires c κs = (c .before .before .before .before .pre .1, c .before .before .before .before .pre .2, omega arith, omega arith)
+byte-share-requires c κs =
+    let s = c .before .before .before .before in
+    let first : s .args .q .round ≡ 1 = rw (c .before .heard .given .1) at (s .pre .3) in
+    (s .pre .1 ∙ probe-words (s .args .q) (omega arith), s .pre .2, omega arith, omega arith)
 
 first-carry-requires : tie.Need-first-carry-requires
 first-carry-requires c κs = search needs
@@ -48,7 +53,8 @@ enum-known-heard-2 c = search needs
 multiplied-requires : tie.Need-multiplied-requires
 multiplied-requires c κs =
     let s = c .before .before .before .before in
-    (s .pre .1, s .pre .2, rw (c .before .heard2 .given .1) at (s .pre .3))
+    let possible : Possible (s .args .q .round) (Factors _ _) = rw (c .before .heard2 .given .1) at (s .pre .3) in
+    (s .pre .1 ∙ probe-words (s .args .q) (omega (arith, possible .1)), s .pre .2, possible)
 
 enum-known-heard-3 : tie.Need-enum-known-heard-3
 enum-known-heard-3 c = search needs
@@ -61,6 +67,14 @@ next-requires c κs =
 
 decided-requires : tie.Need-decided-requires
 decided-requires c κs = search needs
+
+enum-known-heard-4 : tie.Need-enum-known-heard-4
+enum-known-heard-4 c = search needs
+
+totalled-requires : tie.Need-totalled-requires
+totalled-requires c κs =
+    let s = c .before .before .before .before in
+    omega (arith, few-rounds (s .args .q) (sound-facts (s .args .q) (s .pre .0)))
 
 enum-told : tie.Need-enum-told
 enum-told c = search needs
@@ -83,7 +97,11 @@ returns-3 c =
 
 returns-4 : tie.Need-returns-4
 unfolding after
-returns-4 c = sym (ap (after _ _) (c .enum-told .given .1))
+returns-4 c = c .totalled .ensures ∙ sym (ap (after _ _) (c .before .before .heard4 .given .1))
+
+returns-5 : tie.Need-returns-5
+unfolding after
+returns-5 c = sym (ap (after _ _) (c .enum-told .given .1))
 
 pub after-spec : {M : Type 1} → statement M
 after-spec =
@@ -98,8 +116,11 @@ after-spec =
     enum-known-heard-3
     next-requires
     decided-requires
+    enum-known-heard-4
+    totalled-requires
     enum-told
     returns
     returns-2
     returns-3
-    returns-4)
+    returns-4
+    returns-5)

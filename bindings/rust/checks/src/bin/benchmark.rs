@@ -27,9 +27,11 @@ use std::thread::available_parallelism;
 use std::time::{Duration, Instant};
 
 use clockivy_checks::engine::{ByteProduct, Engine, Plain, Verified};
-use clockivy_checks::record::{is_over, mark, marks, BIDS};
+use clockivy_checks::record::{has_cleared, is_over, mark, marks, BIDS};
 use clockivy_checks::rng::Rng;
-use clockivy_reference::{sheet_count, threshold, LAST_ROUND, MAX_BIDS, RECORD, SHEET};
+use clockivy_reference::{
+    sheet_count, threshold, DEMAND_ROUND, LAST_ROUND, MAX_BIDS, RECORD, SHEET, SUPPLY_ROUND,
+};
 
 const N: u64 = 5;
 const K: u64 = 1_024;
@@ -42,6 +44,8 @@ const ENTRY: u64 = K;
 const NEXT: u64 = MAX_BIDS / 2;
 /// The round that stands for rounds 2 to 32, which do the same work.
 const MIDDLE: u64 = 17;
+/// What a buyer wants at the price.
+const AMOUNT: u64 = 123_456;
 /// Marks of everybody, and of t + 1 parties with the timed one among them. These
 /// are not the first ones: nothing is known of them before.
 const ALL: [u8; N as usize] = [1; N as usize];
@@ -101,7 +105,7 @@ macro_rules! case {
     };
 }
 
-const CALLS: [Case; 13] = [
+const CALLS: [Case; 20] = [
     case!("split", split),
     case!("split_entry", split_entry),
     case!("deal", deal),
@@ -109,12 +113,19 @@ const CALLS: [Case; 13] = [
     case!("say, round 1", say, 1),
     case!("say, rounds 2 to 32", say, MIDDLE),
     case!("say, round 33", say, LAST_ROUND),
+    case!("say, round 34", say, DEMAND_ROUND),
+    case!("say, round 35", say, SUPPLY_ROUND),
     case!("hear, round 1", hear, 1, false),
     case!("hear, rounds 2 to 32", hear, MIDDLE, false),
     case!("hear, round 33", hear, LAST_ROUND, false),
+    case!("hear, round 34", hear, DEMAND_ROUND, false),
+    case!("hear, round 35", hear, SUPPLY_ROUND, false),
     case!("hear, round 1, t + 1 present", hear, 1, true),
     case!("hear, rounds 2 to 32, t + 1 present", hear, MIDDLE, true),
     case!("hear, round 33, t + 1 present", hear, LAST_ROUND, true),
+    case!("hear, round 34, t + 1 present", hear, DEMAND_ROUND, true),
+    case!("hear, round 35, t + 1 present", hear, SUPPLY_ROUND, true),
+    case!("fill", fill),
 ];
 
 const AUCTION: Case = case!("whole auction, 1,000 bids", auction);
@@ -149,13 +160,15 @@ macro_rules! fewest {
     };
 }
 
-const HEARINGS_BY_FEWEST: [Case; 6] = [
+const HEARINGS_BY_FEWEST: [Case; 8] = [
     fewest!("verified, round 1", Verified, 1),
     fewest!("verified, rounds 2 to 32", Verified, MIDDLE),
     fewest!("verified, round 33", Verified, LAST_ROUND),
+    fewest!("verified, round 34", Verified, DEMAND_ROUND),
     fewest!("plain, round 1", Plain, 1),
     fewest!("plain, rounds 2 to 32", Plain, MIDDLE),
     fewest!("plain, round 33", Plain, LAST_ROUND),
+    fewest!("plain, round 34", Plain, DEMAND_ROUND),
 ];
 
 fn main() -> ExitCode {
@@ -185,18 +198,19 @@ fn main() -> ExitCode {
     let verified = outcome::<Verified>(&mut inputs);
     let plain = outcome::<Plain>(&mut inputs);
     if verified != plain {
-        println!("\nbenchmark: FAILED, the answers or the products differ");
+        println!("\nbenchmark: FAILED, the answers, the fills or the products differ");
         return ExitCode::FAILURE;
     }
-    println!("\nbenchmark: done, same answers and products");
+    println!("\nbenchmark: done, same answers, fills and products");
     ExitCode::SUCCESS
 }
 
-/// What an auction and a chain of products come to.
-fn outcome<E: Engine + ByteProduct>(inputs: &mut Inputs) -> ([u64; 2], u8) {
+/// What an auction, a fill and a chain of products come to.
+fn outcome<E: Engine + ByteProduct>(inputs: &mut Inputs) -> ([u64; 2], [u64; 2], u8) {
     auction::<E>(inputs);
+    fill::<E>(inputs);
     products::<E>(inputs);
-    (inputs.answer, inputs.product)
+    (inputs.answer, inputs.filled, inputs.product)
 }
 
 /// The first two lines of a table: what a row is, what is timed, beside what.
@@ -299,7 +313,8 @@ struct Round {
 struct Inputs {
     bids: Vec<Bid>,
     draws: Vec<Drawn>,
-    /// The timed party after the first probe, and the rounds of that probe.
+    /// The timed party when the auction is over, the rounds of its first probe and
+    /// then the two of the totals.
     seat: Seat,
     rounds: Vec<Round>,
     /// The timed party with half of the bids added, shares below the prime that
@@ -313,6 +328,7 @@ struct Inputs {
     shares: Vec<u64>,
     sheet: Vec<u64>,
     answer: [u64; 2],
+    filled: [u64; 2],
     product: u8,
 }
 
@@ -336,11 +352,14 @@ impl Inputs {
 
         let mut seats = seats::<Plain>(&bids, &draws);
         let mut rounds = Vec::new();
-        for _ in 1..=LAST_ROUND {
+        while !is_over(&seats[0].record) {
             let record = seats[OWN as usize - 1].record;
             let messages = round::<Plain>(&mut seats);
-            rounds.push(Round { record, messages });
+            if rounds.len() < LAST_ROUND as usize || has_cleared(&record) {
+                rounds.push(Round { record, messages });
+            }
         }
+        assert_eq!(rounds.len() as u64, SUPPLY_ROUND, "there is a price");
         Inputs {
             seat: seats.swap_remove(OWN as usize - 1),
             rounds,
@@ -353,6 +372,7 @@ impl Inputs {
             shares: vec![0; TABLE],
             sheet: vec![0; SHEET],
             answer: [0; 2],
+            filled: [0; 2],
             product: 0,
         }
     }
@@ -420,6 +440,11 @@ fn hear<E: Engine, const ROUND: u64, const BY_FEWEST: bool>(inputs: &mut Inputs)
         &round.messages,
         present,
     ));
+}
+
+fn fill<E: Engine>(inputs: &mut Inputs) {
+    let [hours, remainder] = &mut inputs.filled;
+    done(E::fill(&inputs.seat.record, AMOUNT, hours, remainder));
 }
 
 /// A chain of products, each made from the one before.

@@ -3,11 +3,11 @@
 //!     cargo run --release --bin differential [CALLS [SEED]]
 //!
 //! It passes where no call and no byte product made a difference, every reply has
-//! come up, those of a hearing by who was present, every fault of a record has met
-//! every call that judges one, and whole auctions have ended in every way, with and
-//! without parties that drop off. All byte products and the whole auctions come
-//! first, however few calls are asked for, and single calls fill up the number;
-//! without enough of these, something may not come up.
+//! come up, those of a hearing by who was present and by what was opened, every fault
+//! of a record has met every call that judges one, and whole auctions have ended in
+//! every way, with and without parties that drop off. All byte products and the whole
+//! auctions come first, however few calls are asked for, and single calls fill up the
+//! number; without enough of these, something may not come up.
 
 use std::env;
 use std::process::ExitCode;
@@ -77,6 +77,9 @@ fn missing(tally: &Tally) -> Vec<String> {
     }
     for (present, reply) in tally.unheard() {
         lines.push(format!("hear never replied {reply} in {present}"));
+    }
+    for reason in tally.unopened() {
+        lines.push(format!("hear never refused such: {reason}"));
     }
     for ending in tally.unended() {
         lines.push(format!("no whole auction was such: {ending}"));

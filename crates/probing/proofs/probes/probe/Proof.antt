@@ -46,7 +46,7 @@ loop-again c =
     let a = c .before .before .before .before .before .args in (
       omega arith,
       λ bids d A C here s ss R H.
-          round-stands _ d A _ _ _ _ (step-at _ d A C here s ss R (l .i) (c .before .loop-test .taken)) (l .after) (a .totals .now) (a .sheets .now) (l .inv .1 bids d A C here s ss R H) (c .round .result) (c .round .ensures),
+          round-stands _ d A _ _ _ _ (step-at _ d A C here s ss R (l .i) (omega (arith, c .before .loop-test .taken))) (l .after) (a .totals .now) (a .sheets .now) (l .inv .1 bids d A C here s ss R H) (c .round .result) (c .round .ensures),
     )
 
 round-requires-2 : tie.Need-round-requires-2 Inv-loop μ-loop

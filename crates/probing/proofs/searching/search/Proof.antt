@@ -1,11 +1,11 @@
 -- `search` meets its contract: the probes made are noted, in every auction in which the parties may stand. Assumes nothing.
 use mathlib.Core.Path.{_≡_, refl, sym, ap, ap₂, _∙_}
-use mathlib.Core.Bool.{Bool, true, false, not, _&&_}
+use mathlib.Core.Bool.{false, not}
 use mathlib.Core.List.{List}
 use Prim.Native.Nat.{_-_, _≤_, _<_}
 use native.Mathlib.Omega.{arith}
 use lib.Dec.{ltb}
-use borrow.Author.Tests.{ltb-true, ltb-false, not-true}
+use borrow.Author.Tests.{ltb-true, not-true}
 use Rattle.ranges.proofs.Loops.{and-left, and-right}
 use lib.ListN.{length, getD, length-set}
 use Rattle.search.specs.Bracket.{middle}
@@ -18,6 +18,7 @@ use Rattle.auction.specs.Auction.{Bid, IsAuction}
 use Rattle.auction.specs.Coins.{Coins, InRange}
 use Rattle.auction.proofs.Closed.{fresh-stage}
 use Rattle.standing.proofs.Standing.{Stands}
+use Rattle.total_rounds.proofs.Closing.{stopped}
 use Rattle.listing.specs.Lines.{most-listed}
 use Rattle.probing.specs.Follows.{priced, verdict-read}
 use Rattle.probing.proofs.Leading.{Led, led-start, led-more, led-over, follows}
@@ -38,11 +39,6 @@ Inv-loop n k totals sheets index₀ verdict₀ here₀ more₀ done₀ index ver
 
 abbrev μ-loop : tie.MeasureT-loop
 μ-loop n k totals sheets index₀ verdict₀ here₀ more₀ done₀ index verdict here more done = most-listed - done
-
--- where a test of two fails and the second holds, the first does not
-stops : (x m : Bool) → (x && m) ≡ false → m ≡ true → x ≡ false
-stops true m e f = sym f ∙ e
-stops false m e f = refl
 
 inside : (c : tie.In-loop Inv-loop μ-loop) → c .before .loop .done < most-listed
 inside c = let l = c .before .loop in ltb-true (l .done) most-listed (and-left (ltb (l .done) most-listed) (l .more) (c .loop-test .taken))
@@ -118,6 +114,9 @@ loop-again c =
           (c .before .decided .ensures ∙ ap₂ (λ (q r : Party). verdict-read (q .search) (r .search)) here next) (l .inv .1) (l .inv .2) h,
     )
 
+open-totals-requires : tie.Need-open-totals-requires Inv-loop μ-loop
+open-totals-requires c κs = search needs
+
 array-copy-out-last : tie.Need-array-copy-out-last Inv-loop μ-loop
 array-copy-out-last c = search needs
 
@@ -126,16 +125,19 @@ price-requires c κs = search needs
 
 returns : tie.Need-returns Inv-loop μ-loop
 returns c =
-    let l = c .before .before .before .loop in
-    let s = c .before .before .before .before .before .before .before .before in
-    let a = s .args in (
+    let l = c .before .before .before .before .loop in
+    let s = c .before .before .before .before .before .before .before .before .before in
+    let a = s .args in
+    let closed = c .before .before .open-totals in
+    let long : length (closed .result) ≡ 9 = search needs in
+    let last = getD-there (closed .result) 0 _ blank (omega arith) in (
       l .inv .0,
       λ bids d A C H.
           let L = l .inv .5 bids d A C H in
-          follows (a .n) (a .k) bids d A C (a .totals .now) (a .sheets .now) (l .here) (l .index) (l .verdict) (l .done) L
+          follows (a .n) (a .k) bids d A C (a .totals .now) (a .sheets .now) (l .here) (closed .result) (l .index) (l .verdict) (l .done) L
           (led-over (a .n) (a .k) bids d A C (a .totals .now) (a .sheets .now) (l .here) (l .index) (l .verdict) (l .done) L (s .pre .1)
-          (λ e. ltb-false (l .done) most-listed (stops (ltb (l .done) most-listed) (l .more) (c .before .before .loop-test .left) (l .inv .4 ∙ ap not e))))
-          _ refl refl refl (c .price .ensures ∙ ap (λ q. priced (answer-reply q)) (getD-there (l .here) 0 _ blank (omega (arith, l .inv .3)))),
+          (stopped (l .done) most-listed (l .more) _ (c .before .before .before .loop-test .left) (l .inv .4)))
+          (closed .ensures) _ refl refl refl (c .price .ensures ∙ ap (λ q. priced (answer-reply q)) last) (ap (λ q. q .demand) last) (ap (λ q. q .supply) last),
     )
 
 pub search-spec : {M : Type 1} → statement M
@@ -160,6 +162,7 @@ search-spec =
     add-done
     loop-less
     loop-again
+    open-totals-requires
     array-copy-out-last
     price-requires
     returns)

@@ -1,7 +1,7 @@
 -- `rehearse` meets its contract. Assumes nothing.
 use mathlib.Core.Path.{sym, _∙_}
 use Rattle.listing.proofs.Writing.{wrote-same}
-use Rattle.rehearsal.proofs.Accepted.{judged-faulty, right-listing}
+use Rattle.rehearsal.proofs.Listed.{judged-faulty, right-listing}
 use borrow.Author.Needs.{needs}
 use Rattle.rehearsal.proofs.rehearsing.rehearse.Statement.{statement}
 use Rattle.rehearsal.proofs.rehearsing.rehearse.Tie as tie
@@ -38,8 +38,8 @@ returns-2 c =
     let k = r .before in
     let j = k .before .before .before in
     let w = k .before .judged2 .given in
-    wrote-same (right-listing (j .before .before .args .input .now) (w .0 .0) (r .run .result) (sym (j .judge .ensures) ∙ w .1) (r .run .ensures))
-    (c .write-course .ensures .0 (r .run .ensures .few))
+    wrote-same (right-listing (j .before .before .args .input .now) (w .0 .0) (r .run .result) (sym (j .judge .ensures) ∙ w .1) (r .run .ensures .1))
+    (c .write-course .ensures .0 (r .run .ensures .0))
 
 pub rehearse-spec : {M : Type 1} → statement M
 rehearse-spec =

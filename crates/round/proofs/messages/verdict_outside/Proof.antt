@@ -17,6 +17,9 @@ enum-known-heard c = search needs
 enum-told-3 : tie.Need-enum-told-3
 enum-told-3 c = search needs
 
+enum-told-4 : tie.Need-enum-told-4
+enum-told-4 c = search needs
+
 returns : tie.Need-returns
 returns c = search needs
 
@@ -29,6 +32,9 @@ returns-3 c = sym (ap verdict-outside (c .before .heard .given .1))
 returns-4 : tie.Need-returns-4
 returns-4 c = search needs
 
+returns-5 : tie.Need-returns-5
+returns-5 c = search needs
+
 pub verdict-outside-spec : {M : Type 1} → statement M
 verdict-outside-spec =
     tie.close
@@ -37,7 +43,9 @@ verdict-outside-spec =
     enum-told-2
     enum-known-heard
     enum-told-3
+    enum-told-4
     returns
     returns-2
     returns-3
-    returns-4)
+    returns-4
+    returns-5)

@@ -1,5 +1,5 @@
 -- `current` meets its contract. Assumes nothing.
-use mathlib.Core.Path.{_≡_}
+use mathlib.Core.Path.{_≡_, sym}
 use mathlib.Core.List.{List}
 use Prim.Native.Nat.{ℕ, _+_, _-_, _*_}
 use native.Mathlib.Omega.{arith}
@@ -11,6 +11,9 @@ use Rattle.saying.proofs.sheet.current.Tie as tie
 
 mul-from : tie.Need-mul-from
 mul-from c = search needs
+
+sheet-words-requires : tie.Need-sheet-words-requires
+sheet-words-requires c κs = search needs
 
 add-to : tie.Need-add-to
 add-to c = search needs
@@ -27,17 +30,19 @@ part-result-start c = search needs
 part-result-end : tie.Need-part-result-end
 part-result-end c = search needs
 
--- a part of 127 words
-part : (from : ℕ) (sheets : List ℕ) → take (from + 127 - from) (drop from sheets) ≡ take 127 (drop from sheets)
-part from sheets =
-    let e : from + 127 - from ≡ 127 = omega arith in
+-- a part of so many words
+part : (from words : ℕ) (sheets : List ℕ) → take (from + words - from) (drop from sheets) ≡ take words (drop from sheets)
+part from words sheets =
+    let e : from + words - from ≡ words = omega arith in
     rw e
 
 returns : tie.Need-returns
 unfolding current
-returns c = part (127 * c .before .args .q .search .probes) (c .before .args .sheets .now)
+returns c =
+    let a = c .before .before .before .args in
+    rw (sym (c .before .sheet-words .ensures)) (part (127 * a .q .search .probes) (c .before .sheet-words .result) (a .sheets .now))
 
 pub current-spec : {M : Type 1} → statement M
 current-spec =
     tie.close
-    (tie.spec mul-from add-to mul-result sub-result part-result-start part-result-end returns)
+    (tie.spec mul-from sheet-words-requires add-to mul-result sub-result part-result-start part-result-end returns)

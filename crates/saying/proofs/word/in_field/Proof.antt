@@ -1,59 +1,32 @@
--- `in_field` meets its contract. Assumes nothing.
-use mathlib.Core.Path.{ap, ap₂, _∙_}
-use mathlib.Core.Bool.{Bool, not, _&&_, _||_}
-use Prim.Native.Nat.{ℕ, _-_}
-use native.Mathlib.Omega.{arith}
-use lib.Dec.{ltb, eqb}
-use lib.ListN.{length, drop, length-drop}
-use lib.Seq.{take-all}
-use Rattle.fields.specs.Amount.{p}
-use Rattle.ranges.specs.Lists.{every}
-use Rattle.saying.specs.Say.{in-field, mask-share}
+-- `in_field` meets its contract: after the last probe there is no sheet. Assumes nothing.
 use borrow.Author.Needs.{needs}
+use native.Mathlib.Omega.{arith}
+use mathlib.Core.Path.{sym, ap, _∙_}
+use mathlib.Core.Bool.{not, _||_}
+use Prim.Native.Nat.{ℕ}
+use lib.Dec.{ltb}
+use Rattle.fields.specs.Amount.{p}
+use Rattle.saying.proofs.Sheets.{probe-words, total-words, in-field-late}
 use Rattle.saying.proofs.word.in_field.Statement.{statement}
 use Rattle.saying.proofs.word.in_field.Tie as tie
 
-demand-share-requires : tie.Need-demand-share-requires
-demand-share-requires c κs = search needs
-
-supply-share-requires : tie.Need-supply-share-requires
-supply-share-requires c κs = search needs
-
-shared-slice-read-result : tie.Need-shared-slice-read-result
-shared-slice-read-result c = search needs
-
-sub-all-below : tie.Need-sub-all-below
-sub-all-below c = search needs
-
-part-all-below-start : tie.Need-part-all-below-start
-part-all-below-start c = search needs
-
-part-all-below-end : tie.Need-part-all-below-end
-part-all-below-end c = search needs
-
-all-below-requires : tie.Need-all-below-requires
-all-below-requires c κs = search needs
+in-field-in-probe-requires : tie.Need-in-field-in-probe-requires
+in-field-in-probe-requires c κs =
+    let s = c .before .before .before .before in
+    (s .pre .0, s .pre .1, s .pre .2, s .pre .3 ∙ probe-words (s .args .q) (omega arith), omega arith)
 
 returns : tie.Need-returns
-unfolding in-field
-returns c =
-    let demand = c .before .before .before .before .before in
-    let a = demand .before .before .before .args in
-    let sheet = a .sheet .now in
-    let supply = c .before .before .before .before in
-    let small = ap₂ (λ (d s : ℕ). ltb d p && ltb s p) (demand .demand-share .ensures) (supply .supply-share .ensures) in
-    let rest = ap (every (λ w. ltb w 256)) (take-all (length sheet - 1) (drop 1 sheet) (omega (arith, length-drop 1 sheet))) in
-    ap₂ (λ (u b : Bool). (not (a .used && eqb (a .q .round) 1) || u) && ltb (mask-share sheet) p && b) small (c .all-below .ensures ∙ rest)
+returns c = c .in-field-in-probe .ensures
+
+total-share-requires : tie.Need-total-share-requires
+total-share-requires c κs = search needs
+
+returns-2 : tie.Need-returns-2
+returns-2 c =
+    let s = c .before .before .before .before .before in
+    let a = s .args in
+    ap (λ (w : ℕ). not (a .used) || ltb w p) (c .total-share .ensures)
+    ∙ sym (in-field-late (a .q) (a .used) (a .totals .now) (a .sheet .now) (omega arith) (s .pre .3 ∙ total-words (a .q) (omega arith)))
 
 pub in-field-spec : {M : Type 1} → statement M
-in-field-spec =
-    tie.close
-    (tie.spec
-    demand-share-requires
-    supply-share-requires
-    shared-slice-read-result
-    sub-all-below
-    part-all-below-start
-    part-all-below-end
-    all-below-requires
-    returns)
+in-field-spec = tie.close (tie.spec in-field-in-probe-requires returns total-share-requires returns-2)

@@ -22,14 +22,14 @@ returns c = sym (answered-refused _ _ _ (refuses _ _ _ (ap not (sym (c .before .
 whole : (c : tie.Else1) → not (sound (c .before .before .args .q)) ≡ false
 whole c = ap not (sym (c .before .sound .ensures)) ∙ c .if1 .left
 
-finished-requires : tie.Need-finished-requires
-finished-requires c κs = search needs
+ended-requires : tie.Need-ended-requires
+ended-requires c κs = search needs
 
 returns-2 : tie.Need-returns-2
 unfolding answer-judgement
 returns-2 c =
-    let turn = ap not (sym (c .before .finished .ensures)) ∙ c .if2 .taken in
-    sym (answered-refused _ _ _ (passes _ _ _ (whole (c .before .before .before)) ∙ refuses _ _ _ turn))
+    let turn = ap not (sym (c .before .ended .ensures)) ∙ c .if2 .taken in
+    sym (answered-refused _ _ _ (passes _ _ _ (whole (c .before .before)) ∙ refuses _ _ _ turn))
 
 price-requires : tie.Need-price-requires
 price-requires c κs = search needs
@@ -37,11 +37,11 @@ price-requires c κs = search needs
 returns-3 : tie.Need-returns-3
 unfolding answer-judgement
 returns-3 c =
-    let f = c .before .before in
-    let s = f .before .before .before .before .args .q .search in
-    let turn = ap not (sym (f .finished .ensures)) ∙ c .before .if2 .left in
+    let f = c .before .before .before in
+    let s = f .before .before .before .args .q .search in
+    let turn = ap not (sym (f .ended .ensures)) ∙ c .before .before .if2 .left in
     ap (λ (index : ℕ). Cleared index (s .probes)) (c .price .ensures)
-    ∙ sym (answered-accepted _ _ (passes _ _ _ (whole (f .before .before)) ∙ passes _ _ _ turn ∙ all-passed))
+    ∙ sym (answered-accepted _ _ (passes _ _ _ (whole (f .before)) ∙ passes _ _ _ turn ∙ all-passed))
 
 pub answer-spec : {M : Type 1} → statement M
-answer-spec = tie.close (tie.spec sound-requires returns finished-requires returns-2 price-requires returns-3)
+answer-spec = tie.close (tie.spec sound-requires returns ended-requires returns-2 price-requires returns-3)
