@@ -25,7 +25,7 @@ use refusal::Refusal;
 use sharing::threshold;
 
 // Amounts are tenths of an hour, and no amount is larger.
-const MOST: u64 = 4_194_303;
+pub const MOST: u64 = 4_194_303;
 
 // Writes a party's shares of the 2k amounts, each made with t coins of its own. Nothing is written
 // unless all of the call is accepted.

@@ -3,12 +3,10 @@ ghost use mathlib.Core.Path.{_≡_};
 ghost use Prim.Native.Nat.{_^_, _≤_, _<_};
 ghost use Rattle.bid.specs.Table.{most};
 ghost use Rattle.filling.specs.Fill.{hours, remainder, fill-reply};
+use bid::MOST;
 use record::Party;
 use record::sound;
 use refusal::Refusal;
-
-// Amounts are tenths of an hour, and no amount is larger.
-const MOST: u64 = 4_194_303;
 
 // The round when the totals are open.
 const OPEN: u64 = 36;

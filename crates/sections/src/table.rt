@@ -5,10 +5,8 @@ ghost use lib.Dec.{leb};
 ghost use lib.ListN.{length};
 ghost use Rattle.bid.specs.Table.{most};
 ghost use Rattle.sections.specs.Sections.{passed, rising, table-fault, xor-of};
+use bid::MOST;
 use ranges::first_bend;
-
-// Amounts are tenths of an hour, and no amount is larger.
-const MOST: u64 = 4_194_303;
 
 // A refusal's number, and the line that it names.
 pub enum Fault {
