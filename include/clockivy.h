@@ -1,6 +1,6 @@
 /*
  * clockivy.h - a sealed-bid uniform-price auction among parties who hold every
- * amount in shares, as nine calls. Link with libexchange.a, which is for x86-64.
+ * amount in shares, as eleven calls. Link with libexchange.a, which is for x86-64.
  *
  * Terms
  *   n       the number of parties, 3 to 9; t is (n - 1) / 2 rounded down
@@ -78,6 +78,33 @@
  *     at the index that its record has come to. A record that somebody else has
  *     altered may make it say its shares at another index, so keep it where nobody
  *     else writes.
+ *
+ * The settlement page
+ *   What every bidder wanted and got at the price, as lines to pin to a board
+ *   (clockivy_settlement_write). The entries are CLOCKIVY_ENTRIES_LEN amounts in
+ *   tenths of an hour: for bidders 1 to 1,000 in turn what each would buy, what it
+ *   got of that, what it would sell, and what it got to sell. In that order every
+ *   bidder and side that wants more than 0 has a line, of 60 bytes and a newline.
+ *   At a price of 111 pence an hour:
+ *
+ *      1   buy        30.0        12.5                    1387 5
+ *   1000  sell        12.5        12.5                    1387 5
+ *
+ *   The bidder's number has 4 columns, buy or sell has 6, the hours wanted have
+ *   12, those got 12, both with one decimal, and the pence due 26, all right-aligned
+ *   with spaces. The pence are the tenths got times the price, divided by 10, then a
+ *   space and the remainder as one digit. Numbers are as short as they can be, 0.5
+ *   and not .5 or 00.5. So entries have one page at a price, which is empty where
+ *   nobody wants anything; and a page is that of one list of entries or of none
+ *   (clockivy_settlement_read). What those who write and read pages have to see to:
+ *   - A page shows every bidder's amounts at the price, wanted and got. It is made
+ *     by somebody whom the bidders let see these: the parties of an auction do not
+ *     see them. Pinned up, it tells everybody.
+ *   - Reading tells that some entries lay out to these bytes at this price, and
+ *     which. It does not tell that these were bid, or that an auction gave them: see
+ *     to where a page comes from.
+ *   - A page does not show the price, so keep that with it. At another one it is
+ *     refused with 13, unless nobody got anything: then it is the same at all.
  *
  * Buffers
  *   Every buffer is the caller's and is lent for the length of the call; no
@@ -264,13 +291,15 @@ extern "C" {
 enum {
     CLOCKIVY_DONE = 0,
     CLOCKIVY_OUT_OF_RANGE = 1,        /* n, own, k, entry, bidder, a mark of who was
-                                         present or a field of the record */
+                                         present, a field of the record or the price
+                                         of a settlement page */
     CLOCKIVY_WRONG_LENGTH = 2,        /* a slice is not as long as stated */
     CLOCKIVY_OUT_OF_TURN = 3,         /* a bid after the first heard round; a round
                                          when over; the answer before it is over */
     CLOCKIVY_COIN_OUT_OF_RANGE = 5,   /* a coefficient at or above the prime, a mask
                                          at or above 2^58 */
-    CLOCKIVY_AMOUNT_TOO_LARGE = 6,    /* an amount above 4,194,303 */
+    CLOCKIVY_AMOUNT_TOO_LARGE = 6,    /* an amount above 4,194,303; on a settlement
+                                         page, more got than wanted */
     CLOCKIVY_NOT_MONOTONE = 7,        /* demand rises or supply falls */
     CLOCKIVY_SHARE_OUT_OF_RANGE = 8,  /* an amount's share at or above the prime, a
                                          bit's share above 255 */
@@ -282,10 +311,13 @@ enum {
     CLOCKIVY_SUM_OUT_OF_RANGE = 11,   /* the opened sum of round 1; an opened total of
                                          2^32 or more, or supply above demand */
     CLOCKIVY_VERDICT_NOT_BIT = 12,    /* the opened verdict is above 1 */
+    CLOCKIVY_MALFORMED = 13,          /* rehearsal, and a settlement page that no
+                                         entries lay out to */
     CLOCKIVY_ALREADY_ENTERED = 14,    /* a bid of this bidder has been added */
     CLOCKIVY_TOO_FEW_PRESENT = 15,    /* fewer than t + 1 parties were present */
-    CLOCKIVY_NOT_CLEARED = 16         /* a fill before the totals are open, or without
+    CLOCKIVY_NOT_CLEARED = 16,        /* a fill before the totals are open, or without
                                          a price */
+    CLOCKIVY_PAGE_TOO_SHORT = 17      /* a lent page that cannot hold every line */
 };
 
 /* Limits. */
@@ -296,6 +328,7 @@ enum {
 #define CLOCKIVY_MAX_BIDS 1000 /* the most bids held, and the highest bidder number */
 #define CLOCKIVY_MAX_AMOUNT 4194303
 #define CLOCKIVY_TOTAL_LIMIT (((uint64_t)1) << 32) /* D and S are below it */
+#define CLOCKIVY_HIGHEST_PRICE 1000000 /* of an hour, in pence; the lowest is 1 */
 
 /* Rounds. */
 #define CLOCKIVY_ROUNDS 33       /* those of a probe are 1 to 33 */
@@ -312,6 +345,11 @@ enum {
 #define CLOCKIVY_COINS_LEN(n, k) (2 * (k) * CLOCKIVY_THRESHOLD(n))
 #define CLOCKIVY_DEAL_WORDS_LEN(n) (1 + CLOCKIVY_THRESHOLD(n))
 #define CLOCKIVY_DEAL_BYTES_LEN(n) (126 * CLOCKIVY_THRESHOLD(n) + 62)
+
+/* Lengths of a settlement page: its entries in words, the others in bytes. */
+#define CLOCKIVY_ENTRIES_LEN 4000
+#define CLOCKIVY_LINE_LEN 61 /* with its newline */
+#define CLOCKIVY_MAX_PAGE_LEN 122000 /* of 2,000 lines */
 
 /*
  * Opens party own's session: zeroes totals and writes a new record.
@@ -529,6 +567,46 @@ uint64_t clockivy_answer(const uint64_t *record, size_t record_len,
  */
 uint64_t clockivy_fill(const uint64_t *record, size_t record_len, uint64_t amount,
                        uint64_t *hours, uint64_t *remainder);
+
+/*
+ * Writes the lines of the settlement page of entries at a price, and how many bytes
+ * they are. What page holds past them stays. It tells every bidder's amounts to
+ * whoever sees it: see "The settlement page".
+ *
+ *   price    of an hour, in pence, 1 to 1,000,000
+ *   entries  CLOCKIVY_ENTRIES_LEN words: for each bidder wanted and got, buying, then
+ *            wanted and got, selling
+ *   page     any number of bytes, written from the first on; CLOCKIVY_MAX_PAGE_LEN
+ *            are enough for any entries
+ *   written  one word, written: CLOCKIVY_LINE_LEN for each line
+ *
+ *   1   price is out of range
+ *   2   entries has not CLOCKIVY_ENTRIES_LEN words
+ *   6   an amount is above 4,194,303, or one that was got is above the one wanted
+ *   17  page has fewer bytes than the lines
+ */
+uint64_t clockivy_settlement_write(uint64_t price,
+                                   const uint64_t *entries, size_t entries_len,
+                                   uint8_t *page, size_t page_len,
+                                   uint64_t *written);
+
+/*
+ * Writes the entries whose settlement page at this price is the one lent. There is
+ * one list of them at most. That it is what was bid and what an auction gave is
+ * nothing that a page can tell: see "The settlement page".
+ *
+ *   price    of an hour, in pence, 1 to 1,000,000: that of the page
+ *   page     the bytes of the page, to its last newline; none where it has no line
+ *   entries  CLOCKIVY_ENTRIES_LEN words, written: 0 and 0 where there is no line
+ *
+ *   1   price is out of range
+ *   2   entries has not CLOCKIVY_ENTRIES_LEN words
+ *   13  no entries lay out to this page at this price: it has anything in another
+ *       way than clockivy_settlement_write writes it
+ */
+uint64_t clockivy_settlement_read(uint64_t price,
+                                  const uint8_t *page, size_t page_len,
+                                  uint64_t *entries, size_t entries_len);
 
 #ifdef __cplusplus
 }

@@ -4,10 +4,11 @@
  * the bid is sent again when the others are in. A party drops off in the middle
  * of a probe; the others go on, and it hears what it has missed when it comes
  * back. Demand equals supply at four neighbouring prices, and the middle one is
- * taken, rounded down; the totals there are opened, and each fleet works out its
- * hours. Prints the bid sent again, each probe, the party that comes back, the
- * price, the totals and every bidder's hours, and checks all of it against the
- * tables, which only a program that plays every role can add up.
+ * taken, rounded down; the totals there are opened, each fleet works out its
+ * hours, and the settlement page has those of all. Prints the bid sent again, each
+ * probe, the party that comes back, the price, the totals and the page, and checks
+ * all of it against the tables, which only a program that plays every role can add
+ * up.
  *
  *   cc -O2 -I../../include auction.c -L../../target/staticlib -lexchange -o auction
  *
@@ -332,17 +333,13 @@ static uint64_t expected_index(void)
     return lowest <= highest ? (highest + lowest) / 2 : highest;
 }
 
-/* Tenths of an hour as hours. */
-static void print_hours(const char *before, uint64_t tenths)
-{
-    printf("%s%d.%d", before, (int)(tenths / 10), (int)(tenths % 10));
-}
-
 /*
  * Every fleet is told the index and the totals, and has its own table: what it
  * sells there is sold, and what it gets of what it wants it works out for itself.
+ * Here all of them tell it to whoever lays out the page.
  */
-static void share_out(uint64_t index, uint64_t total_demand, uint64_t total_supply)
+static void share_out(uint64_t index, uint64_t total_demand, uint64_t total_supply,
+                      uint64_t *entries)
 {
     clockivy_party cleared;
     uint64_t bought = 0;
@@ -353,15 +350,15 @@ static void share_out(uint64_t index, uint64_t total_demand, uint64_t total_supp
     for (i = 0; i < BIDS; i++) {
         const uint64_t wants = tables[i][index - 1];
         const uint64_t sells = tables[i][K + index - 1];
+        uint64_t *const settled = entries + 4 * (bidders[i] - 1);
         uint64_t hours;
         uint64_t remainder;
 
         done(clockivy_party_fill(&cleared, wants, &hours, &remainder), "fill");
-        printf("bidder %d", (int)bidders[i]);
-        print_hours(" buys ", hours);
-        print_hours(" of ", wants);
-        print_hours(", sells ", sells);
-        printf("\n");
+        settled[0] = wants;
+        settled[1] = hours;
+        settled[2] = sells;
+        settled[3] = sells;
         bought += hours;
         remainders += remainder;
     }
@@ -369,8 +366,24 @@ static void share_out(uint64_t index, uint64_t total_demand, uint64_t total_supp
           "something is left that is in no remainder");
 }
 
+/* Prints the page. Whoever knows the price reads the hours off it again. */
+static void pin_up(uint64_t price, const uint64_t *entries)
+{
+    static uint8_t page[2 * BIDS * CLOCKIVY_LINE_LEN];
+    static uint64_t found[CLOCKIVY_ENTRIES_LEN];
+    uint64_t written;
+
+    done(clockivy_settlement_write(price, entries, CLOCKIVY_ENTRIES_LEN,
+                                   page, sizeof page, &written), "settlement_write");
+    fwrite(page, 1, (size_t)written, stdout);
+    done(clockivy_settlement_read(price, page, (size_t)written,
+                                  found, CLOCKIVY_ENTRIES_LEN), "settlement_read");
+    check(memcmp(found, entries, sizeof found) == 0, "the page gives other entries");
+}
+
 int main(void)
 {
+    static uint64_t entries[CLOCKIVY_ENTRIES_LEN];
     const clockivy_party *party = &seats[0].party;
     uint64_t index = 0;
     uint64_t probes = 0;
@@ -431,6 +444,7 @@ int main(void)
     printf("clears %d %d\n", (int)index, prices[index - 1]);
     printf("demand %d supply %d\n", (int)party->demand, (int)party->supply);
     printf("rounds %d\n", (int)rounds);
-    share_out(index, party->demand, party->supply);
+    share_out(index, party->demand, party->supply, entries);
+    pin_up((uint64_t)prices[index - 1], entries);
     return EXIT_SUCCESS;
 }

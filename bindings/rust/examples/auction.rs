@@ -3,10 +3,10 @@
 //! the bid is sent again when the others are in. A party drops off in the middle
 //! of a probe; the others go on, and it hears what it has missed when it comes
 //! back. Demand equals supply at four neighbouring prices, and the middle one is
-//! taken, rounded down; the totals there are opened, and each fleet works out its
-//! hours. Prints the bid sent again, each probe, the party that comes back, the
-//! price, the totals and every bidder's hours, and checks all of it against the
-//! tables, which only a program that plays every role can add up.
+//! taken, rounded down; the totals there are opened, each fleet works out its hours,
+//! and the settlement page has those of all. Prints the bid sent again, each probe,
+//! the party that comes back, the price, the totals and the page, and checks all of it
+//! against the tables, which only a program that plays every role can add up.
 //!
 //! The coins here come from a small generator with a fixed seed. A real bidder
 //! or dealer draws them from the operating system.
@@ -17,7 +17,8 @@ use std::ops::Range;
 
 use clockivy::{
     coins_len, deal, deal_bytes_len, deal_words_len, sheets_len, split, table_len, Answer, Cleared,
-    Collecting, Entries, Fill, Record, Refusal, Speaking, MASK_LIMIT, MAX_BIDS, ROUNDS, SHEET_LEN,
+    Collecting, Entries, Fill, Line, Record, Refusal, Settlement, Side, Speaking, MASK_LIMIT,
+    MAX_BIDS, ROUNDS, SHEET_LEN,
 };
 use coins::Coins;
 
@@ -128,7 +129,8 @@ fn main() -> Result<(), Refusal> {
     assert_eq!(totals, [demand(index), supply(index)]);
     println!("demand {} supply {}", totals[0], totals[1]);
     println!("rounds {rounds}");
-    share_out(index, cleared)
+    let settlement = share_out(index, cleared)?;
+    pin_up(&settlement, PRICES[index as usize - 1])
 }
 
 /// Whether there is another probe.
@@ -137,30 +139,37 @@ fn is_searching(party: &Speaking) -> bool {
 }
 
 /// Every fleet is told the index and the totals, and has its own table: what it sells
-/// there is sold, and what it gets of what it wants it works out for itself.
-fn share_out(index: u64, cleared: Cleared) -> Result<(), Refusal> {
+/// there is sold, and what it gets of what it wants it works out for itself. Here all
+/// of them tell it to whoever lays out the page.
+fn share_out(index: u64, cleared: Cleared) -> Result<Settlement, Refusal> {
+    let mut settlement = Settlement::new();
     let (mut bought, mut remainders) = (0, 0);
     for (bidder, table) in BIDDERS.into_iter().zip(&BIDS) {
         let [wants, sells] = [index, K + index].map(|entry| table[entry as usize - 1]);
         let Fill { hours, remainder } = cleared.fill(wants)?;
-        println!(
-            "bidder {bidder} buys {} of {}, sells {}",
-            shown(hours),
-            shown(wants),
-            shown(sells)
-        );
+        for (side, wanted, got) in [(Side::Buy, wants, hours), (Side::Sell, sells, sells)] {
+            settlement.set(Line {
+                bidder,
+                side,
+                wanted,
+                got,
+            })?;
+        }
         bought += hours;
         remainders += remainder;
     }
     // Nothing is lost: what is left over is in the remainders.
     let [demand, supply] = [cleared.demand(), cleared.supply()];
     assert_eq!(bought * demand + remainders, demand * supply);
-    Ok(())
+    Ok(settlement)
 }
 
-/// Tenths of an hour as hours.
-fn shown(tenths: u64) -> String {
-    format!("{}.{}", tenths / 10, tenths % 10)
+/// Prints the page. Whoever knows the price reads the hours off it again.
+fn pin_up(settlement: &Settlement, price: u64) -> Result<(), Refusal> {
+    let page = settlement.write(price)?;
+    print!("{}", String::from_utf8_lossy(&page));
+    assert_eq!(Settlement::read(price, &page)?, *settlement);
+    Ok(())
 }
 
 fn open_sessions(totals: &mut [Vec<u64>]) -> Result<Vec<Collecting>, Refusal> {

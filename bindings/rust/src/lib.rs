@@ -24,6 +24,8 @@
 //!   none, the highest at which demand is above supply, or 0 for no price.
 //! * A bidder that **buys** at the price is told the totals there ([`Cleared`]), and
 //!   works out by them how many hours it gets ([`Cleared::fill`]).
+//! * Whoever may see every bidder's hours lays them out as a page for a board
+//!   ([`Settlement`]). No party does.
 //!
 //! A call judges all that it is lent, and where something is wrong it answers a
 //! [`Refusal`] and changes nothing. Drawing coins, networks and signatures are
@@ -85,6 +87,36 @@
 //!   the index that its session has come to. A stored session that somebody else has
 //!   altered may say its shares at another index, so keep it where nobody else
 //!   writes.
+//!
+//! # The settlement page
+//!
+//! A page has a line for each bidder and side that wants more than 0 at the price,
+//! and is written and read at a price of 1 to 1,000,000 pence an hour
+//! ([`Settlement`]). A line is 60 bytes and a newline, all columns right-aligned with
+//! spaces:
+//!
+//! | bytes | what they show |
+//! |---|---|
+//! | 4 | the bidder's number |
+//! | 6 | `buy` or `sell` |
+//! | 12 | hours wanted, with one decimal |
+//! | 12 | hours got, with one decimal |
+//! | 26 | pence due: tenths got times the price, divided by 10, then a space and the remainder as one digit |
+//!
+//! Lines go by the bidder's number, and buy stands before sell. Numbers are as short as
+//! they can be: 0.5 and not .5 or 00.5. So a settlement has one page at a price, and a
+//! page is that of one settlement at most. What those who make and read pages have to
+//! see to:
+//!
+//! * A page shows what every bidder wanted and got. It is for somebody whom the bidders
+//!   let see that to make; the parties of an auction do not see it. Once it is pinned up
+//!   everybody does.
+//! * Reading tells that some entries lay out to these bytes at this price, and which.
+//!   It does not tell that these were bid, or what an auction gave: see to where a page
+//!   comes from.
+//! * A page does not show its price, so keep it along. At another one the page is
+//!   [`Malformed`](Refusal::Malformed), unless nobody got anything: then every price
+//!   gives the same page.
 //!
 //! # A bid entry by entry
 //!
@@ -322,6 +354,7 @@ mod entries;
 mod record;
 mod refusal;
 mod session;
+mod settlement;
 pub mod words;
 
 pub use cleared::{Cleared, Fill};
@@ -329,6 +362,7 @@ pub use entries::Entries;
 pub use record::Record;
 pub use refusal::Refusal;
 pub use session::{Answer, Collecting, Speaking};
+pub use settlement::{Line, Settlement, Side};
 
 use refusal::outcome;
 
@@ -347,6 +381,9 @@ pub const MAX_PRICES: u64 = 1_024;
 pub const MAX_BIDS: u64 = 1_000;
 /// The largest amount, in tenths of an hour.
 pub const MAX_AMOUNT: u64 = 4_194_303;
+/// The highest price of an hour, in pence, at which a settlement page is written or
+/// read. The lowest is 1.
+pub const HIGHEST_PRICE: u64 = 1_000_000;
 /// The rounds of a probe.
 pub const ROUNDS: u64 = 33;
 /// The round in which total demand at the price is opened.
@@ -366,6 +403,12 @@ pub const ROLL_LEN: usize = 16;
 pub const RECORD_LEN: usize = 10 + ROLL_LEN + 5;
 /// The words of a stored session: which of the two types it is, then its record.
 pub const STORED_LEN: usize = 1 + RECORD_LEN;
+/// The words of a settlement's entries: two for each bidder and side.
+pub const ENTRIES_LEN: usize = 4 * MAX_BIDS as usize;
+/// The bytes of a line of a settlement page: 60, and a newline.
+pub const LINE_LEN: usize = 60 + 1;
+/// The bytes of the longest settlement page: a line for each bidder and side.
+pub const MAX_PAGE_LEN: usize = 2 * MAX_BIDS as usize * LINE_LEN;
 
 /// The number t of coefficients of a sharing among `n` parties.
 pub const fn threshold(n: u64) -> usize {

@@ -9,11 +9,12 @@ use std::fmt;
 pub enum Refusal {
     /// 1: `n`, `own`, `k`, the entry's or the bidder's number is outside its
     /// range, or a field of the record is, or the first word of a stored
-    /// session, or a mark of who was present is above 1; `bids` is not the number
-    /// of marks on the roll, or the roll marks a number outside 1 to 1,000; the
-    /// numbers of the two searches do not fit, as where the first has ended and
-    /// the second has not begun; the round is none of those that the searches
-    /// have come to; or total supply is above total demand.
+    /// session, or a mark of who was present is above 1, or the price of a
+    /// settlement page; `bids` is not the number of marks on the roll, or the roll
+    /// marks a number outside 1 to 1,000; the numbers of the two searches do not
+    /// fit, as where the first has ended and the second has not begun; the round is
+    /// none of those that the searches have come to; or total supply is above total
+    /// demand.
     OutOfRange = 1,
     /// 2: a slice has not the length that the call states.
     WrongLength = 2,
@@ -23,7 +24,7 @@ pub enum Refusal {
     OutOfTurn = 3,
     /// 5: a coefficient is not below the prime, or a mask not below 2^58.
     CoinOutOfRange = 5,
-    /// 6: an amount is above 4,194,303.
+    /// 6: an amount is above 4,194,303, or a bidder got more than it wanted.
     AmountTooLarge = 6,
     /// 7: demand rises or supply falls.
     NotMonotone = 7,
@@ -41,6 +42,9 @@ pub enum Refusal {
     SumOutOfRange = 11,
     /// 12: the opened verdict is neither 0 nor 1.
     VerdictNotBit = 12,
+    /// 13: no entries lay out to a settlement page at its price. (The rehearsal has
+    /// this number for a file that is none.)
+    Malformed = 13,
     /// 14: a bid of this bidder has been added already.
     AlreadyEntered = 14,
     /// 15: fewer than t + 1 parties are marked as present.
@@ -48,11 +52,13 @@ pub enum Refusal {
     /// 16: a fill is wanted before the totals at the price are open, or there is
     /// no price.
     NotCleared = 16,
+    /// 17: the page that is lent cannot hold every line of a settlement.
+    PageTooShort = 17,
 }
 
 impl Refusal {
     /// Every refusal, in the order of the numbers.
-    pub const ALL: [Refusal; 14] = [
+    pub const ALL: [Refusal; 16] = [
         Refusal::OutOfRange,
         Refusal::WrongLength,
         Refusal::OutOfTurn,
@@ -64,12 +70,14 @@ impl Refusal {
         Refusal::Inconsistent,
         Refusal::SumOutOfRange,
         Refusal::VerdictNotBit,
+        Refusal::Malformed,
         Refusal::AlreadyEntered,
         Refusal::TooFewPresent,
         Refusal::NotCleared,
+        Refusal::PageTooShort,
     ];
 
-    /// The refusal's number, 1 to 16. The calls give neither 4 nor 13.
+    /// The refusal's number, 1 to 17. The calls do not give 4.
     pub fn number(self) -> u64 {
         self as u64
     }
@@ -96,9 +104,11 @@ impl fmt::Display for Refusal {
             Refusal::Inconsistent => "the messages lie on no polynomial of the degree",
             Refusal::SumOutOfRange => "the opened sum or total is out of range",
             Refusal::VerdictNotBit => "the opened verdict is not a bit",
+            Refusal::Malformed => "no entries lay out to the page at this price",
             Refusal::AlreadyEntered => "a bid of this bidder has been added already",
             Refusal::TooFewPresent => "too few parties were present",
             Refusal::NotCleared => "no totals are open, or there is no price",
+            Refusal::PageTooShort => "the page is too short for every line",
         };
         write!(f, "refusal {}: {text}", self.number())
     }

@@ -1,4 +1,4 @@
-//! The nine calls on plain words, as the C library has them. The reply is 0,
+//! The eleven calls on plain words, as the C library has them. The reply is 0,
 //! or the number of the [refusal](crate::Refusal), and then nothing that was
 //! lent has changed. Each call's refusals are listed in the order in which it
 //! judges them. But a record may have any length here, and where it has not
@@ -106,6 +106,21 @@ extern "C" {
         amount: u64,
         hours: *mut u64,
         remainder: *mut u64,
+    ) -> u64;
+    fn clockivy_settlement_write(
+        price: u64,
+        entries: *const u64,
+        entries_len: usize,
+        page: *mut u8,
+        page_len: usize,
+        written: *mut u64,
+    ) -> u64;
+    fn clockivy_settlement_read(
+        price: u64,
+        page: *const u8,
+        page_len: usize,
+        entries: *mut u64,
+        entries_len: usize,
     ) -> u64;
 }
 
@@ -251,4 +266,32 @@ pub fn answer(record: &[u64], index: &mut u64, probes: &mut u64) -> u64 {
 /// the remainder. Refusals 1, 2, 16, 6.
 pub fn fill(record: &[u64], amount: u64, hours: &mut u64, remainder: &mut u64) -> u64 {
     unsafe { clockivy_fill(record.as_ptr(), record.len(), amount, hours, remainder) }
+}
+
+/// Writes the lines of the entries, and how many bytes they are; what `page` holds
+/// past them stays. Refusals 1, 2, 6, 17.
+pub fn settlement_write(price: u64, entries: &[u64], page: &mut [u8], written: &mut u64) -> u64 {
+    unsafe {
+        clockivy_settlement_write(
+            price,
+            entries.as_ptr(),
+            entries.len(),
+            page.as_mut_ptr(),
+            page.len(),
+            written,
+        )
+    }
+}
+
+/// Writes the entries that lay out to `page`. Refusals 1, 2, 13.
+pub fn settlement_read(price: u64, page: &[u8], entries: &mut [u64]) -> u64 {
+    unsafe {
+        clockivy_settlement_read(
+            price,
+            page.as_ptr(),
+            page.len(),
+            entries.as_mut_ptr(),
+            entries.len(),
+        )
+    }
 }

@@ -13,6 +13,8 @@ use Rattle.session.specs.Answer.{answer-reply, answer-number, cleared-index, cl
 use Rattle.saying.specs.Say.{say-reply, said-number, said-word}
 use Rattle.hearing.specs.Hear.{hear-reply}
 use Rattle.filling.specs.Fill.{fill-reply, filled-number, filled-hours, filled-remainder}
+use Rattle.settlement.specs.Write.{write-reply, written-number, written-bytes}
+use Rattle.settlement.specs.Read.{read-judgement}
 use Rattle.record_words.specs.Words.{party-of, record-judgement, on-record, number-on, stored}
 
 -- ---- opening: the ranges come first, then the lengths
@@ -83,3 +85,15 @@ module _ (words : List ℕ) (amount : ℕ) where
 
   abbrev pub fill-remainder : (old : ℕ) → ℕ
   fill-remainder old = on-record words (filled-remainder (fill-reply (party-of words) amount) old) old
+
+-- ---- the settlement page: what is left of the page is `write-left`, and of the entries `read-left`
+
+module _ (price : ℕ) (entries page : List ℕ) where
+  abbrev pub settlement-write-code : ℕ
+  settlement-write-code = written-number (write-reply price entries page)
+
+  abbrev pub settlement-written : (old : ℕ) → ℕ
+  settlement-written old = written-bytes (write-reply price entries page) old
+
+abbrev pub settlement-read-code : (price : ℕ) (page entries : List ℕ) → ℕ
+settlement-read-code price page entries = codeOf (read-judgement price page entries)

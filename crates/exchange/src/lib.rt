@@ -4,7 +4,9 @@ ghost use mathlib.Core.Path.{_≡_};
 ghost use Rattle.bid.specs.Split.{split-left};
 ghost use Rattle.bid.specs.Entry.{split-entry-left};
 ghost use Rattle.dealer.specs.Deal.{deal-left};
-ghost use Rattle.exchange.specs.Calls.{open-code, open-totals, open-record, split-code, split-entry-code, deal-code, add-code, add-totals, add-record, say-code, say-message, hear-code, hear-record, answer-code, answer-index, answer-probes, fill-code, fill-hours, fill-remainder};
+ghost use Rattle.settlement.specs.Write.{write-left};
+ghost use Rattle.settlement.specs.Read.{read-left};
+ghost use Rattle.exchange.specs.Calls.{open-code, open-totals, open-record, split-code, split-entry-code, deal-code, add-code, add-totals, add-record, say-code, say-message, hear-code, hear-record, answer-code, answer-index, answer-probes, fill-code, fill-hours, fill-remainder, settlement-write-code, settlement-written, settlement-read-code};
 use filling::Filled;
 use filling::fill;
 use hearing::hear;
@@ -21,6 +23,7 @@ use session::Answer;
 use session::add;
 use session::answer;
 use session::open;
+use settlement::Written;
 
 // Nothing is zeroed unless the record can be written too. n, own and k out of their ranges count
 // before any wrong length.
@@ -198,4 +201,34 @@ pub extern "C" fn clockivy_fill(
         }
         Filled::Refused(why) => number(why),
     }
+}
+
+// The settlement page of these entries at the price, and how many bytes its lines take.
+#[no_mangle]
+pub extern "C" fn clockivy_settlement_write(
+    price: u64,
+    entries: &[u64],
+    page: &mut [u8],
+    written: &mut u64,
+) -> u64
+    ensures { λ r. ⌜ (r ≡ settlement-write-code price (now (entries .entry)) (now (page .entry)))
+        × (now (page .exit) ≡ write-left price (now (entries .entry)) (now (page .entry)))
+        × (now (written .exit) ≡ settlement-written price (now (entries .entry)) (now (page .entry)) (now (written .entry))) ⌝ }
+{
+    match settlement::write(price, entries, page) {
+        Written::Bytes(count) => {
+            *written = count;
+            0
+        }
+        Written::Refused(why) => number(why),
+    }
+}
+
+// The entries that a page was laid out of at the price.
+#[no_mangle]
+pub extern "C" fn clockivy_settlement_read(price: u64, page: &[u8], entries: &mut [u64]) -> u64
+    ensures { λ r. ⌜ (r ≡ settlement-read-code price (now (page .entry)) (now (entries .entry)))
+        × (now (entries .exit) ≡ read-left price (now (page .entry)) (now (entries .entry))) ⌝ }
+{
+    code(settlement::read(price, page, entries))
 }

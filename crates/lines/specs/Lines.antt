@@ -1,9 +1,10 @@
 -- The lines of the input: "whole numbers, one a line ending in a newline, no leading zeros, at most 2^64 - 1". Assumes nothing.
-use mathlib.Core.Bool.{Bool, true, false, cond, _&&_}
+use mathlib.Core.Bool.{Bool, true, false, cond}
 use mathlib.Core.List.{List, [], _∷_}
 use Prim.Native.Nat.{ℕ, zero, suc, _+_, _-_, _*_, _^_}
-use lib.Dec.{leb, ltb, eqb}
+use lib.Dec.{ltb, eqb}
 use lib.ListN.{drop}
+use Rattle.decimal.specs.Decimal.{digit}
 use Rattle.lines.specs.declared.line.Line.{Line}
 use Rattle.lines.specs.declared.line.Line.the-variants.{Number, Misshapen}
 use Rattle.lines.specs.declared.line.Part.{Part}
@@ -11,10 +12,6 @@ use Rattle.lines.specs.declared.line.Part.the-variants.{Empty, Digits, B
 
 abbrev pub newline : ℕ
 newline = 10
-
--- the ASCII codes of 0 to 9
-abbrev pub digit : ℕ → Bool
-digit b = leb 48 b && leb b 57
 
 -- A part of a line and one digit more: a part that is 0 stays alone ("no leading zeros"), and none grows past 2^64 - 1.
 unfoldable pub with-digit : Part → ℕ → Part

@@ -5,11 +5,10 @@ use Prim.Native.Nat.{ℕ, zero, suc, _+_}
 use native.Mathlib.Nat.{add-zero}
 use native.Mathlib.Omega.{arith}
 use lib.ListN.{length, getD, length-append}
-use Rattle.listing.specs.Text.{decimal}
-use Rattle.listing.specs.Lines.{probe-line, probe-lines, clears-line, totals-line, course-trail}
+use Rattle.decimal.specs.Decimal.{decimal}
+use Rattle.listing.specs.Lines.{probe-line, probe-lines, no-price-line, clears-line, totals-line, course-trail}
 
-pub clears-none : (answer price : ℕ) → answer ≡ 0
-    → clears-line answer price ≡ 99 ∷ 108 ∷ 101 ∷ 97 ∷ 114 ∷ 115 ∷ 32 ∷ 48 ∷ 32 ∷ 110 ∷ 111 ∷ 110 ∷ 101 ∷ 10 ∷ []
+pub clears-none : (answer price : ℕ) → answer ≡ 0 → clears-line answer price ≡ no-price-line
 unfolding clears-line
 clears-none answer price e = ap (λ (i : ℕ). clears-line i price) e
 

@@ -14,7 +14,8 @@ use mir.Val.{Fits}
 use mir.Syntax.{w64}
 use Rattle.io.specs.Digits.{glyph, digits, Fewest}
 use Rattle.lines.proofs.Reading.{either}
-use Rattle.listing.specs.Text.{spelled, decimal, put, Wrote}
+use Rattle.decimal.specs.Decimal.{spelled, decimal}
+use Rattle.listing.specs.Text.{put, Wrote}
 
 -- ---- one piece after another
 

@@ -4,7 +4,7 @@ use mathlib.Core.List.{List, [], _∷_, _++_}
 use Prim.Native.Nat.{ℕ, zero, suc, _+_, _*_}
 use lib.Dec.{eqb}
 use lib.ListN.{length, getD}
-use Rattle.listing.specs.Text.{decimal}
+use Rattle.decimal.specs.Decimal.{decimal}
 
 abbrev newline : List ℕ
 newline = 10 ∷ []
@@ -16,6 +16,10 @@ space = 32 ∷ []
 unfoldable pub refused-line : (number line : ℕ) → List ℕ
 refused-line number line =
     (114 ∷ 101 ∷ 102 ∷ 117 ∷ 115 ∷ 101 ∷ 100 ∷ 32 ∷ []) ++ (decimal number ++ ((32 ∷ 108 ∷ 105 ∷ 110 ∷ 101 ∷ 32 ∷ []) ++ (decimal line ++ newline)))
+
+-- it is the longest line that is printed alone: two numbers of 64 bits have at most 20 digits each
+abbrev pub longest-line : ℕ
+longest-line = 55
 
 -- how many probes a listing holds: two searches of at most nine each
 abbrev pub most-listed : ℕ
@@ -33,9 +37,13 @@ unfoldable pub probe-lines : (probe : ℕ) → List (ℕ × ℕ) → List ℕ
 probe-lines probe [] = []
 probe-lines probe (p ∷ ps) = probe-line probe p ++ probe-lines (suc probe) ps
 
+-- `clears 0 none`
+abbrev pub no-price-line : List ℕ
+no-price-line = 99 ∷ 108 ∷ 101 ∷ 97 ∷ 114 ∷ 115 ∷ 32 ∷ 48 ∷ 32 ∷ 110 ∷ 111 ∷ 110 ∷ 101 ∷ newline
+
 -- "answer and its price (`clears 0 none` when there is none)"; with a second search "`clears` shows the new index"
 unfoldable pub clears-line : (answer price : ℕ) → List ℕ
-clears-line zero price = 99 ∷ 108 ∷ 101 ∷ 97 ∷ 114 ∷ 115 ∷ 32 ∷ 48 ∷ 32 ∷ 110 ∷ 111 ∷ 110 ∷ 101 ∷ newline
+clears-line zero price = no-price-line
 clears-line (suc i) price =
     (99 ∷ 108 ∷ 101 ∷ 97 ∷ 114 ∷ 115 ∷ 32 ∷ []) ++ (decimal (suc i) ++ (space ++ (decimal price ++ newline)))
 

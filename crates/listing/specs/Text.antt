@@ -1,19 +1,8 @@
--- Text as bytes: decimal numbers, and what a buffer holds once text is put into it. Assumes nothing.
+-- Text as bytes: what a buffer holds once text is put into it. Assumes nothing.
 use mathlib.Core.Path.{_≡_}
-use mathlib.Core.Bool.{cond}
-use mathlib.Core.List.{List, [], _∷_, _++_}
-use Prim.Native.Nat.{ℕ, zero, suc, _+_, _/_, _%_, _≤_}
-use lib.Dec.{ltb}
+use mathlib.Core.List.{List, _++_}
+use Prim.Native.Nat.{ℕ, _+_, _≤_}
 use lib.ListN.{length, take, drop}
-
--- the last h decimal digits of n, the most significant first, with no zero in front
-unfoldable pub spelled : (h n : ℕ) → List ℕ
-spelled zero n = []
-spelled (suc h) n = cond (ltb n 10) [] (spelled h (n / 10)) ++ ((48 + n % 10) ∷ [])
-
--- n in decimal; it has at most n + 1 digits
-abbrev pub decimal : ℕ → List ℕ
-decimal n = spelled (suc n) n
 
 -- a buffer with text put at a place; all else is as before
 abbrev pub put : (at : ℕ) (text out : List ℕ) → List ℕ

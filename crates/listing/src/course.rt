@@ -4,7 +4,7 @@ ghost use mathlib.Core.Path.{_≡_};
 ghost use Prim.Native.Nat.{_+_, _*_, _≤_, _<_};
 ghost use lib.ListN.{length, drop};
 ghost use Rattle.listing.specs.Text.{Wrote};
-ghost use Rattle.listing.specs.Lines.{most-listed, refused-line, probe-line, probe-lines, clears-line, totals-line, rounds-of, course-trail, course-lines};
+ghost use Rattle.listing.specs.Lines.{most-listed, longest-line, refused-line, no-price-line, probe-line, probe-lines, clears-line, totals-line, rounds-of, course-trail, course-lines};
 ghost use Rattle.lines.specs.Lines.{price-of};
 use crate::text::append;
 use crate::text::append_field;
@@ -28,12 +28,37 @@ pub struct Course {
     pub supply: u64,
 }
 
-// The one line of a refused input, which is at most 55 bytes long.
-pub fn write_refused(number: u64, line: u64, out: &mut [u8; ROOM]) -> usize
-    ensures { λ r. ⌜ Wrote (now (out .entry)) 0 (refused-line number line) (now (out .exit)) r ⌝ }
+// What a line takes that is printed alone.
+const LINE: usize = 55;
+
+// The one line of a refused input. Where less than it may take is lent, nothing is written.
+pub fn write_refused(number: u64, line: u64, out: &mut [u8]) -> usize
+    ensures { λ r. ⌜ (longest-line ≤ length (now (out .entry)) → Wrote (now (out .entry)) 0 (refused-line number line) (now (out .exit)) r)
+        × (length (now (out .entry)) < longest-line → (r ≡ 0) × (now (out .exit) ≡ now (out .entry))) ⌝ }
 {
+    if out.len() < LINE {
+        return 0;
+    }
     let given = append_field(out, 0, b"refused ", number);
     append_last(out, given, b" line ", line)
+}
+
+// The line that tells that there is no price, likewise.
+pub fn write_no_price(out: &mut [u8]) -> usize
+    ensures { λ r. ⌜ (longest-line ≤ length (now (out .entry)) → Wrote (now (out .entry)) 0 no-price-line (now (out .exit)) r)
+        × (length (now (out .entry)) < longest-line → (r ≡ 0) × (now (out .exit) ≡ now (out .entry))) ⌝ }
+{
+    if out.len() < LINE {
+        return 0;
+    }
+    put_no_price(out, 0)
+}
+
+fn put_no_price(out: &mut [u8], at: usize) -> usize
+    requires { ⌜ at + 14 ≤ length (now out) ⌝ }
+    ensures { λ r. ⌜ Wrote (now (out .entry)) at no-price-line (now (out .exit)) r ⌝ }
+{
+    append(out, at, b"clears 0 none\n")
 }
 
 // The listing of an accepted input. Of more probes than a course holds nothing is written.
@@ -92,7 +117,7 @@ fn write_clears(input: &[u8], prices: usize, answer: u64, out: &mut [u8], at: us
         × (r ≤ at + 49) ⌝ }
 {
     if answer == 0 {
-        return append(out, at, b"clears 0 none\n");
+        return put_no_price(out, at);
     }
     let price = price_at(input, prices, answer - 1);
     let place = append_field(out, at, b"clears ", answer);

@@ -6,4 +6,5 @@ pub use course::Course;
 pub use course::PROBES;
 pub use course::ROOM;
 pub use course::write_course;
+pub use course::write_no_price;
 pub use course::write_refused;

@@ -2,7 +2,8 @@
 ghost use mathlib.Core.List.{[], _∷_, _++_};
 ghost use Prim.Native.Nat.{_+_, _≤_};
 ghost use lib.ListN.{length};
-ghost use Rattle.listing.specs.Text.{decimal, Wrote};
+ghost use Rattle.decimal.specs.Decimal.{decimal};
+ghost use Rattle.listing.specs.Text.{Wrote};
 
 // Puts bytes at `at`, and answers where the next ones go.
 pub(crate) fn append(out: &mut [u8], at: usize, text: &[u8]) -> usize

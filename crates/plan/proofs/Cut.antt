@@ -18,7 +18,8 @@ use Rattle.lines.specs.declared.line.Part.{Part}
 use Rattle.lines.specs.declared.line.Part.the-variants.{Empty, Digits, Bad}
 use Rattle.sections.specs.declared.table.Fault.{Fault}
 use Rattle.sections.specs.declared.table.Fault.the-variants.{None, At}
-use Rattle.lines.specs.Lines.{digit, with-digit, grown, ended, lines, line-after, first-line, line-length, rest}
+use Rattle.decimal.specs.Decimal.{digit}
+use Rattle.lines.specs.Lines.{with-digit, grown, ended, lines, line-after, first-line, line-length, rest}
 use Rattle.plan.specs.Plan.{Reading, check, needed, many, prices, or-fault, bids, ending, read, read-prices, read-bids}
 use Rattle.sections.specs.Sections.{next-price, table-fault}
 use Rattle.plan.proofs.Sections.{line-of, needed-number, needed-misshapen, ending-extra}

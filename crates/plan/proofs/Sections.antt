@@ -11,7 +11,8 @@ use Rattle.lines.specs.declared.line.Line.{Line}
 use Rattle.lines.specs.declared.line.Line.the-variants.{Number, Misshapen}
 use Rattle.lines.specs.declared.line.Part.{Part}
 use Rattle.lines.specs.declared.line.Part.the-variants.{Empty, Digits, Bad}
-use Rattle.lines.specs.Lines.{digit, with-digit, grown, ended, lines-after, lines, line-after, first-line, line-length, rest, line-value, shaped, numbers, bytes-of, formed, past}
+use Rattle.decimal.specs.Decimal.{digit}
+use Rattle.lines.specs.Lines.{with-digit, grown, ended, lines-after, lines, line-after, first-line, line-length, rest, line-value, shaped, numbers, bytes-of, formed, past}
 use Rattle.sections.specs.Sections.{next-price, rising, good-prices}
 use Rattle.plan.specs.Plan.{Reading, faulty, needed, many, prices, ending}
 use Rattle.lines.proofs.Again.{after-rest}

@@ -28,12 +28,14 @@ use Rattle.refusal.specs.declared.Judgement.{Judgement}
 use Rattle.refusal.specs.declared.Judgement.the-variants.{Accepted}
 use Rattle.auction.specs.Auction.{Auction, Bid, IsAuction, demand, supply, price-answer, probed}
 use Rattle.auction.specs.Coins.{Coins, InRange}
+use Rattle.auction.specs.Demands.{FleetTold}
 use Rattle.auction.proofs.Closed.{polynomials, probe-of, Made, decision, made, Stage, fresh-stage, decided-stage, record-at}
 use Rattle.auction.proofs.Totals.{totals-monotone}
 use Rattle.auction.proofs.Step.{sound-at}
 use Rattle.auction.proofs.Placed.{decided-going}
 use Rattle.auction.proofs.Round.{Ready, verdict-is}
 use Rattle.auction.proofs.Search.{after-probes, made-over, made-going, probes-trail, price-found}
+use Rattle.auction.proofs.Hours.{fleet-told}
 use Rattle.auction.proofs.Whole.{last, end, end-search, end-totals, end-sane, end-over}
 use Rattle.listing.specs.declared.course.Course.{Course}
 use Rattle.listing.specs.Lines.{most-listed, course-trail}
@@ -279,6 +281,10 @@ module _ (n k : ℕ) (bids : List Bid) (c : Coins) where
             total-demand = λ h. ed ∙ demand-told h;
             total-supply = λ h. es ∙ supply-told h;
           }
+
+      -- what a fleet is told with that record
+      pub told : FleetTold a (getD after 0 blank)
+      told = subst (FleetTold a) (sym closed) (fleet-told a c A C 1 (omega arith) (omega (arith, A .n-least)))
 
     -- before the first probe
     pub led-start : (parties : List Party) (index verdicts : List ℕ) → Stands a c (fresh-stage (first-search k)) parties totals sheets

@@ -2,4 +2,5 @@
 mod probes;
 mod searching;
 
+pub use searching::Ended;
 pub use searching::search;

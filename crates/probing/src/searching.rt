@@ -7,6 +7,7 @@ ghost use Rattle.search.specs.Bracket.{middle};
 ghost use Rattle.search.specs.Limit.{most-probes};
 ghost use Rattle.search.specs.Searches.{finished};
 ghost use Rattle.session.specs.Answer.{answer-reply};
+ghost use Rattle.auction.specs.Demands.{FleetTold};
 ghost use Rattle.standing.proofs.Standing.{FromStart};
 ghost use Rattle.listing.specs.Lines.{most-listed};
 ghost use Rattle.probing.specs.Follows.{moved-end, verdict-read, priced, Follows};
@@ -20,6 +21,12 @@ use search::middle;
 use session::Answer;
 use session::answer;
 use total_rounds::open_totals;
+
+// How the auction went, and the record of party 1, whose session is over.
+pub struct Ended {
+    pub course: Course,
+    pub party: Party,
+}
 
 // Whether the searches go on.
 fn going(q: Party) -> bool
@@ -71,9 +78,10 @@ fn price(q: Party) -> u64
 }
 
 // The searches take no more than nine probes each, so the second test alone ends the loop.
-pub fn search(n: u64, k: u64, parties: [Party; 9], totals: &[u64], sheets: &[u64]) -> Course
+pub fn search(n: u64, k: u64, parties: [Party; 9], totals: &[u64], sheets: &[u64]) -> Ended
     requires { ⌜ (n ≤ 9) × (k ≤ 256) × (length (now totals) ≡ n * (2 * k)) × (length (now sheets) ≡ n * (127 * most-probes k)) ⌝ }
-    ensures { λ r. ⌜ (r .probes ≤ most-listed) × FromStart n k parties (now (totals .entry)) (now (sheets .entry)) (λ a. Follows a r) ⌝ }
+    ensures { λ r. ⌜ (r .course .probes ≤ most-listed)
+        × FromStart n k parties (now (totals .entry)) (now (sheets .entry)) (λ a. Follows a (r .course) × FleetTold a (r .party)) ⌝ }
 {
     let mut index = [0u64; PROBES];
     let mut verdict = [0u64; PROBES];
@@ -96,12 +104,16 @@ pub fn search(n: u64, k: u64, parties: [Party; 9], totals: &[u64], sheets: &[u64
     let closed = open_totals(n, k, here, totals, sheets);
     let last = closed[0];
     let answer = price(last);
-    Course {
+    let course = Course {
         probes: done as u64,
         index,
         verdict,
         answer,
         demand: last.demand,
         supply: last.supply,
+    };
+    Ended {
+        course,
+        party: last,
     }
 }

@@ -7,3 +7,4 @@ pub mod Counting
 pub mod Distinct
 pub mod Orders
 pub mod Ranges
+pub mod Compared

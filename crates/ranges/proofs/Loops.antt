@@ -27,6 +27,10 @@ pub and-false : (a b : Bool) → b ≡ false → (a && b) ≡ false
 and-false true b e = e
 and-false false b e = refl
 
+pub and-assoc : (a b c : Bool) → a && (b && c) ≡ (a && b) && c
+and-assoc true b c = refl
+and-assoc false b c = refl
+
 -- one place more of a list that is to be filled
 pub fill : (out target : List ℕ) (i v : ℕ) → i < length out → i < length target → v ≡ getD target i 0 → take i out ≡ take i target
     → take (i + 1) (set out i v) ≡ take (i + 1) target

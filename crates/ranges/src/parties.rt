@@ -1,7 +1,10 @@
-// Who a call is for.
+// Who a call is for, and which prices there are.
 ghost use mathlib.Core.Path.{_≡_};
 ghost use mathlib.Core.Bool.{_&&_};
 ghost use Rattle.ranges.specs.Sizes.{party, listed};
+
+// In pence.
+pub const HIGHEST_PRICE: u64 = 1_000_000;
 
 // One of n parties.
 pub fn is_party(n: u64, own: u64) -> bool

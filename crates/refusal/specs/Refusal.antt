@@ -1,7 +1,7 @@
 -- "The refusal list": each refusal's number, with the paper's word for it. Assumes nothing.
 use Prim.Native.Nat.{ℕ}
 use Rattle.refusal.specs.declared.Refusal.{Refusal}
-use Rattle.refusal.specs.declared.Refusal.the-variants.{OutOfRange, WrongLength, OutOfTurn, TooManyBids, CoinOutOfRange, AmountTooLarge, NotMonotone, ShareOutOfRange, OwnMessageDiffers, Inconsistent, SumOutOfRange, VerdictNotBit, Malformed, AlreadyEntered, TooFewPresent, NotCleared}
+use Rattle.refusal.specs.declared.Refusal.the-variants.{OutOfRange, WrongLength, OutOfTurn, TooManyBids, CoinOutOfRange, AmountTooLarge, NotMonotone, ShareOutOfRange, OwnMessageDiffers, Inconsistent, SumOutOfRange, VerdictNotBit, Malformed, AlreadyEntered, TooFewPresent, NotCleared, PageTooShort}
 use Rattle.refusal.specs.declared.Judgement.{Judgement}
 use Rattle.refusal.specs.declared.Judgement.the-variants.{Accepted, Refused}
 
@@ -30,7 +30,7 @@ numberOf Inconsistent = 10
 numberOf SumOutOfRange = 11
 -- split verdict
 numberOf VerdictNotBit = 12
--- torn file: the rehearsal's alone
+-- torn file: "rehearsal only" until the settlement page, "a page that no entries lay out to is 13"
 numberOf Malformed = 13
 -- already in
 numberOf AlreadyEntered = 14
@@ -38,6 +38,8 @@ numberOf AlreadyEntered = 14
 numberOf TooFewPresent = 15
 -- not cleared
 numberOf NotCleared = 16
+-- page too short
+numberOf PageTooShort = 17
 
 -- 0 for a call that was accepted
 abbrev pub codeOf : Judgement → ℕ

@@ -7,7 +7,7 @@ pub enum Refusal {
     OutOfRange,
     WrongLength,
     OutOfTurn,
-    // the rehearsal's alone, and so is Malformed
+    // the rehearsal's alone
     TooManyBids,
     CoinOutOfRange,
     AmountTooLarge,
@@ -17,10 +17,12 @@ pub enum Refusal {
     Inconsistent,
     SumOutOfRange,
     VerdictNotBit,
+    // the rehearsal's and the settlement page's
     Malformed,
     AlreadyEntered,
     TooFewPresent,
     NotCleared,
+    PageTooShort,
 }
 
 // What judging a call finds, and the reply of a call that only writes to what it is lent.
@@ -50,6 +52,7 @@ pub fn number(r: Refusal) -> u64
         Refusal::AlreadyEntered => 14,
         Refusal::TooFewPresent => 15,
         Refusal::NotCleared => 16,
+        Refusal::PageTooShort => 17,
     }
 }
 

@@ -16,6 +16,10 @@ pub fn rehearse(input: &[u8], out: &mut [u8; ROOM]) -> usize
     let judged = judge(input);
     match judged {
         Judged::Faulty(number, line) => write_refused(number, line, out),
-        Judged::Good(shape) => { write_course(input, shape.prices_at, run(input, shape), out) },
+        Judged::Good(shape) => {
+            let ended = run(input, shape);
+            let course = ended.course;
+            write_course(input, shape.prices_at, course, out)
+        }
     }
 }

@@ -7,7 +7,7 @@ use Prim.Native.Nat.{ℕ, zero, suc, _+_, _-_, _*_, _≤_, _<_}
 use native.Mathlib.Nat.{mul-le-mul-right}
 use native.Mathlib.Omega.{arith}
 use lib.Dec.{leb, eqb}
-use lib.ListN.{length, drop}
+use lib.ListN.{length, drop, getD}
 use borrow.Author.Tests.{leb-true, leb-false, eqb-true, eqb-false}
 use Rattle.ranges.proofs.Loops.{and-left, and-right}
 use Rattle.search.specs.Limit.{most-probes}
@@ -15,13 +15,14 @@ use Rattle.auction.specs.Auction.{bidders, GoodTable, IsAuction}
 use Rattle.auction.proofs.Totals.{few-bids}
 use Rattle.comparison.specs.Probe.{Each}
 use Rattle.ranges.specs.Lists.{from}
+use Rattle.ranges.specs.Sizes.{highest-price}
 use Rattle.ranges.proofs.Distinct.{distinct-from}
 use Rattle.standing.specs.Numbered.{numbered}
 use Rattle.standing.proofs.Holding.{length-numbered, numbered-bidders}
 use Rattle.sections.specs.declared.table.Fault.{Fault}
 use Rattle.sections.specs.declared.table.Fault.the-variants.{None, At}
 use Rattle.plan.specs.declared.judging.Shape.{Shape}
-use Rattle.plan.specs.declared.judging.Judged.the-variants.{Good}
+use Rattle.plan.specs.declared.judging.Judged.the-variants.{Faulty, Good}
 use Rattle.lines.specs.Lines.{lines, rest, numbers, formed, past}
 use Rattle.plan.specs.Plan.{Plan, Reading, faulty, accepted, read, read-prices, read-bids}
 use Rattle.plan.specs.Judged.{shape-of, as-judged, judged-as, seeds-of, prices-of}
@@ -30,7 +31,7 @@ use Rattle.standing.proofs.Standing.{auction-of}
 use Rattle.panel.proofs.Parts.{sheets-eighteen}
 use Rattle.lines.proofs.Again.{past-one, after-add, formed-most, length-numbers}
 use Rattle.plan.proofs.Sections.{line-of}
-use Rattle.sections.proofs.Counts.{good-most}
+use Rattle.sections.proofs.Counts.{good-most, good-range}
 use Rattle.lines.proofs.Reading.{either}
 use Rattle.sections.proofs.Bids.{apart, torn, whole, length-tables}
 use Rattle.sections.proofs.Tables.{faultless}
@@ -72,6 +73,7 @@ record K (n : ℕ) (seeds bytes : List ℕ) (p : Plan) : Type 0 where
   k : ℕ
   least : 1 ≤ k
   most : k ≤ 256
+  priced : good-prices k 0 (rest bytes) ≡ k
   next : read-bids n seeds k (numbers k (rest bytes)) (lines (past k (rest bytes))) ≡ accepted p
 
 k-read : (n : ℕ) (seeds bytes : List ℕ) (p : Plan) → read-prices n seeds (lines bytes) ≡ accepted p → K n seeds bytes p
@@ -83,6 +85,7 @@ k-read n seeds bytes p e =
       k = w .0;
       least = leb-true 1 (w .0) (and-left (leb 1 (w .0)) (leb (w .0) 256) t);
       most = leb-true (w .0) 256 (and-right (leb 1 (w .0)) (leb (w .0) 256) t);
+      priced = h;
       next = sym (prices-good n seeds bytes (w .0) (w .1) t h) ∙ e;
     })
     (λ h. absurd (refuses (price-bad n seeds bytes (w .0) (w .1) t h) e))
@@ -174,6 +177,8 @@ pub record Accepted (bytes : List ℕ) (p : Plan) : Type 0 where
   -- the sections, read again
   pub seeds : p .seeds ≡ seeds-of (p .n) bytes
   pub prices : p .prices ≡ prices-of (p .n) (p .k) bytes
+  -- "1 to 1,000,000 pence"
+  pub priced : (i : ℕ) → i < p .k → (0 < getD (p .prices) i 0) × (getD (p .prices) i 0 ≤ highest-price)
   pub bids : p .bids ≡ tables (p .k) (length (p .bids)) (past (p .n + p .k + 3) bytes)
 
 pub accepted-plan : (bytes : List ℕ) (p : Plan) → read (lines bytes) ≡ accepted p → Accepted bytes p
@@ -200,10 +205,20 @@ accepted-plan bytes p e =
       few-prices = b .most;
       seeds = ap (numbers n) (sym (past-one bytes));
       prices = ap (numbers k) (e3 ∙ ap (λ (j : ℕ). past j bytes) i2);
+      priced = good-range k 0 (rest b2) (b .priced);
       bids = ap₂ (tables k) l e6;
     })
 
 -- ---- what `judge` found
+
+-- a fault is the reading's
+pub judged-bad : (bytes : List ℕ) (r : Reading) (number line : ℕ) → as-judged bytes r ≡ Faulty number line → r ≡ faulty number line
+unfolding as-judged
+judged-bad bytes (faulty a b) number line e = ap₂ faulty (same e .0) (same e .1)
+  where
+    same : {a b c d : ℕ} → Faulty a b ≡ Faulty c d → (a ≡ c) × (b ≡ d)
+    same e = (cc, cc)
+judged-bad bytes (accepted p) number line e = absurd (let z : _≡_ {A = ℕ} 0 1 = cc in omega arith)
 
 -- a good answer is the shape of an accepted plan
 pub judged-good : (bytes : List ℕ) (r : Reading) (shape : Shape) → as-judged bytes r ≡ Good shape

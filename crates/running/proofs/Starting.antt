@@ -1,4 +1,4 @@
--- From the start of the auction of an input to what is noted of it. Assumes nothing.
+-- The start of the auction of an input, from which its searches lead on. Assumes nothing.
 use mathlib.Core.Path.{_≡_, ap, ap₂, subst, _∙_}
 use mathlib.Core.List.{List}
 use Prim.Native.Nat.{ℕ, _+_, _*_}
@@ -19,8 +19,6 @@ use Rattle.standing.specs.Numbered.{numbered}
 use Rattle.standing.proofs.Holding.{length-numbered}
 use Rattle.standing.proofs.Standing.{Stands, FromStart, Holds, auction-of}
 use Rattle.drawn_sheets.specs.Dealt.{sheets-of}
-use Rattle.listing.specs.declared.course.Course.{Course}
-use Rattle.probing.specs.Follows.{Follows}
 use Rattle.sections.proofs.Bids.{length-tables}
 use Rattle.draws.proofs.Drawn.{Word, coins-in-range-of}
 
@@ -40,13 +38,13 @@ module _ (n k bids seed : ℕ) (bytes : List ℕ) where
   abbrev coins : Coins
   coins = auction-coins n k bids seed
 
-  -- what `hold` notes
-  pub held-follows : Word seed → (parties : List Party) (totals sheets : List ℕ) (state : ℕ) (r : Course) → IsAuction a
+  -- what holds from there, as of what `hold` hands on
+  pub held-follows : Word seed → (parties : List Party) (totals sheets : List ℕ) (state : ℕ) (P : Auction → Type 0) → IsAuction a
       → Holds a (full-roll a) (polynomials a coins) parties totals → state ≡ after-bids (threshold n) k bids (first-state seed)
       → All n (λ i. part (127 * most-probes k) i sheets ≡ sheets-of (i + 1) (all-sheets (threshold n) (most-probes k) state))
-      → FromStart n k parties totals sheets (λ a. Follows a r) → Follows a r
+      → FromStart n k parties totals sheets P → P a
   unfolding auction-coins
-  held-follows w parties totals sheets state r A H e D S =
+  held-follows w parties totals sheets state P A H e D S =
       let l : length (a .bids) ≡ bids = length-numbered 1 (tables k bids bytes) ∙ length-tables k bids bytes in
       S (numbered 1 (tables k bids bytes)) coins A (subst (λ (m : ℕ). InRange a (auction-coins n k m seed)) l (coins-in-range-of a seed w))
       (start-stands a coins parties totals sheets H

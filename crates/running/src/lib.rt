@@ -4,6 +4,7 @@ ghost use Prim.Native.Nat.{_*_, _≤_};
 ghost use lib.ListN.{length, drop};
 ghost use Rattle.search.specs.Limit.{most-probes};
 ghost use Rattle.auction.specs.Auction.{IsAuction};
+ghost use Rattle.auction.specs.Demands.{FleetTold};
 ghost use Rattle.plan.specs.declared.judging.Judged.the-variants.{Good};
 ghost use Rattle.plan.specs.Judged.{judged-as};
 ghost use Rattle.standing.proofs.Standing.{auction-of};
@@ -11,8 +12,8 @@ ghost use Rattle.listing.specs.Lines.{most-listed};
 ghost use Rattle.probing.specs.Follows.{Follows};
 use collecting::collect;
 use drawn_sheets::deal_all;
-use listing::Course;
 use plan::Shape;
+use probing::Ended;
 use probing::search;
 use search::most_probes;
 
@@ -26,10 +27,11 @@ fn hold(
     at: usize,
     totals: &mut [u64],
     sheets: &mut [u64],
-) -> Course
+) -> Ended
     requires { ⌜ (k ≤ 256) × (bids ≤ 1000) × IsAuction (auction-of n k bids (drop at (now input)))
         × (length (now totals) ≡ n * (2 * k)) × (length (now sheets) ≡ n * (127 * most-probes k)) ⌝ }
-    ensures { λ r. ⌜ (r .probes ≤ most-listed) × Follows (auction-of n k bids (drop at (now (input .entry)))) r ⌝ }
+    ensures { λ r. ⌜ (r .course .probes ≤ most-listed) × Follows (auction-of n k bids (drop at (now (input .entry)))) (r .course)
+        × FleetTold (auction-of n k bids (drop at (now (input .entry)))) (r .party) ⌝ }
 {
     let added = collect(n, seed, k, bids, input, at, totals);
     let parties = added.parties;
@@ -48,9 +50,11 @@ fn no_sheets() -> [u64; 20574] {
 }
 
 // The auction of an input that `judge` found good.
-pub fn run(input: &[u8], shape: Shape) -> Course
+pub fn run(input: &[u8], shape: Shape) -> Ended
     requires { ⌜ judged-as (now input) ≡ Good shape ⌝ }
-    ensures { λ r. ⌜ (r .probes ≤ most-listed) × Follows (auction-of (shape .n) (shape .k) (shape .bids) (drop (shape .«bids_at») (now (input .entry)))) r ⌝ }
+    ensures { λ r. ⌜ (r .course .probes ≤ most-listed)
+        × Follows (auction-of (shape .n) (shape .k) (shape .bids) (drop (shape .«bids_at») (now (input .entry)))) (r .course)
+        × FleetTold (auction-of (shape .n) (shape .k) (shape .bids) (drop (shape .«bids_at») (now (input .entry)))) (r .party) ⌝ }
 {
     let n = shape.n;
     let k = shape.k;

@@ -1,15 +1,20 @@
 -- Numbers that are counted from the left until one fails. Assumes nothing.
-use mathlib.Core.Path.{_≡_, refl, ap}
+use mathlib.Core.Path.{_≡_, refl, sym, ap, _∙_}
 use mathlib.Core.Bool.{Bool, true, false, cond, _&&_}
 use mathlib.Core.List.{List, [], _∷_}
-use Prim.Native.Nat.{ℕ, suc, _+_, _≤_, _<_}
+use Prim.Native.Nat.{ℕ, zero, suc, _+_, _≤_, _<_}
 use native.Mathlib.Omega.{arith}
 use lib.Bits.{bitXor}
+use lib.Dec.{leb, ltb}
 use lib.ListN.{length, take, drop, getD, drop-of-length-le, length-take}
+use lib.Seq.{take-all}
+use borrow.Author.Tests.{ltb-true, leb-true}
 use Rattle.ranges.specs.Lists.{every}
+use Rattle.ranges.specs.Sizes.{highest-price}
+use Rattle.ranges.proofs.Loops.{and-left, and-right}
 use Rattle.ranges.proofs.Bends.{first}
 use Rattle.lines.specs.Lines.{numbers, formed}
-use Rattle.lines.proofs.Again.{counted-most, formed-most}
+use Rattle.lines.proofs.Again.{counted-most, formed-most, length-numbers}
 use Rattle.sections.specs.Sections.{next-price, passed, rising, xor-of, good-prices}
 
 module _ (test : ℕ → Bool) (xs : List ℕ) (i : ℕ) where
@@ -77,3 +82,32 @@ pub good-most : (k last : ℕ) (bytes : List ℕ) → good-prices k last bytes �
 good-most k last bytes =
     let l = length-take (formed k bytes) (numbers k bytes) in
     omega (arith, rising-most last (take (formed k bytes) (numbers k bytes)), l, formed-most k bytes)
+
+-- where all are good they rise, and none is above the highest
+rising-range : (last : ℕ) (xs : List ℕ) → rising last xs ≡ length xs → (i : ℕ) → i < length xs → (last < getD xs i 0) × (getD xs i 0 ≤ highest-price)
+unfolding rising
+rising-range last [] e i h = absurd (omega arith)
+rising-range last (x ∷ xs) e i h = cases (next-price last x) refl e (rising-range x xs)
+  where
+    cases : (t : Bool) → next-price last x ≡ t → cond t (suc (rising x xs)) 0 ≡ suc (length xs)
+        → (rising x xs ≡ length xs → (j : ℕ) → j < length xs → (x < getD xs j 0) × (getD xs j 0 ≤ highest-price))
+        → (last < getD (x ∷ xs) i 0) × (getD (x ∷ xs) i 0 ≤ highest-price)
+    cases false n e go = absurd (omega arith)
+    cases true n e go =
+        let above : last < x = ltb-true last x (and-left (ltb last x) (leb x highest-price) n) in
+        at i h (above, leb-true x highest-price (and-right (ltb last x) (leb x highest-price) n)) (go (omega arith))
+      where
+        at : (j : ℕ) → j < suc (length xs) → (last < x) × (x ≤ highest-price)
+            → ((j : ℕ) → j < length xs → (x < getD xs j 0) × (getD xs j 0 ≤ highest-price))
+            → (last < getD (x ∷ xs) j 0) × (getD (x ∷ xs) j 0 ≤ highest-price)
+        at zero h here go = here
+        at (suc j) h here go = let r = go j (omega arith) in (omega (arith, here .0, r .0), r .1)
+
+pub good-range : (k last : ℕ) (bytes : List ℕ) → good-prices k last bytes ≡ k
+    → (i : ℕ) → i < k → (last < getD (numbers k bytes) i 0) × (getD (numbers k bytes) i 0 ≤ highest-price)
+good-range k last bytes e i h =
+    let many = length-numbers k bytes in
+    let good = take (formed k bytes) (numbers k bytes) in
+    let all : good ≡ numbers k bytes =
+    take-all (formed k bytes) (numbers k bytes) (omega (arith, rising-most last good, length-take (formed k bytes) (numbers k bytes))) in
+    rising-range last (numbers k bytes) (ap (rising last) (sym all) ∙ e ∙ sym many) i (omega arith)

@@ -6,6 +6,7 @@ use lib.Bits.{bitXor}
 use lib.Dec.{leb, ltb, eqb}
 use lib.ListN.{take, drop}
 use Rattle.ranges.specs.Lists.{every}
+use Rattle.ranges.specs.Sizes.{highest-price}
 use Rattle.ranges.specs.Steps.{bend, never-rising, never-falling}
 use Rattle.bid.specs.Table.{most}
 use Rattle.lines.specs.Lines.{numbers, formed, past}
@@ -21,7 +22,7 @@ xor-of (x ∷ xs) = bitXor x (xor-of xs)
 
 -- a price that is above the last one and "1 to 1,000,000 pence"; the first comes after 0
 abbrev pub next-price : (last price : ℕ) → Bool
-next-price last price = ltb last price && leb price 1_000_000
+next-price last price = ltb last price && leb price highest-price
 
 -- how many prices rise before the first that does not
 unfoldable pub rising : (last : ℕ) → List ℕ → ℕ

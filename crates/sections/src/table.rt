@@ -6,6 +6,7 @@ ghost use lib.ListN.{length};
 ghost use Rattle.bid.specs.Table.{most};
 ghost use Rattle.sections.specs.Sections.{passed, rising, table-fault, xor-of};
 use bid::MOST;
+use ranges::HIGHEST_PRICE;
 use ranges::first_bend;
 
 // A refusal's number, and the line that it names.
@@ -57,7 +58,7 @@ pub(crate) fn rising(prices: &[u64]) -> usize
     let mut i = 0;
     while i < prices.len() {
         let price = prices[i];
-        if !((last < price) & (price <= 1_000_000)) {
+        if !((last < price) & (price <= HIGHEST_PRICE)) {
             return i;
         }
         last = price;

@@ -13,4 +13,5 @@ fn main() {
     of_presence::print();
     of_price::print();
     worked_sessions::print();
+    worked_pages::print();
 }

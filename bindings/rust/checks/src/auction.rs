@@ -1,16 +1,16 @@
 //! Whole auctions: every call is compared, shares that are split at once are
 //! checked against their entries, each verdict, what the first search gives, the
 //! answer, the totals that are opened and what all buyers get against the totals of
-//! the bids, and damaged calls and bids that are sent again stand in between. Parties
-//! drop off in the middle of a probe and come back, or do not, and all who hear a
-//! round come to the same.
+//! the bids, the settlement page is read back, and damaged calls and bids that are sent
+//! again stand in between. Parties drop off in the middle of a probe and come back, or
+//! do not, and all who hear a round come to the same.
 
 use clockivy::Refusal;
 use clockivy_hearings::count;
 use clockivy_reference::field::amount::P;
 use clockivy_reference::{
-    probe_limit, sheet_count, threshold, DEMAND_ROUND, FIRST_SEARCH, LAST_ROUND, MAX_AMOUNT,
-    MAX_BIDS, RECORD, SECOND_SEARCH, SHEET,
+    probe_limit, sheet_count, threshold, DEMAND_ROUND, ENTRIES, FIRST_SEARCH, HIGHEST_PRICE,
+    LAST_ROUND, MAX_AMOUNT, MAX_BIDS, RECORD, SECOND_SEARCH, SHEET,
 };
 
 use crate::attendance::Attendance;
@@ -19,6 +19,7 @@ use crate::damage::damage;
 use crate::differential::{Difference, Tally};
 use crate::generate;
 use crate::outcome::Totals;
+use crate::page;
 use crate::record::{
     has_bid, has_cleared, has_searched, index, is_over, mark, BIDS, CARRY, DEMAND, FIRST,
     FIRST_PROBES, HI, LO, OWN, PROBES, ROLL, ROUND, SEARCH, SUPPLY,
@@ -525,9 +526,10 @@ impl Auction<'_> {
     }
 
     /// Asks every party for what each buyer gets. Those that have heard every round
-    /// tell, where there is a price.
+    /// tell, where there is a price. Then all hours are settled.
     fn share_out(&mut self) -> Result<(), Difference> {
         let price = self.totals.price();
+        let mut entries = vec![0; ENTRIES];
         for place in 0..self.seats.len() {
             if price == 0 || self.seats[place].heard < self.rounds.len() {
                 let record = &self.seats[place].record;
@@ -541,12 +543,16 @@ impl Auction<'_> {
             let (demand, supply) = self.totals.at(price);
             let (mut got, mut remainders, mut buyers) = (0, 0, 0);
             for bid in 0..self.bids.len() {
-                let amount = self.bids[bid].table[price as usize - 1];
+                let Bid { bidder, table } = &self.bids[bid];
+                let first = 4 * (*bidder as usize - 1);
+                let amount = table[price as usize - 1];
+                let sold = table[(self.k + price) as usize - 1];
                 let record = &self.seats[place].record;
                 let call = Call::fill(record, amount, self.rng.word(), self.rng.word());
                 let left = self.accepted(call)?;
                 let (hours, remainder) = (left.words[1][0], left.words[2][0]);
                 self.holds(hours <= amount, "a buyer gets more than it wants")?;
+                entries[first..first + 4].copy_from_slice(&[amount, hours, sold, sold]);
                 got += hours;
                 remainders += remainder;
                 buyers += u64::from(amount > 0);
@@ -558,7 +564,18 @@ impl Auction<'_> {
             let little = demand == 0 || supply - got < buyers;
             self.holds(little, "too much is left over")?;
         }
-        Ok(())
+        self.settle(&entries)
+    }
+
+    /// Writes the settlement page of these entries, and reads it back.
+    fn settle(&mut self, entries: &[u64]) -> Result<(), Difference> {
+        let price = self.rng.between(1, HIGHEST_PRICE);
+        let room = self.rng.bytes(page::length(entries));
+        let call = Call::settlement_write(price, entries, &room, self.rng.word());
+        let page = self.accepted(call)?.bytes;
+        let before = self.rng.words(ENTRIES, Rng::word);
+        let left = self.accepted(Call::settlement_read(price, &page, &before))?;
+        self.holds(left.words[0][..] == *entries, "a page gives other entries")
     }
 
     /// Makes a call that must be accepted, with damaged ones before it now and

@@ -4,11 +4,11 @@
 use std::fmt;
 use std::ops::{Deref, DerefMut};
 
-use clockivy_reference::RECORD;
+use clockivy_reference::{LINE, RECORD};
 
 use crate::engine::Engine;
 
-/// The nine calls, in the order of the tables.
+/// The eleven calls, in the order of the tables.
 #[derive(Clone, Copy, Debug, PartialEq, Eq)]
 pub enum Kind {
     /// Opens a session. Words: totals, record.
@@ -30,11 +30,15 @@ pub enum Kind {
     Answer,
     /// Asks for what a buyer gets. Words: record, the hours, the remainder.
     Fill,
+    /// Writes a settlement page. Words: entries, the bytes written. Bytes: the page.
+    SettlementWrite,
+    /// Reads a settlement page. Words: entries. Bytes: the page.
+    SettlementRead,
 }
 
 impl Kind {
-    /// All nine.
-    pub const ALL: [Kind; 9] = [
+    /// All eleven.
+    pub const ALL: [Kind; 11] = [
         Kind::Open,
         Kind::Split,
         Kind::SplitEntry,
@@ -44,6 +48,8 @@ impl Kind {
         Kind::Hear,
         Kind::Answer,
         Kind::Fill,
+        Kind::SettlementWrite,
+        Kind::SettlementRead,
     ];
 
     /// The name in tables.
@@ -58,6 +64,8 @@ impl Kind {
             Kind::Hear => "hear",
             Kind::Answer => "answer",
             Kind::Fill => "fill",
+            Kind::SettlementWrite => "settlement_write",
+            Kind::SettlementRead => "settlement_read",
         }
     }
 
@@ -72,6 +80,8 @@ impl Kind {
             Kind::Hear => &[0, 1, 2, 3, 8, 9, 10, 11, 12, 15],
             Kind::Answer => &[0, 1, 2, 3],
             Kind::Fill => &[0, 1, 2, 6, 16],
+            Kind::SettlementWrite => &[0, 1, 2, 6, 17],
+            Kind::SettlementRead => &[0, 1, 2, 13],
         }
     }
 
@@ -88,8 +98,8 @@ impl Kind {
     pub fn record(self) -> Option<usize> {
         match self {
             Kind::Open => Some(1),
-            Kind::Split | Kind::SplitEntry | Kind::Deal => None,
             Kind::Add | Kind::Say | Kind::Hear | Kind::Answer | Kind::Fill => Some(0),
+            _ => None,
         }
     }
 
@@ -103,13 +113,18 @@ impl Kind {
             Kind::Open | Kind::Deal => 2,
             Kind::Split | Kind::SplitEntry | Kind::Add | Kind::Say => 3,
             Kind::Hear => 4,
-            Kind::Answer | Kind::Fill => 1,
+            Kind::Answer | Kind::Fill | Kind::SettlementWrite | Kind::SettlementRead => 1,
         }
+    }
+
+    /// Whether the call is on a settlement page.
+    pub fn has_page(self) -> bool {
+        matches!(self, Kind::SettlementWrite | Kind::SettlementRead)
     }
 
     /// Whether the call is lent bytes.
     pub fn has_bytes(self) -> bool {
-        matches!(self, Kind::Deal | Kind::Hear)
+        matches!(self, Kind::Deal | Kind::Hear) || self.has_page()
     }
 }
 
@@ -168,10 +183,13 @@ pub struct Call {
     pub bidder: u64,
     /// The amount that [`Kind::Fill`] is given, else 0.
     pub amount: u64,
+    /// The price that a call on a settlement page is given, else 0.
+    pub price: u64,
     /// The slices of words, and then the single words, in the order of the C
     /// declaration.
     pub words: Vec<Lent<u64>>,
-    /// The bytes that [`Kind::Deal`] is lent, or the marks that [`Kind::Hear`] is.
+    /// The bytes that [`Kind::Deal`] is lent, the marks that [`Kind::Hear`] is, or a
+    /// settlement page.
     pub bytes: Lent<u8>,
 }
 
@@ -184,6 +202,7 @@ impl Call {
             entry: 0,
             bidder: 0,
             amount: 0,
+            price: 0,
             words: words.iter().map(|contents| Lent::new(contents)).collect(),
             bytes: Lent::new(&[]),
         }
@@ -263,6 +282,25 @@ impl Call {
         }
     }
 
+    /// Writes a settlement page into bytes that hold `page`, and their number into a
+    /// word that holds `written`.
+    pub fn settlement_write(price: u64, entries: &[u64], page: &[u8], written: u64) -> Call {
+        Call {
+            price,
+            bytes: Lent::new(page),
+            ..Call::new(Kind::SettlementWrite, [0; 3], &[entries, &[written]])
+        }
+    }
+
+    /// Reads a settlement page, into words that hold `entries`.
+    pub fn settlement_read(price: u64, page: &[u8], entries: &[u64]) -> Call {
+        Call {
+            price,
+            bytes: Lent::new(page),
+            ..Call::new(Kind::SettlementRead, [0; 3], &[entries])
+        }
+    }
+
     /// The record that the call judges, where it has the length of one.
     pub fn judged_record(&self) -> Option<&[u64]> {
         let place = self.kind.record()?;
@@ -293,6 +331,12 @@ impl Call {
             (Kind::Fill, [record, hours, remainder]) => {
                 E::fill(record, self.amount, &mut hours[0], &mut remainder[0])
             }
+            (Kind::SettlementWrite, [entries, written]) => {
+                E::settlement_write(self.price, entries, &mut self.bytes, &mut written[0])
+            }
+            (Kind::SettlementRead, [entries]) => {
+                E::settlement_read(self.price, &self.bytes, entries)
+            }
             _ => unreachable!("each kind of call is made with its own buffers"),
         }
     }
@@ -310,13 +354,20 @@ impl fmt::Display for Call {
         if self.kind == Kind::Fill {
             write!(f, " amount {}", self.amount)?;
         }
+        if self.kind.has_page() {
+            write!(f, " price {}", self.price)?;
+        }
         for (place, words) in self.words.iter().enumerate() {
             // A record is shown whole.
             let is_record = self.kind.record() == Some(place);
             let most = if is_record { RECORD } else { SHOWN };
             write!(f, "\n  {} words: {}", words.len(), start(words, most))?;
         }
-        if self.kind.has_bytes() {
+        if self.kind.has_page() {
+            let lines = &self.bytes[..self.bytes.len().min(SHOWN * LINE)];
+            let text = lines.escape_ascii();
+            write!(f, "\n  {} bytes, as text: {text}", self.bytes.len())?;
+        } else if self.kind.has_bytes() {
             let bytes = start(&self.bytes, SHOWN);
             write!(f, "\n  {} bytes: {bytes}", self.bytes.len())?;
         }
@@ -324,7 +375,7 @@ impl fmt::Display for Call {
     }
 }
 
-/// How many elements of a slice are shown.
+/// How many elements of a slice are shown, or lines of a page.
 const SHOWN: usize = 12;
 
 /// The first elements of a slice, so many at most.

@@ -1,15 +1,17 @@
 //! Damage to a call: a number, a length, a field of the record, its roll, a word
 //! or a mark of who was present is changed, mostly to a value at or next to a
-//! limit, or a record is given one fault. Some damage leaves the call acceptable;
-//! that is for the comparison to find out.
+//! limit, or a record or a settlement page is given one fault, or a page loses its
+//! order or some bytes. Some damage leaves the call acceptable; that is for the
+//! comparison to find out.
 
 use clockivy_reference::field::amount::P;
 use clockivy_reference::{
-    probe_limit, FIRST_SEARCH, LAST_ROUND, MASK_LIMIT, MAX_AMOUNT, MAX_BIDS, MAX_PRICES,
-    NO_MORE_ROUNDS, RECORD, SECOND_SEARCH, SHEET, SUM_LIMIT, TOTAL_LIMIT,
+    probe_limit, FIRST_SEARCH, HIGHEST_PRICE, LAST_ROUND, LINE, MASK_LIMIT, MAX_AMOUNT, MAX_BIDS,
+    MAX_PRICES, NO_MORE_ROUNDS, RECORD, SECOND_SEARCH, SHEET, SUM_LIMIT, TOTAL_LIMIT,
 };
 
-use crate::call::{Call, Kind};
+use crate::call::{Call, Kind, Lent};
+use crate::page::{reply, FAULTS};
 use crate::record::{
     has_bid, index, mark, marks, unmark, BIDS, CARRY, DEMAND, FIRST, FIRST_PROBES, HI, K, LO, N,
     NOBODY, OWN, PROBES, ROLL, ROUND, SEARCH, SUM, SUPPLY,
@@ -52,6 +54,9 @@ pub fn damage(rng: &mut Rng, call: &mut Call) {
         0..=1 if call.kind.numbers() > 0 => number(rng, call),
         0 if call.kind == Kind::Add => bidder(rng, call),
         0 if call.kind == Kind::Fill => amount(rng, call),
+        0 if call.kind.has_page() => price(rng, call),
+        1 | 2 | 5..=7 if call.kind == Kind::SettlementRead => page(rng, call),
+        5..=7 if call.kind == Kind::SettlementWrite => pair(rng, call),
         0..=2 if call.kind.record().is_some() => record(rng, call),
         3..=4 => length(rng, call),
         5 if call.kind == Kind::Hear => swap(rng, call),
@@ -90,6 +95,80 @@ fn bidder(rng: &mut Rng, call: &mut Call) {
 fn amount(rng: &mut Rng, call: &mut Call) {
     let near = [0, 1, MAX_AMOUNT, MAX_AMOUNT + 1, call.amount ^ (1 << 22)];
     call.amount = value(rng, call.amount, &near);
+}
+
+/// Changes the price.
+fn price(rng: &mut Rng, call: &mut Call) {
+    let near = [0, 1, HIGHEST_PRICE, HIGHEST_PRICE + 1, call.price ^ 1];
+    call.price = value(rng, call.price, &near);
+}
+
+/// Changes what a bidder wants or gets.
+fn pair(rng: &mut Rng, call: &mut Call) {
+    let entries = &mut call.words[0];
+    let pairs = entries.len() / 2;
+    if pairs == 0 {
+        return;
+    }
+    // A pair that has a line, if there is one from here on.
+    let any = rng.place(pairs);
+    let pair = (any..pairs).find(|pair| entries[2 * pair] > 0);
+    let place = 2 * pair.unwrap_or(any);
+    let (wanted, got) = (entries[place], entries[place + 1]);
+    let near = [wanted.wrapping_add(1), got.wrapping_sub(1), MAX_AMOUNT + 1];
+    match rng.below(4) {
+        0 => entries[place] = value(rng, wanted, &near),
+        1..=2 => entries[place + 1] = value(rng, got, &near),
+        _ => entries[place..place + 2].fill(rng.pick(&[0, MAX_AMOUNT, MAX_AMOUNT + 1])),
+    }
+}
+
+/// Makes a fault in a settlement page, or changes its bytes or its lines in a way that
+/// mostly leaves faults.
+fn page(rng: &mut Rng, call: &mut Call) {
+    let mut page = call.bytes.to_vec();
+    let lines = page.len() / LINE;
+    if lines > 0 && rng.once_in(2) && reply(call) == 0 {
+        FAULTS[rng.place(FAULTS.len())].make(rng, call.price, &mut page);
+    } else if lines > 0 && rng.once_in(2) {
+        move_line(rng, &mut page, lines);
+    } else {
+        change_byte(rng, &mut page);
+    }
+    call.bytes = Lent::new(&page);
+}
+
+/// Takes a line out of a page, puts it in at some other place, or does both.
+fn move_line(rng: &mut Rng, page: &mut Vec<u8>, lines: usize) {
+    let start = LINE * rng.place(lines);
+    let line = page[start..start + LINE].to_vec();
+    let way = rng.below(4);
+    if way > 0 {
+        page.drain(start..start + LINE);
+    }
+    if way < 3 {
+        let place = LINE * rng.place(page.len() / LINE + 1);
+        page.splice(place..place, line);
+    }
+}
+
+/// Changes a byte of a page, takes one out or puts one in; or exchanges two that are
+/// neighbours.
+fn change_byte(rng: &mut Rng, page: &mut Vec<u8>) {
+    let byte = match rng.below(4) {
+        0 => rng.byte(),
+        _ => rng.pick(b"0123456789  ..\n\rbuysell+-,\t\0\xFF"),
+    };
+    let place = rng.place(page.len() + 1);
+    match rng.below(8) {
+        0 => page.insert(place, byte),
+        _ if place == page.len() => page.push(byte),
+        1 => {
+            page.remove(place);
+        }
+        2..=3 if place > 0 => page.swap(place - 1, place),
+        _ => page[place] = byte,
+    }
 }
 
 /// Makes a slice longer or shorter.

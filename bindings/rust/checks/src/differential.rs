@@ -14,13 +14,13 @@ use crate::outcome::{Endings, Totals};
 use crate::record::{DEMAND, SUPPLY};
 use crate::rng::Rng;
 use crate::soundness::{self, Found};
-use crate::{auction, generate, opened, presence};
+use crate::{auction, generate, opened, page, presence};
 
 /// The two implementations differ, or an auction went wrong.
 pub struct Difference(pub String);
 
 /// One more than the highest reply.
-const REPLIES: usize = 17;
+const REPLIES: usize = 18;
 
 /// The reply to a record that is not sound.
 const OUT_OF_RANGE: u64 = 1;
@@ -30,13 +30,14 @@ const SUM_OUT_OF_RANGE: u64 = 11;
 
 /// How many calls of each kind had each reply, how many were lent a record in each
 /// condition, how many hearings had each reply by who was present, and how many
-/// were refused for what was opened; how the whole auctions ended, and who was
-/// there; and how many byte products were the same.
+/// were refused for what was opened; what came of the settlement pages; how the whole
+/// auctions ended, and who was there; and how many byte products were the same.
 pub struct Tally {
     counts: [[u64; REPLIES]; Kind::ALL.len()],
     records: [[u64; Kind::ALL.len()]; soundness::CONDITIONS],
     hearings: [[u64; presence::REPLIES.len()]; presence::CONDITIONS],
     opened: [u64; opened::COUNT],
+    pages: [u64; page::CONDITIONS],
     endings: Endings,
     events: Events,
     byte_products: u64,
@@ -49,6 +50,7 @@ impl Default for Tally {
             records: [[0; Kind::ALL.len()]; soundness::CONDITIONS],
             hearings: [[0; presence::REPLIES.len()]; presence::CONDITIONS],
             opened: [0; opened::COUNT],
+            pages: [0; page::CONDITIONS],
             endings: Endings::default(),
             events: Events::default(),
             byte_products: 0,
@@ -89,6 +91,9 @@ impl Tally {
         match (call.kind, reply) {
             (Kind::Hear, _) => self.count_hearing(call, reply)?,
             (Kind::Fill, 0) => filled(&verified)?,
+            (Kind::SettlementWrite | Kind::SettlementRead, _) => {
+                self.count_page(call, reply, &verified)?;
+            }
             _ => {}
         }
         Ok((reply, verified))
@@ -142,6 +147,25 @@ impl Tally {
                     )))
                 }
             }
+        }
+        Ok(())
+    }
+
+    /// Counts a call on a settlement page, where its reply and what it left are right.
+    fn count_page(&mut self, call: &Call, reply: u64, left: &Call) -> Result<(), Difference> {
+        let expected = page::reply(call);
+        if reply != expected {
+            return Err(Difference(format!(
+                "both replied {reply} in place of {expected}, given\n{call}"
+            )));
+        }
+        if reply == 0 && !page::settled(call, left) {
+            return Err(Difference(format!(
+                "both left a page and entries that do not belong together, given\n{call}"
+            )));
+        }
+        for condition in page::conditions(call, reply) {
+            self.pages[condition] += 1;
         }
         Ok(())
     }
@@ -229,6 +253,14 @@ impl Tally {
             .collect()
     }
 
+    /// What did not come of any settlement page.
+    pub fn unsettled(&self) -> Vec<&'static str> {
+        (0..page::CONDITIONS)
+            .filter(|&condition| self.pages[condition] == 0)
+            .map(page::name)
+            .collect()
+    }
+
     /// The endings that no auction had, and what did not come up in any.
     pub fn unended(&self) -> Vec<&'static str> {
         let counts = self.endings.counts().chain(self.events.counts());
@@ -264,6 +296,12 @@ impl fmt::Display for Tally {
         writeln!(f, "\n\nHearings refused with 11, by what was opened\n")?;
         let reasons = (0..opened::COUNT).map(opened::name).zip(self.opened);
         write_counts(f, ["opened", "hearings"], reasons)?;
+        writeln!(
+            f,
+            "\n\nSettlement pages, and those refused with 13 by their first fault\n"
+        )?;
+        let pages = (0..page::CONDITIONS).map(page::name).zip(self.pages);
+        write_counts(f, ["page", "calls"], pages)?;
         writeln!(
             f,
             "\n\nWhole auctions by the balanced prices, and by the totals\n"
@@ -317,14 +355,14 @@ impl Tally {
         let columns: Vec<usize> = (1..REPLIES)
             .filter(|&reply| Kind::ALL.iter().any(|&kind| count(kind, reply).is_some()))
             .collect();
-        write!(f, "{:<11}{:>9}", "call", "done")?;
+        write!(f, "{:<17}{:>9}", "call", "done")?;
         for reply in &columns {
             write!(f, "{reply:>8}")?;
         }
         for kind in Kind::ALL {
             write!(
                 f,
-                "\n{:<11}{:>9}",
+                "\n{:<17}{:>9}",
                 kind.name(),
                 self.counts[kind as usize][0]
             )?;
@@ -373,14 +411,18 @@ impl Tally {
     }
 }
 
+/// How many settlement pages are written.
+const PAGES: usize = 4_000;
+
 /// The longest list over which every run of balanced prices is tried.
 const SHORT_LIST: u64 = 5;
 
 /// Every byte product by itself; whole auctions of every number of parties over
 /// the given numbers of prices, in which everybody attends and in which parties
 /// drop off, those in which the totals meet in every place of a short list, and
-/// one that fills the roll, with refused calls in between; then single calls,
-/// valid and damaged, until there are `calls` in all.
+/// one that fills the roll, with refused calls in between; settlement pages, read
+/// back and damaged; then single calls, valid and damaged, until there are `calls` in
+/// all.
 pub fn run(seed: u64, prices: &[u64], calls: u64, tally: &mut Tally) -> Result<(), Difference> {
     tally.compare_byte_products()?;
     let mut rng = Rng::new(seed);
@@ -397,6 +439,9 @@ pub fn run(seed: u64, prices: &[u64], calls: u64, tally: &mut Tally) -> Result<(
     }
     let many = (0..MAX_BIDS).map(|_| rng.table(2)).collect();
     auction::whole(&mut rng, 3, 2, many, Attending::Everybody, tally)?;
+    for _ in 0..PAGES {
+        settlement(&mut rng, tally)?;
+    }
     while tally.calls() < calls {
         let call = single(&mut rng);
         tally.compare(&call)?;
@@ -429,6 +474,28 @@ fn short_lists(rng: &mut Rng, k: u64, tally: &mut Tally) -> Result<(), Differenc
     }
     let n = rng.between(3, 9);
     auction::whole(rng, n, k, Vec::new(), Attending::DroppingOff, tally)
+}
+
+/// A settlement page is written. It gives the entries back, and is read again with
+/// damage, at the same price or at another.
+fn settlement(rng: &mut Rng, tally: &mut Tally) -> Result<(), Difference> {
+    let call = generate::call(rng, Kind::SettlementWrite);
+    let (reply, left) = tally.compare(&call)?;
+    if reply != 0 {
+        return Ok(());
+    }
+    let page = &left.bytes[..left.words[1][0] as usize];
+    let before = rng.words(call.words[0].len(), Rng::word);
+    let mut call = Call::settlement_read(call.price, page, &before);
+    let (_, read) = tally.compare(&call)?;
+    if read.words[0][..] != left.words[0][..] {
+        return Err(Difference(format!("a page gives other entries,\n{call}")));
+    }
+    for _ in 0..3 {
+        damage(rng, &mut call);
+        tally.compare(&call)?;
+    }
+    Ok(())
 }
 
 /// One call with damage in up to three places. A hearing has the most to

@@ -3,7 +3,7 @@
 use clockivy::words;
 use clockivy_reference as reference;
 
-/// The nine calls.
+/// The eleven calls.
 pub trait Engine {
     /// What tables and messages call it.
     const NAME: &'static str;
@@ -39,6 +39,10 @@ pub trait Engine {
     fn answer(record: &[u64], index: &mut u64, probes: &mut u64) -> u64;
     /// Asks for what a buyer gets.
     fn fill(record: &[u64], amount: u64, hours: &mut u64, remainder: &mut u64) -> u64;
+    /// Writes a settlement page.
+    fn settlement_write(price: u64, entries: &[u64], page: &mut [u8], written: &mut u64) -> u64;
+    /// Reads a settlement page.
+    fn settlement_read(price: u64, page: &[u8], entries: &mut [u64]) -> u64;
 }
 
 macro_rules! engine {
@@ -104,6 +108,19 @@ macro_rules! engine {
 
             fn fill(record: &[u64], amount: u64, hours: &mut u64, remainder: &mut u64) -> u64 {
                 $library::fill(record, amount, hours, remainder)
+            }
+
+            fn settlement_write(
+                price: u64,
+                entries: &[u64],
+                page: &mut [u8],
+                written: &mut u64,
+            ) -> u64 {
+                $library::settlement_write(price, entries, page, written)
+            }
+
+            fn settlement_read(price: u64, page: &[u8], entries: &mut [u64]) -> u64 {
+                $library::settlement_read(price, page, entries)
             }
         }
     };

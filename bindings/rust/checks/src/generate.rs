@@ -4,12 +4,14 @@
 use clockivy_reference as reference;
 use clockivy_reference::field::{amount, byte};
 use clockivy_reference::{
-    probe_limit, sheet_count, DEMAND_ROUND, FIRST_SEARCH, LAST_ROUND, MAX_AMOUNT, MAX_BIDS,
-    MAX_PRICES, NO_MORE_ROUNDS, RECORD, SECOND_SEARCH, SHEET, SUM_LIMIT, SUM_LOW, SUPPLY_ROUND,
-    TOTAL_LIMIT,
+    probe_limit, sheet_count, DEMAND_ROUND, ENTRIES, FIRST_SEARCH, HIGHEST_PRICE, LAST_ROUND, LINE,
+    MAX_AMOUNT, MAX_BIDS, MAX_PRICES, NO_MORE_ROUNDS, RECORD, SECOND_SEARCH, SHEET, SUM_LIMIT,
+    SUM_LOW, SUPPLY_ROUND, TOTAL_LIMIT,
 };
 
 use crate::call::{Call, Kind};
+use crate::formatted;
+use crate::page;
 use crate::record::{
     has_bid, has_cleared, index, mark, marks, unmark, BIDS, DEMAND, FIRST, FIRST_PROBES, HI, K, LO,
     N, NOBODY, OWN, PROBES, ROLL, ROUND, SEARCH, SUPPLY,
@@ -98,6 +100,8 @@ pub fn call(rng: &mut Rng, kind: Kind) -> Call {
         }
         Kind::Answer => answer(rng, shape),
         Kind::Fill => fill(rng, shape),
+        Kind::SettlementWrite => settlement_write(rng),
+        Kind::SettlementRead => settlement_read(rng),
     }
 }
 
@@ -299,6 +303,91 @@ fn fill(rng: &mut Rng, shape: Shape) -> Call {
         _ => rng.between(0, MAX_AMOUNT),
     };
     Call::fill(&record, amount, rng.word(), rng.word())
+}
+
+/// A page is written at any price, mostly into just the room that it needs.
+fn settlement_write(rng: &mut Rng) -> Call {
+    let entries = entries(rng);
+    let length = page::length(&entries);
+    let room = match rng.below(16) {
+        0 => 0,
+        1 => length.saturating_sub(1),
+        2 => length.saturating_sub(LINE),
+        3 => rng.place(length + 1),
+        4 => length + 1,
+        5 => length + rng.place(2 * LINE),
+        _ => length,
+    };
+    let page = rng.bytes(room);
+    Call::settlement_write(price(rng), &entries, &page, rng.word())
+}
+
+/// A page is read at the price at which it is laid out.
+fn settlement_read(rng: &mut Rng) -> Call {
+    let (price, entries) = (price(rng), entries(rng));
+    let rows = formatted::rows(price.clamp(1, HIGHEST_PRICE), &entries);
+    let page = formatted::page(rows);
+    let entries = rng.words(ENTRIES, Rng::word);
+    Call::settlement_read(price, page.as_bytes(), &entries)
+}
+
+/// A price of an hour: often at an end of the range, and now and then outside it.
+pub fn price(rng: &mut Rng) -> u64 {
+    match rng.below(32) {
+        0..=1 => 1,
+        2..=3 => HIGHEST_PRICE,
+        4 => rng.pick(&[0, HIGHEST_PRICE + 1, (1 << 32) + 1, u64::MAX]),
+        5..=16 => rng.between(1, 1_000),
+        _ => rng.between(1, HIGHEST_PRICE),
+    }
+}
+
+/// The entries of a settlement: mostly of a few bidders, now and then of none, of many
+/// or of all.
+fn entries(rng: &mut Rng) -> Vec<u64> {
+    let mut entries = vec![0; ENTRIES];
+    let nothing_got = rng.once_in(32);
+    let once_in = match rng.below(128) {
+        0 => 1,
+        1..=2 => 2,
+        3..=8 => 40,
+        _ => 800,
+    };
+    for pair in entries.chunks_exact_mut(2) {
+        if rng.once_in(once_in) {
+            pair.copy_from_slice(&wanted_and_got(rng));
+            if nothing_got {
+                pair[1] = 0;
+            }
+        }
+    }
+    // The ends of the page.
+    for pair in [0, 1, ENTRIES / 2 - 2, ENTRIES / 2 - 1] {
+        if rng.once_in(32) {
+            entries[2 * pair..2 * pair + 2].copy_from_slice(&wanted_and_got(rng));
+        }
+    }
+    entries
+}
+
+/// What a bidder wants and gets: often such that the number of digits just changes.
+fn wanted_and_got(rng: &mut Rng) -> [u64; 2] {
+    let round = 10_u64.pow(rng.below(7) as u32);
+    let wanted = match rng.below(8) {
+        0 => MAX_AMOUNT,
+        1 => round,
+        2 => (round - 1).max(1),
+        3..=5 => rng.between(1, 999),
+        _ => rng.between(1, MAX_AMOUNT),
+    };
+    let got = match rng.below(8) {
+        0 => 0,
+        1 => wanted,
+        2 => wanted - 1,
+        3 => round.min(wanted),
+        _ => rng.between(0, wanted),
+    };
+    [wanted, got]
 }
 
 /// Ends the searches of a record, and mostly opens the totals where there is a

@@ -14,6 +14,7 @@ fn a_short_comparison() {
     assert_eq!(tally.unmet(), []);
     assert_eq!(tally.unheard(), []);
     assert_eq!(tally.unopened(), [""; 0]);
+    assert_eq!(tally.unsettled(), [""; 0]);
     assert_eq!(tally.unended(), [""; 0]);
     assert_eq!(tally.byte_products(), 256 * 256);
     assert_eq!(tally.auctions(), 2 * 7 * 4 + (4 + 7 + 11 + 16 + 22) + 1);

@@ -1,4 +1,4 @@
-//! A plain implementation of the auction's nine calls, written from the paper
+//! A plain implementation of the auction's eleven calls, written from the paper
 //! and, for the layout of a record, from the C header: the ordinary loops,
 //! 128-bit products, one test after the other. The library is compared with it
 //! call by call, and timed against it.
@@ -10,6 +10,7 @@
 #![forbid(unsafe_code)]
 
 pub mod field;
+mod settlement;
 
 use std::ops::RangeInclusive;
 
@@ -26,9 +27,11 @@ const OWN_MESSAGE_DIFFERS: u64 = 9;
 const INCONSISTENT: u64 = 10;
 const SUM_OUT_OF_RANGE: u64 = 11;
 const VERDICT_NOT_BIT: u64 = 12;
+const MALFORMED: u64 = 13;
 const ALREADY_ENTERED: u64 = 14;
 const TOO_FEW_PRESENT: u64 = 15;
 const NOT_CLEARED: u64 = 16;
+const PAGE_TOO_SHORT: u64 = 17;
 
 /// The words of a roll, with a bit for each bidder's number.
 pub const ROLL: usize = 16;
@@ -58,6 +61,12 @@ pub const SUPPLY_ROUND: u64 = 35;
 pub const NO_MORE_ROUNDS: u64 = 36;
 /// The opened totals are below this.
 pub const TOTAL_LIMIT: u64 = 1 << 32;
+/// The highest price of an hour, in pence; the lowest is 1.
+pub const HIGHEST_PRICE: u64 = 1_000_000;
+/// The entries of a settlement: what each bidder wanted and got, buying and selling.
+pub const ENTRIES: usize = 4 * MAX_BIDS as usize;
+/// The bytes of a line of a settlement page, with its newline.
+pub const LINE: usize = 60 + 1;
 /// The search for the highest index with demand at least supply.
 pub const FIRST_SEARCH: u64 = 1;
 /// The search for the lowest index, up to that one, with supply at least demand.
@@ -140,6 +149,16 @@ pub fn answer(record: &[u64], index: &mut u64, probes: &mut u64) -> u64 {
 /// Writes what a buyer of this amount gets at the price, and the remainder.
 pub fn fill(record: &[u64], amount: u64, hours: &mut u64, remainder: &mut u64) -> u64 {
     reply(try_fill(record, amount, hours, remainder))
+}
+
+/// Writes the page of these entries at this price, and how many bytes it has.
+pub fn settlement_write(price: u64, entries: &[u64], page: &mut [u8], written: &mut u64) -> u64 {
+    reply(settlement::write(price, entries, page, written))
+}
+
+/// Writes the entries whose page at this price is the one lent.
+pub fn settlement_read(price: u64, page: &[u8], entries: &mut [u64]) -> u64 {
+    reply(settlement::read(price, page, entries))
 }
 
 fn reply(outcome: Result<(), u64>) -> u64 {

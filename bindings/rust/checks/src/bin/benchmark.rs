@@ -16,7 +16,9 @@
 //! A second table has one party's shares of a bid written entry by entry beside
 //! the same by one call, on either side, in the same way. A third has hearings at
 //! which just t + 1 parties were present beside those of the same rounds at which
-//! all were.
+//! all were. A fourth has the settlement page of all bidders and sides beside the
+//! formatting and parsing of the standard library: `writeln!` of each line, without a
+//! judgement, and lines that are split and parsed, then laid out anew and compared.
 //!
 //! All inputs are drawn before the clock starts. Buffers that a call writes
 //! are not cleared between calls. The record that a call steps is set back
@@ -27,10 +29,12 @@ use std::thread::available_parallelism;
 use std::time::{Duration, Instant};
 
 use clockivy_checks::engine::{ByteProduct, Engine, Plain, Verified};
+use clockivy_checks::formatted;
 use clockivy_checks::record::{has_cleared, is_over, mark, marks, BIDS};
 use clockivy_checks::rng::Rng;
 use clockivy_reference::{
-    sheet_count, threshold, DEMAND_ROUND, LAST_ROUND, MAX_BIDS, RECORD, SHEET, SUPPLY_ROUND,
+    sheet_count, threshold, DEMAND_ROUND, ENTRIES, HIGHEST_PRICE, LAST_ROUND, LINE, MAX_AMOUNT,
+    MAX_BIDS, RECORD, SHEET, SUPPLY_ROUND,
 };
 
 const N: u64 = 5;
@@ -46,6 +50,9 @@ const NEXT: u64 = MAX_BIDS / 2;
 const MIDDLE: u64 = 17;
 /// What a buyer wants at the price.
 const AMOUNT: u64 = 123_456;
+/// The price of the settlement page, in pence: one of as many digits as any below the
+/// highest.
+const PRICE: u64 = HIGHEST_PRICE - 54_321;
 /// Marks of everybody, and of t + 1 parties with the timed one among them. These
 /// are not the first ones: nothing is known of them before.
 const ALL: [u8; N as usize] = [1; N as usize];
@@ -105,7 +112,7 @@ macro_rules! case {
     };
 }
 
-const CALLS: [Case; 20] = [
+const CALLS: [Case; 22] = [
     case!("split", split),
     case!("split_entry", split_entry),
     case!("deal", deal),
@@ -126,6 +133,8 @@ const CALLS: [Case; 20] = [
     case!("hear, round 34, t + 1 present", hear, DEMAND_ROUND, true),
     case!("hear, round 35, t + 1 present", hear, SUPPLY_ROUND, true),
     case!("fill", fill),
+    case!("settlement_write, 2,000 lines", settlement_write),
+    case!("settlement_read, 2,000 lines", settlement_read),
 ];
 
 const AUCTION: Case = case!("whole auction, 1,000 bids", auction);
@@ -171,6 +180,25 @@ const HEARINGS_BY_FEWEST: [Case; 8] = [
     fewest!("plain, round 34", Plain, DEMAND_ROUND),
 ];
 
+/// A call on a settlement page, beside what the standard library has for it.
+macro_rules! page {
+    ($name:literal, $engine:ident, $call:ident, $beside:ident) => {
+        Case {
+            name: $name,
+            timed: $call::<$engine>,
+            beside: $beside,
+            parts: 1,
+        }
+    };
+}
+
+const PAGES: [Case; 4] = [
+    page!("verified, write", Verified, settlement_write, format_page),
+    page!("verified, read", Verified, settlement_read, parse_page),
+    page!("plain, write", Plain, settlement_write, format_page),
+    page!("plain, read", Plain, settlement_read, parse_page),
+];
+
 fn main() -> ExitCode {
     let cores = available_parallelism().map_or(1, usize::from);
     println!("n = {N}, k = {K}, one thread, {cores} cores\n");
@@ -195,22 +223,48 @@ fn main() -> ExitCode {
         println!("{}", measure(case, &mut inputs, &CALL_PLAN));
     }
 
+    println!();
+    heading(["a page of 2,000 lines", "call", "standard library"]);
+    for case in &PAGES {
+        println!("{}", measure(case, &mut inputs, &CALL_PLAN));
+    }
+
     let verified = outcome::<Verified>(&mut inputs);
     let plain = outcome::<Plain>(&mut inputs);
-    if verified != plain {
-        println!("\nbenchmark: FAILED, the answers, the fills or the products differ");
+    format_page(&mut inputs);
+    parse_page(&mut inputs);
+    let formatted = (inputs.formatted.as_bytes(), &inputs.read);
+    if verified != plain || formatted != (&verified.page, &verified.entries) {
+        println!("\nbenchmark: FAILED, the answers, the fills, the pages or the products differ");
         return ExitCode::FAILURE;
     }
-    println!("\nbenchmark: done, same answers, fills and products");
+    println!("\nbenchmark: done, same answers, fills, pages and products");
     ExitCode::SUCCESS
 }
 
-/// What an auction, a fill and a chain of products come to.
-fn outcome<E: Engine + ByteProduct>(inputs: &mut Inputs) -> ([u64; 2], [u64; 2], u8) {
+/// What an auction, a fill, a page written and read, and a chain of products come to.
+#[derive(PartialEq)]
+struct Outcome {
+    answer: [u64; 2],
+    filled: [u64; 2],
+    page: Vec<u8>,
+    entries: Vec<u64>,
+    product: u8,
+}
+
+fn outcome<E: Engine + ByteProduct>(inputs: &mut Inputs) -> Outcome {
     auction::<E>(inputs);
     fill::<E>(inputs);
+    settlement_write::<E>(inputs);
+    settlement_read::<E>(inputs);
     products::<E>(inputs);
-    (inputs.answer, inputs.filled, inputs.product)
+    Outcome {
+        answer: inputs.answer,
+        filled: inputs.filled,
+        page: inputs.written.clone(),
+        entries: inputs.read.clone(),
+        product: inputs.product,
+    }
 }
 
 /// The first two lines of a table: what a row is, what is timed, beside what.
@@ -324,11 +378,17 @@ struct Inputs {
     sum: Vec<u64>,
     /// The factors of a chain of products. None is 0, so that no product is.
     factors: Vec<u8>,
+    /// What every bidder wants and gets on both sides, and its page at the price.
+    entries: Vec<u64>,
+    page: Vec<u8>,
     /// What the calls write.
     shares: Vec<u64>,
     sheet: Vec<u64>,
     answer: [u64; 2],
     filled: [u64; 2],
+    written: Vec<u8>,
+    read: Vec<u64>,
+    formatted: String,
     product: u8,
 }
 
@@ -360,6 +420,9 @@ impl Inputs {
             }
         }
         assert_eq!(rounds.len() as u64, SUPPLY_ROUND, "there is a price");
+        let entries = entries(rng);
+        let page = formatted::page(formatted::rows(PRICE, &entries)).into_bytes();
+        assert_eq!(page.len(), ENTRIES / 2 * LINE, "everybody wants something");
         Inputs {
             seat: seats.swap_remove(OWN as usize - 1),
             rounds,
@@ -373,6 +436,11 @@ impl Inputs {
             sheet: vec![0; SHEET],
             answer: [0; 2],
             filled: [0; 2],
+            written: vec![0; page.len()],
+            read: vec![0; ENTRIES],
+            formatted: String::with_capacity(page.len()),
+            entries,
+            page,
             product: 0,
         }
     }
@@ -445,6 +513,40 @@ fn hear<E: Engine, const ROUND: u64, const BY_FEWEST: bool>(inputs: &mut Inputs)
 fn fill<E: Engine>(inputs: &mut Inputs) {
     let [hours, remainder] = &mut inputs.filled;
     done(E::fill(&inputs.seat.record, AMOUNT, hours, remainder));
+}
+
+fn settlement_write<E: Engine>(inputs: &mut Inputs) {
+    let mut length = 0;
+    done(E::settlement_write(
+        PRICE,
+        &inputs.entries,
+        &mut inputs.written,
+        &mut length,
+    ));
+}
+
+fn settlement_read<E: Engine>(inputs: &mut Inputs) {
+    done(E::settlement_read(PRICE, &inputs.page, &mut inputs.read));
+}
+
+/// The page by the standard library, into a string that has the room.
+fn format_page(inputs: &mut Inputs) {
+    inputs.formatted.clear();
+    let rows = formatted::rows(PRICE, &inputs.entries);
+    formatted::write(rows, &mut inputs.formatted);
+}
+
+fn parse_page(inputs: &mut Inputs) {
+    inputs.read = formatted::read(PRICE, &inputs.page).expect("it is laid out");
+}
+
+/// What everybody wants, more than 0, and gets.
+fn entries(rng: &mut Rng) -> Vec<u64> {
+    let pair = |_| {
+        let wanted = rng.between(1, MAX_AMOUNT);
+        [wanted, rng.between(0, wanted)]
+    };
+    (0..ENTRIES / 2).flat_map(pair).collect()
 }
 
 /// A chain of products, each made from the one before.

@@ -4,10 +4,11 @@
 //!
 //! It passes where no call and no byte product made a difference, every reply has
 //! come up, those of a hearing by who was present and by what was opened, every fault
-//! of a record has met every call that judges one, and whole auctions have ended in
-//! every way, with and without parties that drop off. All byte products and the whole
-//! auctions come first, however few calls are asked for, and single calls fill up the
-//! number; without enough of these, something may not come up.
+//! of a record has met every call that judges one, every fault of a settlement page has
+//! been read, and whole auctions have ended in every way, with and without parties that
+//! drop off. All byte products, the whole auctions and some thousand pages come first,
+//! however few calls are asked for, and single calls fill up the number; without enough
+//! of these, something may not come up.
 
 use std::env;
 use std::process::ExitCode;
@@ -80,6 +81,9 @@ fn missing(tally: &Tally) -> Vec<String> {
     }
     for reason in tally.unopened() {
         lines.push(format!("hear never refused such: {reason}"));
+    }
+    for condition in tally.unsettled() {
+        lines.push(format!("no settlement page was such: {condition}"));
     }
     for ending in tally.unended() {
         lines.push(format!("no whole auction was such: {ending}"));

@@ -9,20 +9,16 @@ use borrow.Author.Needs.{needs}
 use Rattle.listing.proofs.course.write_clears.Statement.{statement}
 use Rattle.listing.proofs.course.write_clears.Tie as tie
 
-slice-aggregate-append : tie.Need-slice-aggregate-append
-slice-aggregate-append c = search needs
-
-append-requires : tie.Need-append-requires
-append-requires c κs = search needs
+put-no-price-requires : tie.Need-put-no-price-requires
+put-no-price-requires c κs = search needs
 
 same-length : tie.Need-same-length
 same-length c = search needs
 
 returns : tie.Need-returns
 returns c =
-    let a = c .before .before .append in
-    let s = c .before .before .before .before .before in
-    (wrote-same (sym (clears-none _ _ (s .if1 .taken))) (a .ensures), omega (arith, a .ensures .place))
+    let p = c .before .before in
+    (wrote-same (sym (clears-none _ _ (p .before .before .if1 .taken))) (p .put-no-price .ensures), omega (arith, p .put-no-price .ensures .place))
 
 sub-price-at : tie.Need-sub-price-at
 sub-price-at c = search needs
@@ -57,8 +53,7 @@ pub write-clears-spec : {M : Type 1} → statement M
 write-clears-spec =
     tie.close
     (tie.spec
-    slice-aggregate-append
-    append-requires
+    put-no-price-requires
     same-length
     returns
     sub-price-at

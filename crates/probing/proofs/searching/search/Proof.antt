@@ -1,5 +1,5 @@
 -- `search` meets its contract: the probes made are noted, in every auction in which the parties may stand. Assumes nothing.
-use mathlib.Core.Path.{_≡_, refl, sym, ap, ap₂, _∙_}
+use mathlib.Core.Path.{_≡_, refl, sym, ap, ap₂, subst, _∙_}
 use mathlib.Core.Bool.{false, not}
 use mathlib.Core.List.{List}
 use Prim.Native.Nat.{_-_, _≤_, _<_}
@@ -16,12 +16,13 @@ use Rattle.panel.proofs.Parts.{getD-there}
 use Rattle.session.specs.Answer.{answer-reply}
 use Rattle.auction.specs.Auction.{Bid, IsAuction}
 use Rattle.auction.specs.Coins.{Coins, InRange}
+use Rattle.auction.specs.Demands.{FleetTold}
 use Rattle.auction.proofs.Closed.{fresh-stage}
 use Rattle.standing.proofs.Standing.{Stands}
 use Rattle.total_rounds.proofs.Closing.{stopped}
 use Rattle.listing.specs.Lines.{most-listed}
 use Rattle.probing.specs.Follows.{priced, verdict-read}
-use Rattle.probing.proofs.Leading.{Led, led-start, led-more, led-over, follows}
+use Rattle.probing.proofs.Leading.{Led, led-start, led-more, led-over, follows, told}
 use borrow.Author.Needs.{needs}
 use Rattle.probing.proofs.searching.search.Statement.{statement}
 use Rattle.probing.proofs.searching.search.Tie as tie
@@ -134,10 +135,13 @@ returns c =
       l .inv .0,
       λ bids d A C H.
           let L = l .inv .5 bids d A C H in
-          follows (a .n) (a .k) bids d A C (a .totals .now) (a .sheets .now) (l .here) (closed .result) (l .index) (l .verdict) (l .done) L
-          (led-over (a .n) (a .k) bids d A C (a .totals .now) (a .sheets .now) (l .here) (l .index) (l .verdict) (l .done) L (s .pre .1)
-          (stopped (l .done) most-listed (l .more) _ (c .before .before .before .loop-test .left) (l .inv .4)))
-          (closed .ensures) _ refl refl refl (c .price .ensures ∙ ap (λ q. priced (answer-reply q)) last) (ap (λ q. q .demand) last) (ap (λ q. q .supply) last),
+          let over =
+          led-over (a .n) (a .k) bids d A C (a .totals .now) (a .sheets .now) (l .here) (l .index) (l .verdict) (l .done) L (s .pre .1)
+          (stopped (l .done) most-listed (l .more) _ (c .before .before .before .loop-test .left) (l .inv .4)) in (
+            follows (a .n) (a .k) bids d A C (a .totals .now) (a .sheets .now) (l .here) (closed .result) (l .index) (l .verdict) (l .done) L over
+                (closed .ensures) _ refl refl refl (c .price .ensures ∙ ap (λ q. priced (answer-reply q)) last) (ap (λ q. q .demand) last) (ap (λ q. q .supply) last),
+            subst (FleetTold _) (sym last) (told (a .n) (a .k) bids d A C (a .totals .now) (a .sheets .now) (l .here) (closed .result) (l .index) (l .verdict) (l .done) L over (closed .ensures)),
+          ),
     )
 
 pub search-spec : {M : Type 1} → statement M

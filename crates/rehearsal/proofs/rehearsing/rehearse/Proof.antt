@@ -30,15 +30,15 @@ returns c =
     let j = k .before .before .before in
     let w = k .before .judged .given in
     wrote-same (sym (judged-faulty (j .before .before .args .input .now) (w .0 .0) (w .0 .1 .0) (sym (j .judge .ensures) ∙ w .1)))
-    (c .write-refused .ensures)
+    (c .write-refused .ensures .0 (search needs))
 
 returns-2 : tie.Need-returns-2
 returns-2 c =
-    let r = c .before .before in
+    let r = c .before .before .before in
     let k = r .before in
     let j = k .before .before .before in
     let w = k .before .judged2 .given in
-    wrote-same (right-listing (j .before .before .args .input .now) (w .0 .0) (r .run .result) (sym (j .judge .ensures) ∙ w .1) (r .run .ensures .1))
+    wrote-same (right-listing (j .before .before .args .input .now) (w .0 .0) (r .run .result .course) (sym (j .judge .ensures) ∙ w .1) (r .run .ensures .1))
     (c .write-course .ensures .0 (r .run .ensures .0))
 
 pub rehearse-spec : {M : Type 1} → statement M

@@ -1,0 +1,2 @@
+-- Laws of decimal digits.
+pub mod Digits

@@ -1,0 +1,2 @@
+-- Numbers as decimal digits.
+pub mod Decimal

@@ -1,0 +1,1 @@
+// Numbers as decimal digits: definitions in specs/, their laws in proofs/, and no code.

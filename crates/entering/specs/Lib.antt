@@ -1,0 +1,2 @@
+-- What the bids of an input want and get at an index.
+pub mod Entries

@@ -1,0 +1,3 @@
+-- Laws of settlements.
+pub mod Page
+pub mod Settled

@@ -1,0 +1,2 @@
+-- The settlement of an input.
+pub mod Settlement
