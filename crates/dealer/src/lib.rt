@@ -5,12 +5,15 @@ ghost use mathlib.Core.List.{_∷_};
 ghost use Prim.Native.Nat.{_+_, _*_, _≤_, _<_};
 ghost use lib.ListN.{length, take, drop};
 ghost use Rattle.fields.specs.Byte.{bytes};
+ghost use Rattle.fields.specs.Table.{Tables};
 ghost use Rattle.byte_rows.specs.Row.{multiples};
 ghost use Rattle.sharing.specs.Polynomial.{value};
 ghost use Rattle.dealer.specs.Deal.{deal-judgement, byte-shares, mask-bits, triple, triples, preprocessing, deal-left};
 use byte_rows::multiples;
 use fields::P;
-use fields::product;
+use fields::log_table;
+use fields::power_table;
+use fields::product_by;
 use ranges::all_below;
 use ranges::is_party;
 use refusal::Judgement;
@@ -92,26 +95,45 @@ fn write_triples(t: usize, point: u8, row: &[u8; 256], drawn: &[u8], shares: &mu
     requires { ⌜ (31 * (2 + 3 * t) ≤ length (now drawn)) × (length (now shares) ≡ 93) × (now row ≡ multiples point) ⌝ }
     ensures { λ _. ⌜ now (shares .exit) ≡ triples t point 31 (now (drawn .entry)) ⌝ }
 {
+    let logs = log_table();
+    let powers = power_table();
     let step = 2 + 3 * t;
     let mut at = 0;
     let mut i = 0;
     while i < 31 {
         let from = 3 * i;
         let to = from + 3;
-        write_triple(t, point, row, &drawn[at..], &mut shares[from..to]);
+        write_triple(
+            t,
+            point,
+            row,
+            &drawn[at..],
+            &mut shares[from..to],
+            &logs,
+            &powers,
+        );
         at = at + step;
         i += 1;
     }
 }
 
 // The shares of alpha, beta and their product gamma.
-fn write_triple(t: usize, point: u8, row: &[u8; 256], drawn: &[u8], shares: &mut [u64])
-    requires { ⌜ (2 + 3 * t ≤ length (now drawn)) × (length (now shares) ≡ 3) × (now row ≡ multiples point) ⌝ }
+fn write_triple(
+    t: usize,
+    point: u8,
+    row: &[u8; 256],
+    drawn: &[u8],
+    shares: &mut [u64],
+    logs: &[u8; 256],
+    powers: &[u8; 256],
+)
+    requires { ⌜ (2 + 3 * t ≤ length (now drawn)) × (length (now shares) ≡ 3) × (now row ≡ multiples point)
+        × Tables (now logs) (now powers) ⌝ }
     ensures { λ _. ⌜ now (shares .exit) ≡ triple t point (now (drawn .entry)) ⌝ }
 {
     let alpha = drawn[0];
     let beta = drawn[1];
-    let gamma = product(alpha, beta);
+    let gamma = product_by(alpha, beta, logs, powers);
     let first = 2 + t;
     let second = first + t;
     shares[0] = share_from(alpha, drawn, 2, t, point, row);

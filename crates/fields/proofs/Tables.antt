@@ -1,19 +1,16 @@
 -- The rules of the two tables, each by one test over a whole table, and the product that they give. Assumes nothing.
 use mathlib.Core.Path.{_≡_, refl, sym, ap, _∙_}
 use mathlib.Core.Bool.{Bool, true, false, cond, _&&_}
-use mathlib.Core.List.{List}
-use Prim.Native.Nat.{ℕ, zero, suc, _+_, _-_, _*_, _/_, _%_, _^_, _≤_, _<_}
+use Prim.Native.Nat.{ℕ, zero, suc, _+_, _-_, _≤_, _<_}
 use native.Mathlib.Nat.{zero-add, suc-add, le-of-suc-le-suc}
 use native.Mathlib.Omega.{arith}
 use lib.Dec.{T, eqb, ltb, eqb→eq, ltb→lt, lit<}
 use lib.ListN.{getD}
 use borrow.Author.Tests.{ltb-false}
 use Rattle.fields.specs.Byte.{xor, xtimes, terms, product}
-use Rattle.fields.specs.Packed.{packed}
 use Rattle.fields.specs.Table.{logarithms, powers, added}
 use Rattle.fields.proofs.Test.{both-left, both-right, below, at}
-use Rattle.fields.proofs.Bytes.{ring}
-use Rattle.fields.proofs.Arms.{word}
+use Rattle.fields.proofs.Bytes.{ring, one-product}
 
 -- ---- the table of powers: the first is 1, and each other entry is 03h times the one before
 
@@ -72,7 +69,7 @@ power-lt zero = lit< tt
 power-lt (suc n) = ring .mul-lt 3 (power n) (lit< tt) (power-lt n)
 
 one-times : (n : ℕ) → product 1 (power n) ≡ power n
-one-times n = ring .mul-comm 1 (power n) (lit< tt) (power-lt n) ∙ ring .mul-one (power n) (power-lt n)
+one-times n = one-product (power n) (power-lt n)
 
 power-add : (m n : ℕ) → power (m + n) ≡ product (power m) (power n)
 unfolding power
@@ -108,20 +105,3 @@ power-added m n = go (ltb (m + n) 256) refl
         let k : 255 + (m + n - 255) ≡ m + n = omega (arith, l) in
         sym (one-times (m + n - 255)) ∙ ap (λ (x : ℕ). product x (power (m + n - 255))) (sym last-power)
         ∙ sym (power-add 255 (m + n - 255)) ∙ ap power k ∙ power-add m n
-
--- ---- the code packs eight entries into a word: a byte that is read from such a word is its entry
-
-same-byte : List ℕ → ℕ → Bool
-same-byte table a = eqb (word table (a / 8) / 2 ^ (a % 8 * 8) % 256) (getD table a 0)
-
-unpacked : (table : List ℕ) → T (below (same-byte table) 256) → (a : ℕ) → a < 256 → word table (a / 8) / 2 ^ (a % 8 * 8) % 256 ≡ getD table a 0
-unfolding same-byte
-unpacked table t a h = eqb→eq (word table (a / 8) / 2 ^ (a % 8 * 8) % 256) (getD table a 0) (at (same-byte table) 256 t a h)
-
-pub log-byte : (a : ℕ) → a < 256 → word logarithms (a / 8) / 2 ^ (a % 8 * 8) % 256 ≡ getD logarithms a 0
-unfolding same-byte packed logarithms
-log-byte = unpacked logarithms tt
-
-pub power-byte : (n : ℕ) → n < 256 → word powers (n / 8) / 2 ^ (n % 8 * 8) % 256 ≡ getD powers n 0
-unfolding same-byte packed powers
-power-byte = unpacked powers tt

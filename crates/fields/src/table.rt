@@ -1,25 +1,74 @@
-// Logarithms and powers on the generator 03h, eight entries to a word, the first in the lowest place. A
-// match on numbers is read where it stands, and of word and shift the compiler makes the load of one
-// byte; an array would be written to the stack before each read.
+// Logarithms and powers on the generator 03h. A constant is written to the stack wherever it is named: so what
+// makes many products asks for each table once, and lends it to all that reads it.
 ghost use mathlib.Core.Path.{_≡_};
-ghost use Prim.Native.Nat.{_*_, _/_, _%_, _^_, _<_};
-ghost use lib.ListN.{take, drop, getD};
-ghost use Rattle.fields.specs.Packed.{packed};
+ghost use lib.ListN.{getD};
 ghost use Rattle.fields.specs.Table.{logarithms, powers, added};
 use std::num::wrapping_add_u8;
 
+// The exponent of each byte. 0 has none, and its place is not read.
+const LOGARITHMS: [u8; 256] = *b"\
+    \x00\x00\x19\x01\x32\x02\x1a\xc6\x4b\xc7\x1b\x68\x33\xee\xdf\x03\
+    \x64\x04\xe0\x0e\x34\x8d\x81\xef\x4c\x71\x08\xc8\xf8\x69\x1c\xc1\
+    \x7d\xc2\x1d\xb5\xf9\xb9\x27\x6a\x4d\xe4\xa6\x72\x9a\xc9\x09\x78\
+    \x65\x2f\x8a\x05\x21\x0f\xe1\x24\x12\xf0\x82\x45\x35\x93\xda\x8e\
+    \x96\x8f\xdb\xbd\x36\xd0\xce\x94\x13\x5c\xd2\xf1\x40\x46\x83\x38\
+    \x66\xdd\xfd\x30\xbf\x06\x8b\x62\xb3\x25\xe2\x98\x22\x88\x91\x10\
+    \x7e\x6e\x48\xc3\xa3\xb6\x1e\x42\x3a\x6b\x28\x54\xfa\x85\x3d\xba\
+    \x2b\x79\x0a\x15\x9b\x9f\x5e\xca\x4e\xd4\xac\xe5\xf3\x73\xa7\x57\
+    \xaf\x58\xa8\x50\xf4\xea\xd6\x74\x4f\xae\xe9\xd5\xe7\xe6\xad\xe8\
+    \x2c\xd7\x75\x7a\xeb\x16\x0b\xf5\x59\xcb\x5f\xb0\x9c\xa9\x51\xa0\
+    \x7f\x0c\xf6\x6f\x17\xc4\x49\xec\xd8\x43\x1f\x2d\xa4\x76\x7b\xb7\
+    \xcc\xbb\x3e\x5a\xfb\x60\xb1\x86\x3b\x52\xa1\x6c\xaa\x55\x29\x9d\
+    \x97\xb2\x87\x90\x61\xbe\xdc\xfc\xbc\x95\xcf\xcd\x37\x3f\x5b\xd1\
+    \x53\x39\x84\x3c\x41\xa2\x6d\x47\x14\x2a\x9e\x5d\x56\xf2\xd3\xab\
+    \x44\x11\x92\xd9\x23\x20\x2e\x89\xb4\x7c\xb8\x26\x77\x99\xe3\xa5\
+    \x67\x4a\xed\xde\xc5\x31\xfe\x18\x0d\x63\x8c\x80\xc0\xf7\x70\x07";
+
+// 03h to the power of 0, 1, .. 255: the last is 1 again.
+const POWERS: [u8; 256] = *b"\
+    \x01\x03\x05\x0f\x11\x33\x55\xff\x1a\x2e\x72\x96\xa1\xf8\x13\x35\
+    \x5f\xe1\x38\x48\xd8\x73\x95\xa4\xf7\x02\x06\x0a\x1e\x22\x66\xaa\
+    \xe5\x34\x5c\xe4\x37\x59\xeb\x26\x6a\xbe\xd9\x70\x90\xab\xe6\x31\
+    \x53\xf5\x04\x0c\x14\x3c\x44\xcc\x4f\xd1\x68\xb8\xd3\x6e\xb2\xcd\
+    \x4c\xd4\x67\xa9\xe0\x3b\x4d\xd7\x62\xa6\xf1\x08\x18\x28\x78\x88\
+    \x83\x9e\xb9\xd0\x6b\xbd\xdc\x7f\x81\x98\xb3\xce\x49\xdb\x76\x9a\
+    \xb5\xc4\x57\xf9\x10\x30\x50\xf0\x0b\x1d\x27\x69\xbb\xd6\x61\xa3\
+    \xfe\x19\x2b\x7d\x87\x92\xad\xec\x2f\x71\x93\xae\xe9\x20\x60\xa0\
+    \xfb\x16\x3a\x4e\xd2\x6d\xb7\xc2\x5d\xe7\x32\x56\xfa\x15\x3f\x41\
+    \xc3\x5e\xe2\x3d\x47\xc9\x40\xc0\x5b\xed\x2c\x74\x9c\xbf\xda\x75\
+    \x9f\xba\xd5\x64\xac\xef\x2a\x7e\x82\x9d\xbc\xdf\x7a\x8e\x89\x80\
+    \x9b\xb6\xc1\x58\xe8\x23\x65\xaf\xea\x25\x6f\xb1\xc8\x43\xc5\x54\
+    \xfc\x1f\x21\x63\xa5\xf4\x07\x09\x1b\x2d\x77\x99\xb0\xcb\x46\xca\
+    \x45\xcf\x4a\xde\x79\x8b\x86\x91\xa8\xe3\x3e\x42\xc6\x51\xf3\x0e\
+    \x12\x36\x5a\xee\x29\x7b\x8d\x8c\x8f\x8a\x85\x94\xa7\xf2\x0d\x17\
+    \x39\x4b\xdd\x7c\x84\x97\xa2\xfd\x1c\x24\x6c\xb4\xc7\x52\xf6\x01";
+
+pub fn log_table() -> [u8; 256]
+    ensures { λ r. ⌜ r ≡ logarithms ⌝ }
+{
+    LOGARITHMS
+}
+
+pub fn power_table() -> [u8; 256]
+    ensures { λ r. ⌜ r ≡ powers ⌝ }
+{
+    POWERS
+}
+
 // The exponent of a byte. 0 has none: who asks for it has looked for 0 first.
-pub fn log(a: u8) -> u8
+pub fn log(table: &[u8; 256], a: u8) -> u8
+    requires { ⌜ now table ≡ logarithms ⌝ }
     ensures { λ r. ⌜ r ≡ getD logarithms a 0 ⌝ }
 {
-    byte_of(log_word(a as u64 / 8), a as u64 % 8)
+    table[a as usize]
 }
 
 // 03h to the power of n.
-pub fn power(n: u8) -> u8
+pub fn power(table: &[u8; 256], n: u8) -> u8
+    requires { ⌜ now table ≡ powers ⌝ }
     ensures { λ r. ⌜ r ≡ getD powers n 0 ⌝ }
 {
-    byte_of(power_word(n as u64 / 8), n as u64 % 8)
+    table[n as usize]
 }
 
 // The exponent of a product: 03h to the power of 255 is 1, so what wraps is 1 too small.
@@ -28,92 +77,4 @@ pub fn exponent(a: u8, b: u8) -> u8
 {
     let sum = wrapping_add_u8(a, b);
     if sum < a { sum + 1 } else { sum }
-}
-
-// One of the eight entries of a word.
-pub fn byte_of(word: u64, place: u64) -> u8
-    requires { ⌜ place < 8 ⌝ }
-    ensures { λ r. ⌜ r ≡ word / 2 ^ (place * 8) % 256 ⌝ }
-{
-    ((word >> (place * 8)) % 256) as u8
-}
-
-fn log_word(k: u64) -> u64
-    requires { ⌜ k < 32 ⌝ }
-    ensures { λ r. ⌜ r ≡ packed (take 8 (drop (8 * k) logarithms)) ⌝ }
-{
-    match k {
-        0 => 0xc61a023201190000,
-        1 => 0x03dfee33681bc74b,
-        2 => 0xef818d340ee00464,
-        3 => 0xc11c69f8c808714c,
-        4 => 0x6a27b9f9b51dc27d,
-        5 => 0x7809c99a72a6e44d,
-        6 => 0x24e10f21058a2f65,
-        7 => 0x8eda93354582f012,
-        8 => 0x94ced036bddb8f96,
-        9 => 0x38834640f1d25c13,
-        10 => 0x628b06bf30fddd66,
-        11 => 0x1091882298e225b3,
-        12 => 0x421eb6a3c3486e7e,
-        13 => 0xba3d85fa54286b3a,
-        14 => 0xca5e9f9b150a792b,
-        15 => 0x57a773f3e5acd44e,
-        16 => 0x74d6eaf450a858af,
-        17 => 0xe8ade6e7d5e9ae4f,
-        18 => 0xf50b16eb7a75d72c,
-        19 => 0xa051a99cb05fcb59,
-        20 => 0xec49c4176ff60c7f,
-        21 => 0xb77b76a42d1f43d8,
-        22 => 0x86b160fb5a3ebbcc,
-        23 => 0x9d2955aa6ca1523b,
-        24 => 0xfcdcbe619087b297,
-        25 => 0xd15b3f37cdcf95bc,
-        26 => 0x476da2413c843953,
-        27 => 0xabd3f2565d9e2a14,
-        28 => 0x892e2023d9921144,
-        29 => 0xa5e3997726b87cb4,
-        30 => 0x18fe31c5deed4a67,
-        _ => 0x0770f7c0808c630d,
-    }
-}
-
-fn power_word(k: u64) -> u64
-    requires { ⌜ k < 32 ⌝ }
-    ensures { λ r. ⌜ r ≡ packed (take 8 (drop (8 * k) powers)) ⌝ }
-{
-    match k {
-        0 => 0xff5533110f050301,
-        1 => 0x3513f8a196722e1a,
-        2 => 0xa49573d84838e15f,
-        3 => 0xaa66221e0a0602f7,
-        4 => 0x26eb5937e45c34e5,
-        5 => 0x31e6ab9070d9be6a,
-        6 => 0xcc443c140c04f553,
-        7 => 0xcdb26ed3b868d14f,
-        8 => 0xd74d3be0a967d44c,
-        9 => 0x8878281808f1a662,
-        10 => 0x7fdcbd6bd0b99e83,
-        11 => 0x9a76db49ceb39881,
-        12 => 0xf0503010f957c4b5,
-        13 => 0xa361d6bb69271d0b,
-        14 => 0xecad92877d2b19fe,
-        15 => 0xa06020e9ae93712f,
-        16 => 0xc2b76dd24e3a16fb,
-        17 => 0x413f15fa5632e75d,
-        18 => 0xc040c9473de25ec3,
-        19 => 0x75dabf9c742ced5b,
-        20 => 0x7e2aefac64d5ba9f,
-        21 => 0x80898e7adfbc9d82,
-        22 => 0xaf6523e858c1b69b,
-        23 => 0x54c543c8b16f25ea,
-        24 => 0x0907f4a563211ffc,
-        25 => 0xca46cbb099772d1b,
-        26 => 0x91868b79de4acf45,
-        27 => 0x0ef351c6423ee3a8,
-        28 => 0x8c8d7b29ee5a3612,
-        29 => 0x170df2a794858a8f,
-        30 => 0xfda297847cdd4b39,
-        _ => 0x01f652c7b46c241c,
-    }
 }

@@ -1,22 +1,24 @@
 -- A line's value at 0, as the code has it. Assumes nothing.
-use mathlib.Core.Path.{_≡_, sym, ap, ap₂, subst, _∙_}
+use mathlib.Core.Path.{_≡_, refl, sym, ap, ap₂, _∙_}
 use mathlib.Core.Bool.{Bool, cond}
-use Prim.Native.Nat.{ℕ, _-_, _*_, _%_, _^_, _≤_, _<_}
+use Prim.Native.Nat.{ℕ, zero, suc, _-_, _*_, _%_, _^_, _≤_, _<_}
 use native.Mathlib.Nat.{mul-assoc, mul-le-mul-left}
 use native.Mathlib.Omega.{arith}
 use lib.Bits.{xor-lt}
+use lib.Dec.{T, eqb, eqb→eq}
 use lib.ListN.{getD}
 use borrow.Author.Tests.{lt-ltb}
 use Rattle.fields.specs.Amount.{p, amounts}
 use Rattle.fields.specs.Byte.{xor, product, bytes}
-use Rattle.fields.specs.Gap.{amount-inverses, amount-gap, byte-gap}
+use Rattle.fields.specs.Gap.{amount-inverses, amount-gap, byte-inverses, byte-gap}
 use Rattle.fields.specs.Table.{logarithms, powers, added}
 use Rattle.fields.proofs.Amounts.{mul-mod}
-use Rattle.fields.proofs.Bytes.{zero-product, product-zero}
+use Rattle.fields.proofs.Bytes.{zero-product}
 use Rattle.fields.proofs.Fields.{byte-field}
 use Rattle.fields.proofs.Tables.{power, power-entry, power-log, power-added}
+use Rattle.fields.proofs.Test.{below, at}
 use Rattle.fields.proofs.Xor as xors
-use Rattle.lowering.specs.Lines.{line}
+use Rattle.lowering.specs.Lines.{step, along, line}
 
 -- ---- amounts
 
@@ -39,31 +41,47 @@ amount-line r y x z d h e =
 
 -- ---- bytes
 
-module _ (r y x z : ℕ) (r-some : 0 < r) (after : r < x) (most : x ≤ 9) where
-  pub difference-small : xor x r < 16
-  unfolding xor
-  difference-small = xor-lt 4 x r (omega arith) (omega arith)
+-- the exponent of an inverse is what is missing to 255, tested for every difference of points
+has-inverse : ℕ → Bool
+has-inverse k = eqb (getD powers (255 - getD logarithms (suc k) 0) 0) (getD byte-inverses (suc k) 0)
 
-  -- the same words give the same word
-  pub same-line : xor y z ≡ 0 → y ≡ line bytes byte-gap r y x z
-  same-line e =
-      sym (ap (xor y) (ap (λ (d : ℕ). product d (product r (byte-gap x r))) e ∙ zero-product (product r (byte-gap x r))) ∙ xors.right-zero y)
+inverses-rule : T (below has-inverse 15)
+unfolding has-inverse logarithms powers
+inverses-rule = tt
 
-  gap-some : byte-gap x r ≡ 0 → ⊥
-  gap-some e =
+inverse-power : (d : ℕ) → (d ≡ 0 → ⊥) → d < 16 → power (255 - getD logarithms d 0) ≡ getD byte-inverses d 0
+unfolding has-inverse
+inverse-power zero h k = absurd (h refl)
+inverse-power (suc d) h k =
+    sym (power-entry (255 - getD logarithms (suc d) 0) (omega arith))
+    ∙ eqb→eq (getD powers (255 - getD logarithms (suc d) 0) 0) (getD byte-inverses (suc d) 0) (at has-inverse 15 inverses-rule d (omega arith))
+
+module _ (r x : ℕ) (r-some : 0 < r) (after : r < x) (most : x ≤ 9) where
+  apart : xor x r ≡ 0 → ⊥
+  apart e =
       let o : product (xor x r) (byte-gap x r) ≡ 1 = byte-field .gap-inverse x r most (omega arith) (λ e. omega arith) in
-      let n : _≡_ {A = ℕ} 0 1 = sym (ap (product (xor x r)) e ∙ product-zero (xor x r)) ∙ o in
+      let n : _≡_ {A = ℕ} 0 1 = sym (ap (λ (d : ℕ). product d (byte-gap x r)) e ∙ zero-product (byte-gap x r)) ∙ o in
       omega (arith, n)
 
-  -- exponents of three factors are added
-  pub byte-line : (d n : ℕ) → y < 256 → z < 256 → d ≡ xor y z → (d ≡ 0 → ⊥) → n < 256
-      → n ≡ added (getD logarithms d 0) (added (getD logarithms r 0) (getD logarithms (byte-gap x r) 0))
-      → xor y (getD powers n 0) ≡ line bytes byte-gap r y x z
-  byte-line d n hy hz e some hn en =
-      let g : ℕ = byte-gap x r in
-      let hd : d < 256 = subst (λ (a : ℕ). a < 256) (sym e) (xors.small y z hy hz) in
-      ap (xor y)
-      (power-entry n hn ∙ ap power en ∙ power-added (getD logarithms d 0) _
-      ∙ ap₂ product (power-log d hd some ∙ e)
-      (power-added (getD logarithms r 0) (getD logarithms g 0)
-      ∙ ap₂ product (power-log r (omega arith) (λ e. omega arith)) (power-log g (byte-field .gap-lt x r most (omega arith)) gap-some)))
+  near : xor x r < 16
+  unfolding xor
+  near = xor-lt 4 x r (omega arith) (omega arith)
+
+  -- r / (x - r), by exponents
+  pub byte-step : (n : ℕ) → n < 256 → n ≡ added (getD logarithms r 0) (255 - getD logarithms (xor x r) 0)
+      → getD powers n 0 ≡ step bytes byte-gap r x
+  unfolding byte-gap
+  byte-step n h e =
+      power-entry n h ∙ ap power e ∙ power-added (getD logarithms r 0) (255 - getD logarithms (xor x r) 0)
+      ∙ ap₂ product (power-log r (omega arith) (λ e. omega arith)) (inverse-power (xor x r) apart near)
+
+-- the value at 0 by the exponent of that: the same words give the same word, and of others the difference has an exponent
+pub same-word : (s y z : ℕ) → xor y z ≡ 0 → y ≡ along bytes s y z
+same-word s y z e = sym (ap (xor y) (ap (λ (d : ℕ). product d s) e ∙ zero-product s) ∙ xors.right-zero y)
+
+pub other-words : (by y z n : ℕ) → by < 256 → y < 256 → z < 256 → (xor y z ≡ 0 → ⊥) → n < 256 → n ≡ added (getD logarithms (xor y z) 0) by
+    → xor y (getD powers n 0) ≡ along bytes (getD powers by 0) y z
+other-words by y z n hb hy hz some hn e =
+    ap (xor y)
+    (power-entry n hn ∙ ap power e ∙ power-added (getD logarithms (xor y z) 0) by
+    ∙ ap₂ product (power-log (xor y z) (xors.small y z hy hz) some) (sym (power-entry by hb)))

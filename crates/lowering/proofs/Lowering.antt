@@ -5,7 +5,6 @@ use Prim.Native.Nat.{ℕ, zero, suc, _-_, _≤_, _<_}
 use native.Mathlib.Nat.{suc-inj}
 use native.Mathlib.Omega.{arith}
 use lib.ListN.{length, getD}
-use Rattle.ranges.specs.Below.{AllBelow}
 use Rattle.fields.specs.Ring.{Ops, sub}
 use Rattle.fields.specs.Field.{Field}
 use Rattle.fields.proofs.Below.{numbers}
@@ -47,22 +46,6 @@ rising-less r s (x ∷ xs) l h = (omega (arith, h .0), h .1, h .2)
 -- ---- in a field
 
 module _ (F : Field) where
-  -- words that are small stay so
-  pub lowered-lt : (r y : ℕ) (xs zs : List ℕ) → r ≤ 9 → Rising r xs → y < F .size → AllBelow (F .size) zs
-      → AllBelow (F .size) (lowered (F .ops) (F .gap) r y xs zs)
-  unfolding lowered
-  lowered-lt r y xs zs hr h hy hz = go r xs zs h hz
-    where
-      go : (s : ℕ) (xs zs : List ℕ) → Rising s xs → AllBelow (F .size) zs → AllBelow (F .size) (lowered (F .ops) (F .gap) r y xs zs)
-      go s [] zs h hz = tt
-      go s (x ∷ xs) [] h hz = tt
-      go s (x ∷ xs) (z ∷ zs) h hz = (
-        F .ring .add-lt _ _ hy
-            (F .ring .mul-lt _ _ (F .ring .add-lt _ _ hy (F .ring .neg-lt _ (hz .0)))
-            (F .ring .mul-lt _ _ (omega (arith, F .points-lt)) (F .gap-lt x r (h .1) hr))),
-        go x xs zs (h .2) (hz .1),
-      )
-
   -- what is computed of elements, of numbers
   lowered-numbers : (r y : Element F) (xs zs : List (Element F)) → r .0 ≤ 9 → Different (numbers xs)
       → numbers (lowered (elements-ops F) (gap F) r y xs zs) ≡ lowered (F .ops) (F .gap) (r .0) (y .0) (numbers xs) (numbers zs)

@@ -1,3 +1,2 @@
 -- Lowering words by lines: what the contracts and the laws cite.
 pub mod Lines
-pub mod Both

@@ -3,6 +3,10 @@ use mathlib.Core.List.{List, [], _∷_}
 use Prim.Native.Nat.{ℕ, zero, suc, _≤_, _<_}
 use Rattle.fields.specs.Ring.{Ops, sub}
 
+-- the value at 0 of the line through y at r and z at x, where s is r / (x - r)
+abbrev pub along : {A : Type 0} → Ops A → A → A → A → A
+along O s y z = O .add y (O .mul (sub O y z) s)
+
 -- `gap x r` is the inverse of x - r
 module _ {A : Type 0} (O : Ops A) (gap : A → A → A) where
   -- r / (x - r)
@@ -11,7 +15,7 @@ module _ {A : Type 0} (O : Ops A) (gap : A → A → A) where
 
   -- the value at 0 of the line through y at r and z at x
   abbrev pub line : A → A → A → A → A
-  line r y x z = O .add y (O .mul (sub O y z) (step r x))
+  line r y x z = along O (step r x) y z
 
   -- Of each word, that of the line through it and y at r. Where the words are those of a polynomial f with f(r) = y, these are the
   -- words of a polynomial of one degree less with the same value at 0.

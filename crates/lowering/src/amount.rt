@@ -1,14 +1,28 @@
 // Lines through amounts.
 ghost use mathlib.Core.Path.{_≡_};
 ghost use Prim.Native.Nat.{_≤_, _<_};
-ghost use lib.ListN.{getD};
+ghost use lib.ListN.{length, getD};
 ghost use Rattle.fields.specs.Amount.{amounts};
 ghost use Rattle.fields.specs.Gap.{amount-inverses, amount-gap};
-ghost use Rattle.lowering.specs.Lines.{line};
+ghost use Rattle.lowering.specs.Lines.{line, lowered, Rising};
 use fields::AmountShare;
 
+// Of each word, the value at 0 of the line through it and the word that is given.
+pub fn lower_amounts(point: u64, word: u64, points: &[u64], words: &mut [u64])
+    requires { ⌜ Rising point (now points) × (length (now words) ≡ length (now points)) ⌝ }
+    ensures { λ _. ⌜ now (words .exit) ≡ lowered amounts amount-gap point word (now (points .entry)) (now (words .entry)) ⌝ }
+{
+    let mut i = 0;
+    while i < words.len() {
+        let x = points[i];
+        let z = words[i];
+        words[i] = line(point, word, x, z);
+        i += 1;
+    }
+}
+
 // The value at 0 of the line through y at r and z at x.
-pub(crate) fn line(r: u64, y: u64, x: u64, z: u64) -> u64
+fn line(r: u64, y: u64, x: u64, z: u64) -> u64
     requires { ⌜ (r < x) × (x ≤ 9) ⌝ }
     ensures { λ v. ⌜ v ≡ line amounts amount-gap r y x z ⌝ }
 {

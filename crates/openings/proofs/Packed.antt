@@ -12,7 +12,7 @@ use lib.Pow.{pow-lt, pow-add, shl-exact}
 use lib.Seq.{drop-cons, drop-length}
 use borrow.Author.Tests.{lt-ltb, le-ltb, eq-eqb, eqb-true}
 use Rattle.fields.specs.Byte.{xor, product, bytes}
-use Rattle.fields.specs.Packed.{packed}
+use Rattle.openings.specs.Packed.{packed}
 use Rattle.fields.proofs.Bytes.{product-zero}
 use Rattle.fields.proofs.Fields.{byte-field}
 use Rattle.fields.proofs.Xor as xors

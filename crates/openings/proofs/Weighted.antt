@@ -10,7 +10,7 @@ use lib.ListN.{length, getD, length-map}
 use lib.Seq.{getD-take}
 use borrow.Author.Tests.{ltb-true, ltb-false, lt-ltb, le-ltb}
 use Rattle.fields.specs.Byte.{xor, bytes}
-use Rattle.fields.specs.Packed.{packed}
+use Rattle.openings.specs.Packed.{packed}
 use Rattle.fields.proofs.Fields.{byte-field}
 use Rattle.fields.proofs.Test.{is-true, at}
 use Rattle.ranges.specs.Below.{AllBelow}
@@ -27,28 +27,18 @@ use Rattle.openings.specs.declared.opening.Opening.the-variants.{Secret,
 use Rattle.openings.proofs.Rows.{byte-weights}
 use Rattle.openings.proofs.Settled.{Counted, Readable, is-readable, cond-true}
 use Rattle.openings.proofs.Sums.{unreadable}
+use Rattle.openings.proofs.Parts.{lows, highs, bytes-below, lows-same, highs-same, every-two}
 use Rattle.openings.proofs.Packed.{products-lt, from-place, none-left, one-back, settled-packed}
 
 -- the words with their weights
 abbrev pub weighted : ℕ → List ℕ → List ℕ
 weighted n words = products bytes (weights byte-scheme n) words
 
--- the lowest bytes of words, and those above them
-abbrev pub lows : List ℕ → List ℕ
-lows words = map (λ w. w % 256) words
-
-abbrev pub highs : List ℕ → List ℕ
-highs words = map (λ w. w / 256 % 256) words
-
-bytes-below : (f : ℕ → ℕ) → ((w : ℕ) → f w < 256) → (words : List ℕ) → AllBelow 256 (map f words)
-bytes-below f h [] = tt
-bytes-below f h (w ∷ words) = (h w, bytes-below f h words)
-
 -- they are readable, whatever the words are
 module _ (n : ℕ) (words : List ℕ) (C : Counted n words) where
   readable-bytes : (f : ℕ → ℕ) → ((w : ℕ) → f w < 256) → Readable 256 n (map f words)
   readable-bytes f h =
-      record { least = C .0; most = C .1; long = length-map words f ∙ C .2; small = is-below 256 (map f words) (bytes-below f h words) }
+      record { least = C .0; most = C .1; long = length-map words f ∙ C .2; small = bytes-below f h words }
 
   pub readable-lows : Readable 256 n (lows words)
   readable-lows = readable-bytes (λ w. w % 256) (λ w. mod-lt w (lit< tt))
@@ -122,34 +112,6 @@ module _ (n : ℕ) (words : List ℕ) (R : Readable 256 n words) where
       ap (λ (k : ℕ). cond (ltb k 256) (Secret k) Inconsistent) e′ ∙ sym (read-on ∙ settled-packed _ (points n) (weighted n words) weighted-lt)
 
 -- ---- words of one byte, and of two
-
-lows-same : (words : List ℕ) → every (λ w. ltb w 256) words ≡ true → lows words ≡ words
-unfolding every
-lows-same [] e = refl
-lows-same (w ∷ words) e =
-    let p = and-true (ltb w 256) (every (λ w. ltb w 256) words) e in
-    ap₂ (λ (z : ℕ) (zs : List ℕ). z ∷ zs) (mod-eq-of-lt (ltb-true w 256 (p .0))) (lows-same words (p .1))
-
-highs-same : (words : List ℕ) → every (λ w. ltb w 65536) words ≡ true → highs words ≡ map (λ w. w / 256) words
-unfolding every
-highs-same [] e = refl
-highs-same (w ∷ words) e =
-    let p = and-true (ltb w 65536) (every (λ w. ltb w 65536) words) e in
-    let l : w / 256 < 256 = omega (arith, ltb-true w 65536 (p .0)) in
-    ap₂ (λ (z : ℕ) (zs : List ℕ). z ∷ zs) (mod-eq-of-lt l) (highs-same words (p .1))
-
--- what is above the lowest byte is a byte
-two-bytes : (w : ℕ) → ltb (w / 256) 256 ≡ ltb w 65536
-two-bytes w = go (ltb w 65536) refl
-  where
-    go : (b : Bool) → ltb w 65536 ≡ b → ltb (w / 256) 256 ≡ b
-    go true e = lt-ltb (w / 256) 256 (omega (arith, ltb-true w 65536 e))
-    go false e = le-ltb (w / 256) 256 (omega (arith, ltb-false w 65536 e))
-
-every-two : (words : List ℕ) → every (λ w. ltb w 256) (map (λ w. w / 256) words) ≡ every (λ w. ltb w 65536) words
-unfolding every
-every-two [] = refl
-every-two (w ∷ words) = ap₂ _&&_ (two-bytes w) (every-two words)
 
 pub whole-read : (n : ℕ) (words : List ℕ) → Readable 256 n words → (all : ℕ) → all ≡ packed (moments bytes (n - threshold n) (points n) (weighted n (lows words)))
     → cond (ltb all 256) (Secret all) Inconsistent ≡ opened byte-scheme n words

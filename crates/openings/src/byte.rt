@@ -6,7 +6,8 @@ ghost use Prim.Native.Nat.{_-_, _/_, _%_, _≤_, _<_};
 ghost use lib.Dec.{ltb};
 ghost use lib.ListN.{length};
 ghost use Rattle.fields.specs.Byte.{bytes};
-ghost use Rattle.fields.specs.Packed.{packed};
+ghost use Rattle.openings.specs.Packed.{packed};
+ghost use Rattle.fields.specs.Table.{Tables};
 ghost use Rattle.sharing.specs.Scheme.{threshold, points};
 ghost use Rattle.weights.specs.Rows.{weights, byte-scheme};
 ghost use Rattle.weights.specs.Products.{products};
@@ -17,7 +18,9 @@ use crate::opening::counted;
 use crate::opening::readable;
 use fields::exponent;
 use fields::log;
+use fields::log_table;
 use fields::power;
+use fields::power_table;
 use ranges::all_below;
 use sharing::threshold;
 use weights::byte_row;
@@ -36,11 +39,20 @@ pub fn open_byte(n: u64, words: &[u64]) -> Opening
         return Opening::Inconsistent;
     }
     // Above bytes there is nothing, so the other sums take next to no time.
-    secret_of(true, sums(n, words).low)
+    secret_of(true, sums(n, words, &log_table(), &power_table()).low)
 }
 
 // Words of two bytes, which are opened together: they have weights and points in common.
 pub fn open_pair(n: u64, words: &[u64]) -> Pair
+    ensures { λ r. ⌜ (r .low ≡ opened byte-scheme n (map (λ w. w % 256) (now (words .entry))))
+        × (r .high ≡ opened byte-scheme n (map (λ w. w / 256) (now (words .entry)))) ⌝ }
+{
+    open_pair_by(n, words, &log_table(), &power_table())
+}
+
+// The same by tables that several openings have in common.
+pub fn open_pair_by(n: u64, words: &[u64], logs: &[u8; 256], powers: &[u8; 256]) -> Pair
+    requires { ⌜ Tables (now logs) (now powers) ⌝ }
     ensures { λ r. ⌜ (r .low ≡ opened byte-scheme n (map (λ w. w % 256) (now (words .entry))))
         × (r .high ≡ opened byte-scheme n (map (λ w. w / 256) (now (words .entry)))) ⌝ }
 {
@@ -50,7 +62,7 @@ pub fn open_pair(n: u64, words: &[u64]) -> Pair
             high: Opening::Inconsistent,
         };
     }
-    let all = sums(n, words);
+    let all = sums(n, words, logs, powers);
     Pair {
         low: secret_of(true, all.low),
         high: secret_of(all_below(words, 65536), all.high),
@@ -75,8 +87,8 @@ struct Summed {
 
 // All sums in one word, a byte for each, the first in the lowest place; of the lowest bytes, and of those
 // above them.
-fn sums(n: u64, words: &[u64]) -> Summed
-    requires { ⌜ (3 ≤ n) × (n ≤ 9) × (length (now words) ≡ n) ⌝ }
+fn sums(n: u64, words: &[u64], logs: &[u8; 256], powers: &[u8; 256]) -> Summed
+    requires { ⌜ (3 ≤ n) × (n ≤ 9) × (length (now words) ≡ n) × Tables (now logs) (now powers) ⌝ }
     ensures { λ r. ⌜ (r .low ≡ packed (moments bytes (n - threshold n) (points n) (products bytes (weights byte-scheme n) (map (λ w. w % 256) (now (words .entry))))))
         × (r .high ≡ packed (moments bytes (n - threshold n) (points n) (products bytes (weights byte-scheme n) (map (λ w. w / 256 % 256) (now (words .entry)))))) ⌝ }
 {
@@ -90,27 +102,27 @@ fn sums(n: u64, words: &[u64]) -> Summed
         i -= 1;
         let weight = row[i];
         let word = words[i];
-        low = low ^ terms(weight, (word % 256) as u8, point, count);
-        high = high ^ terms(weight, (word / 256 % 256) as u8, point, count);
+        low = low ^ terms(weight, (word % 256) as u8, point, count, logs, powers);
+        high = high ^ terms(weight, (word / 256 % 256) as u8, point, count, logs, powers);
     }
     Summed { low, high }
 }
 
 // What a word brings to each of the sums: itself with its weight, that times its point, and so on.
 // Exponents are added, so each product more takes one look into a table.
-fn terms(weight: u8, word: u8, point: u8, count: u64) -> u64
-    requires { ⌜ (0 < weight) × (0 < point) × (count ≤ 5) ⌝ }
+fn terms(weight: u8, word: u8, point: u8, count: u64, logs: &[u8; 256], powers: &[u8; 256]) -> u64
+    requires { ⌜ (0 < weight) × (0 < point) × (count ≤ 5) × Tables (now logs) (now powers) ⌝ }
     ensures { λ r. ⌜ r ≡ packed (moments bytes count (point ∷ []) (bytes .mul weight word ∷ [])) ⌝ }
 {
     if word == 0 {
         return 0;
     }
-    let step = log(point);
-    let mut at = exponent(log(weight), log(word));
+    let step = log(logs, point);
+    let mut at = exponent(log(logs, weight), log(logs, word));
     let mut all: u64 = 0;
     let mut j: u64 = 0;
     while j < count {
-        all = all + ((power(at) as u64) << (8 * j));
+        all = all + ((power(powers, at) as u64) << (8 * j));
         at = exponent(at, step);
         j += 1;
     }

@@ -7,4 +7,5 @@ pub use amount::open_amount;
 pub use byte::Pair;
 pub use byte::open_byte;
 pub use byte::open_pair;
+pub use byte::open_pair_by;
 pub use opening::Opening;

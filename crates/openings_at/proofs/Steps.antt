@@ -1,20 +1,16 @@
 -- One step down: the words after one that is reached, lowered by it. Assumes nothing.
 use mathlib.Core.Path.{_≡_, refl, sym, ap, ap₂, subst, _∙_}
-use mathlib.Core.Bool.{Bool, true, false}
 use mathlib.Core.List.{List, [], _∷_, _++_, append-nil}
 use Prim.Native.Nat.{ℕ, suc, _+_, _-_, _≤_, _<_}
 use native.Mathlib.Omega.{arith}
 use lib.ListN.{length, take, drop, getD, length-drop, drop-of-length-le}
 use lib.Seq.{length-take-le, take-all, drop-at}
 use borrow.Rule.Slice.PartMut.{putMid, same-len-mid}
-use Rattle.ranges.specs.Below.{AllBelow}
 use Rattle.ranges.proofs.Bends.{first}
 use Rattle.fields.specs.Ring.{Ops}
-use Rattle.fields.proofs.Fields.{amount-field, byte-field}
 use Rattle.openings.specs.declared.opening.Opening.the-variants.{Inconsistent}
-use Rattle.lowering.specs.Both.{scheme-of}
 use Rattle.lowering.specs.Lines.{lowered, descended, Rising}
-use Rattle.lowering.proofs.Lowering.{length-descended, rising-less, lowered-lt}
+use Rattle.lowering.proofs.Lowering.{length-descended, rising-less}
 use Rattle.openings_at.specs.At.{agreed}
 
 -- the rest of a slice, as it is lent
@@ -35,21 +31,7 @@ unfolding agreed
 agreed-none [] e = refl
 agreed-none (v ∷ vs) e = absurd (omega arith)
 
-below : (b : Bool) (r y : ℕ) (xs zs : List ℕ) → r ≤ 9 → Rising r xs → y < scheme-of b .size → AllBelow (scheme-of b .size) zs
-    → AllBelow (scheme-of b .size) (lowered (scheme-of b .ops) (scheme-of b .gap) r y xs zs)
-below true = lowered-lt byte-field
-below false = lowered-lt amount-field
-
-module _ (b : Bool) (t : ℕ) (xs ys₀ : List ℕ) where
-  abbrev size : ℕ
-  size = scheme-of b .size
-
-  abbrev O : Ops ℕ
-  O = scheme-of b .ops
-
-  abbrev gap : ℕ → ℕ → ℕ
-  gap = scheme-of b .gap
-
+module _ (O : Ops ℕ) (gap : ℕ → ℕ → ℕ) (t : ℕ) (xs ys₀ : List ℕ) where
   -- t words or fewer leave none
   pub none-left : length ys₀ ≡ length xs → length ys₀ ≤ t → Inconsistent ≡ agreed (descended O gap t xs ys₀)
   none-left l h = agreed-none _ (length-descended O gap t xs ys₀ l ∙ omega arith)
@@ -59,12 +41,10 @@ module _ (b : Bool) (t : ℕ) (xs ys₀ : List ℕ) where
     pub done : i ≤ t
     pub long : length ys ≡ length ys₀
     pub rising : Rising 0 (drop i xs)
-    pub small : AllBelow size (drop i ys)
     pub same : descended O gap (t - i) (drop i xs) (drop i ys) ≡ descended O gap t xs ys₀
 
-  pub start : Rising 0 xs → AllBelow size ys₀ → Stepped ys₀ 0
-  start r h =
-      record { done = omega arith; long = refl; rising = r; small = h; same = ap (λ (k : ℕ). descended O gap k xs ys₀) (omega arith) }
+  pub start : Rising 0 xs → Stepped ys₀ 0
+  start r = record { done = omega arith; long = refl; rising = r; same = ap (λ (k : ℕ). descended O gap k xs ys₀) (omega arith) }
 
   module _ (ys : List ℕ) (i : ℕ) (S : Stepped ys i) (many : length ys₀ ≡ length xs) (more : i < length ys₀) where
     xs-more : i < length xs
@@ -76,14 +56,8 @@ module _ (b : Bool) (t : ℕ) (xs ys₀ : List ℕ) where
     point : Rising 0 (getD xs i 0 ∷ drop (i + 1) xs)
     point = subst (Rising 0) (first xs i xs-more) (S .rising)
 
-    word : AllBelow size (getD ys i 0 ∷ drop (i + 1) ys)
-    word = subst (AllBelow size) (first ys i ys-more) (S .small)
-
-    pub asks : (0 < getD xs i 0) × Rising (getD xs i 0) (rest (i + 1) xs) × (length (rest (i + 1) ys) ≡ length (rest (i + 1) xs)) × (getD ys i 0 < size)
-        × AllBelow size (rest (i + 1) ys)
-    asks =
-        rw (rest-is (i + 1) xs, rest-is (i + 1) ys)
-        (point .0, point .2, omega (arith, length-drop (i + 1) xs, length-drop (i + 1) ys, S .long), word .0, word .1)
+    pub asks : (0 < getD xs i 0) × Rising (getD xs i 0) (rest (i + 1) xs) × (length (rest (i + 1) ys) ≡ length (rest (i + 1) xs))
+    asks = rw (rest-is (i + 1) xs, rest-is (i + 1) ys) (point .0, point .2, omega (arith, length-drop (i + 1) xs, length-drop (i + 1) ys, S .long))
 
     descends : (k : ℕ)
         → descended O gap k (drop (i + 1) xs) (lowered O gap (getD xs i 0) (getD ys i 0) (drop (i + 1) xs) (drop (i + 1) ys))
@@ -102,7 +76,6 @@ module _ (b : Bool) (t : ℕ) (xs ys₀ : List ℕ) where
           done = omega arith;
           long = same-len-mid (i + 1) (length ys - (i + 1)) ys v l ∙ S .long;
           rising = rising-less (getD xs i 0) 0 (drop (i + 1) xs) (omega arith) (point .2);
-          small = rw (put, made) (below b (getD xs i 0) (getD ys i 0) (drop (i + 1) xs) (drop (i + 1) ys) (point .1) (point .2) (word .0) (word .1));
           same =
               ap (descended O gap (t - (i + 1)) (drop (i + 1) xs)) (put ∙ made) ∙ descends (t - (i + 1))
               ∙ ap (λ (k : ℕ). descended O gap k (drop i xs) (drop i ys)) (omega arith) ∙ S .same;

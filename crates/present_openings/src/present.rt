@@ -5,17 +5,18 @@ ghost use mathlib.Core.List.{map};
 ghost use Prim.Native.Nat.{_/_, _%_};
 ghost use Rattle.weights.specs.Rows.{amount-scheme, byte-scheme};
 ghost use Rattle.presence.specs.Presence.{all-or};
-ghost use Rattle.lowering.specs.Both.{scheme-of};
 ghost use Rattle.present_openings.specs.Present.{opened-by};
-use crate::words::sized;
-use crate::words::split;
+use crate::words::are_bytes;
+use crate::words::chosen;
+use fields::log_table;
+use fields::power_table;
 use openings::Opening;
 use openings::Pair;
 use openings::open_amount;
 use openings::open_byte;
 use openings::open_pair;
-use openings_at::open_at;
-use presence::gather;
+use openings_at::open_amounts_at;
+use openings_at::open_pairs_at;
 use sharing::threshold;
 
 pub fn open_present_amount(n: u64, all: bool, present: &[u8], words: &[u64]) -> Opening
@@ -24,7 +25,11 @@ pub fn open_present_amount(n: u64, all: bool, present: &[u8], words: &[u64]) -> 
     if all {
         return open_amount(n, words);
     }
-    open_some(false, n, present, words)
+    let heard = chosen(n, present, words);
+    let count = heard.count;
+    let points = heard.parties;
+    let mut left = heard.words;
+    open_amounts_at(threshold(n), &points[..count], &mut left[..count])
 }
 
 pub fn open_present_byte(n: u64, all: bool, present: &[u8], words: &[u64]) -> Opening
@@ -33,20 +38,11 @@ pub fn open_present_byte(n: u64, all: bool, present: &[u8], words: &[u64]) -> Op
     if all {
         return open_byte(n, words);
     }
-    open_some(true, n, present, words)
-}
-
-fn open_some(bytes: bool, n: u64, present: &[u8], words: &[u64]) -> Opening
-    ensures { λ r. ⌜ r ≡ opened-by (scheme-of bytes) n (now (present .entry)) (now (words .entry)) ⌝ }
-{
-    if !sized(n, present, words) {
+    if !are_bytes(present, words) {
         return Opening::Inconsistent;
     }
-    let heard = gather(present, words);
-    let count = heard.count;
-    let points = heard.parties;
-    let chosen = heard.words;
-    open_at(bytes, threshold(n), count, points, chosen)
+    let pair = open_some(n, present, words);
+    pair.low
 }
 
 // Words of two bytes: what their lowest bytes open to, and what is above them.
@@ -57,22 +53,26 @@ pub fn open_present_pair(n: u64, all: bool, present: &[u8], words: &[u64]) -> Pa
     if all {
         return open_pair(n, words);
     }
-    if !sized(n, present, words) {
-        return Pair {
-            low: Opening::Inconsistent,
-            high: Opening::Inconsistent,
-        };
-    }
-    let heard = gather(present, words);
+    open_some(n, present, words)
+}
+
+// Bytes are opened as words of two with nothing above them. With one function for both the compiler leaves it, and
+// its tables, apart from the rest of a hearing, which otherwise takes longer in every round.
+fn open_some(n: u64, present: &[u8], words: &[u64]) -> Pair
+    ensures { λ r. ⌜ (r .low ≡ opened-by byte-scheme n (now (present .entry)) (map (λ w. w % 256) (now (words .entry))))
+        × (r .high ≡ opened-by byte-scheme n (now (present .entry)) (map (λ w. w / 256) (now (words .entry)))) ⌝ }
+{
+    let heard = chosen(n, present, words);
     let count = heard.count;
     let points = heard.parties;
-    let chosen = heard.words;
-    let parts = split(chosen);
-    let low = parts.low;
-    let high = parts.high;
-    let t = threshold(n);
-    Pair {
-        low: open_at(true, t, count, points, low),
-        high: open_at(true, t, count, points, high),
-    }
+    let mut left = heard.words;
+    let logs = log_table();
+    let powers = power_table();
+    open_pairs_at(
+        threshold(n),
+        &points[..count],
+        &mut left[..count],
+        &logs,
+        &powers,
+    )
 }

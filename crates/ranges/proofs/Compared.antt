@@ -12,7 +12,7 @@ use lib.Seq.{drop-cons}
 use borrow.Author.Tests.{eqb-true, eqb-false, eq-eqb, ne-eqb}
 use Rattle.ranges.specs.Lists.{same}
 use Rattle.ranges.proofs.Joined.{left-le, right-le}
-use Rattle.ranges.proofs.Loops.{and-true, and-assoc}
+use Rattle.ranges.proofs.Loops.{and-true, and-one, and-assoc}
 
 pub same-self : (xs : List ℕ) → same xs xs ≡ true
 unfolding same
@@ -63,8 +63,4 @@ module _ (xs ys : List ℕ) (i differ : ℕ) where
 
   pub same-end : length xs ≤ i → length ys ≤ i → eqb differ 0 && same (drop i xs) (drop i ys) ≡ eqb differ 0
   unfolding same
-  same-end h k = rw (drop-of-length-le xs h, drop-of-length-le ys k) (last (eqb differ 0))
-    where
-      last : (a : Bool) → a && true ≡ a
-      last true = refl
-      last false = refl
+  same-end h k = rw (drop-of-length-le xs h, drop-of-length-le ys k) (and-one (eqb differ 0))

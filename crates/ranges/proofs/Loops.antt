@@ -27,6 +27,10 @@ pub and-false : (a b : Bool) → b ≡ false → (a && b) ≡ false
 and-false true b e = e
 and-false false b e = refl
 
+pub and-one : (a : Bool) → a && true ≡ a
+and-one true = refl
+and-one false = refl
+
 pub and-assoc : (a b c : Bool) → a && (b && c) ≡ (a && b) && c
 and-assoc true b c = refl
 and-assoc false b c = refl

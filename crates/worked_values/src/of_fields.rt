@@ -5,7 +5,9 @@ use fields::BitShare;
 use fields::P;
 use fields::exponent;
 use fields::log;
+use fields::log_table;
 use fields::power;
+use fields::power_table;
 
 const MAX: u64 = 0xffff_ffff_ffff_ffff;
 
@@ -48,21 +50,21 @@ fn byte_products() {
 // The last power is the first again. The exponent of a product may be 255 as well as 0.
 fn powers_and_logarithms() {
     report::title(b"powers of 03h:");
-    report::byte(power(0));
-    report::byte(power(1));
-    report::byte(power(2));
-    report::byte(power(25));
-    report::byte(power(254));
-    report::byte(power(255));
+    power_of(0);
+    power_of(1);
+    power_of(2);
+    power_of(25);
+    power_of(254);
+    power_of(255);
     report::end();
 
     report::title(b"their logarithms:");
-    report::number(log(0x01) as u64);
-    report::number(log(0x03) as u64);
-    report::number(log(0x05) as u64);
-    report::number(log(0x02) as u64);
-    report::number(log(0xf6) as u64);
-    report::number(log(power(255)) as u64);
+    logarithm_of(0x01);
+    logarithm_of(0x03);
+    logarithm_of(0x05);
+    logarithm_of(0x02);
+    logarithm_of(0xf6);
+    logarithm_of(power(&power_table(), 255));
     report::end();
 
     report::title(b"exponents of products:");
@@ -71,6 +73,14 @@ fn powers_and_logarithms() {
     report::number(exponent(200, 56) as u64);
     report::number(exponent(254, 254) as u64);
     report::end();
+}
+
+fn power_of(n: u8) {
+    report::byte(power(&power_table(), n));
+}
+
+fn logarithm_of(a: u8) {
+    report::number(log(&log_table(), a) as u64);
 }
 
 fn rows() {

@@ -31,8 +31,8 @@ shared-slice-read-alpha c = search needs
 shared-slice-read-beta : tie.Need-shared-slice-read-beta
 shared-slice-read-beta c = search needs
 
-product-requires : tie.Need-product-requires
-product-requires c κs = search needs
+product-by-requires : tie.Need-product-by-requires
+product-by-requires c κs = search needs
 
 add-first : tie.Need-add-first
 add-first c = search needs
@@ -69,7 +69,7 @@ returns c =
     let s = gamma .before .before .before .before .before in
     let a = s .args in
     three (a .t) (a .point) (a .drawn .now) (a .shares .now) _ (first .share-from .result) (second .share-from2 .result) (c .share-from3 .result)
-    (s .pre .1) (gamma .product .ensures) (first .share-from .ensures) (second .share-from2 .ensures) (c .share-from3 .ensures)
+    (s .pre .1) (gamma .product-by .ensures) (first .share-from .ensures) (second .share-from2 .ensures) (c .share-from3 .ensures)
 
 pub write-triple-spec : {M : Type 1} → statement M
 write-triple-spec =
@@ -77,7 +77,7 @@ write-triple-spec =
     (tie.spec
     shared-slice-read-alpha
     shared-slice-read-beta
-    product-requires
+    product-by-requires
     add-first
     add-second
     share-from-requires

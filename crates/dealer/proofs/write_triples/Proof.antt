@@ -15,11 +15,17 @@ use Rattle.dealer.proofs.write_triples.Statement.{statement}
 use Rattle.dealer.proofs.write_triples.Tie as tie
 
 abbrev Inv-loop : tie.InvT-loop
-Inv-loop t point row drawn shares₀ step at₀ i₀ shares at i =
+Inv-loop t point row drawn shares₀ logs powers step at₀ i₀ shares at i =
     (i ≤ 31) × (at ≡ i * (2 + 3 * t)) × (length shares ≡ 93) × (take (3 * i) shares ++ triples t point (31 - i) (drop at drawn) ≡ triples t point 31 drawn)
 
 abbrev μ-loop : tie.MeasureT-loop
-μ-loop t point row drawn shares₀ step at₀ i₀ shares at i = 31 - i
+μ-loop t point row drawn shares₀ logs powers step at₀ i₀ shares at i = 31 - i
+
+log-table-requires : tie.Need-log-table-requires Inv-loop μ-loop
+log-table-requires c κs = search needs
+
+power-table-requires : tie.Need-power-table-requires Inv-loop μ-loop
+power-table-requires c κs = search needs
 
 mul-step : tie.Need-mul-step Inv-loop μ-loop
 mul-step c = search needs
@@ -28,9 +34,9 @@ add-step : tie.Need-add-step Inv-loop μ-loop
 add-step c = search needs
 
 -- the bytes of a triple are there
-fits : (c : tie.In-loop Inv-loop μ-loop) → c .before .loop .at + (2 + 3 * c .before .before .before .before .args .t) ≤ length (c .before .before .before .before .args .drawn .now)
+fits : (c : tie.In-loop Inv-loop μ-loop) → c .before .loop .at + (2 + 3 * c .before .before .before .before .before .before .args .t) ≤ length (c .before .before .before .before .before .before .args .drawn .now)
 fits c =
-    let s = c .before .before .before .before in
+    let s = c .before .before .before .before .before .before in
     let l = c .before .loop in
     let r : (l .i + 1) * (2 + 3 * s .args .t) ≤ 31 * (2 + 3 * s .args .t) = mul-le-mul-right (2 + 3 * s .args .t) (omega arith) in
     omega (arith, l .inv .1, s .pre .0)
@@ -99,13 +105,14 @@ part-write-triple-end-2 c = search needs
 
 write-triple-requires : tie.Need-write-triple-requires Inv-loop μ-loop
 write-triple-requires c κs =
-    let s = c .before .before .before .before .before .before in
-    let l = c .before .before .before .loop in
-    let f = fits (c .before .before) in
-    (simp (length-take, length-drop) (omega arith), simp (length-take, length-drop) (omega arith), s .pre .2)
+    let t = c .before .before .before .before .before .before in
+    let s = t .before .before .before .before in
+    let l = c .before .before .before .before .before .loop in
+    let f = fits (c .before .before .before .before) in
+    (simp (length-take, length-drop) (omega arith), simp (length-take, length-drop) (omega arith), s .pre .2, (t .before .log-table .ensures, t .power-table .ensures))
 
 add-at : tie.Need-add-at Inv-loop μ-loop
-add-at c = omega (arith, fits (c .before .before .before .before .before), c .before .before .before .before .before .before .before .before .before .good)
+add-at c = omega (arith, fits (c .before .before .before .before .before .before .before), c .before .before .before .before .before .before .before .before .before .before .before .before .before .good)
 
 add-i : tie.Need-add-i Inv-loop μ-loop
 add-i c = search needs
@@ -115,10 +122,10 @@ loop-less c = search needs
 
 loop-again : tie.Need-loop-again Inv-loop μ-loop
 loop-again c =
-    let s = c .before .before .before .before .before .before .before .before .before in
-    let l = c .before .before .before .before .before .before .loop in
+    let s = c .before .before .before .before .before .before .before .before .before .before .before .before .before in
+    let l = c .before .before .before .before .before .before .before .before .loop in
     let a = s .args in
-    let h : l .i < 31 = c .before .before .before .before .before .loop-test .taken in
+    let h : l .i < 31 = c .before .before .before .before .before .before .before .loop-test .taken in
     let rest = take-all (length (a .drawn .now) - l .at) (drop (l .at) (a .drawn .now)) (omega (arith, length-drop (l .at) (a .drawn .now))) in
     let made = c .before .before .write-triple .ensures ∙ ap (triple (a .t) (a .point)) rest in (
       omega arith,
@@ -133,7 +140,7 @@ same-length c = search needs
 returns : tie.Need-returns Inv-loop μ-loop
 returns c =
     let l = c .before .loop in
-    let a = c .before .before .before .before .args in
+    let a = c .before .before .before .before .before .before .args in
     all-put (a .t) (a .point) (l .i) (l .shares) _ _ (l .inv .2) (omega arith) (l .inv .3)
 
 pub write-triples-spec : {M : Type 1} → statement M
@@ -142,6 +149,8 @@ write-triples-spec =
     (tie.spec
     Inv-loop
     μ-loop
+    log-table-requires
+    power-table-requires
     mul-step
     add-step
     loop-holds

@@ -1,22 +1,17 @@
--- `log` meets its contract. Assumes nothing.
-use mathlib.Core.Path.{ap, _∙_}
-use Prim.Native.Nat.{ℕ, _*_, _/_, _%_, _^_}
-use native.Mathlib.Omega.{arith}
+-- `log` meets its contract: the table that is lent is that of the definition. Assumes nothing.
+use mathlib.Core.Path.{ap}
+use mathlib.Core.List.{List}
+use Prim.Native.Nat.{ℕ}
+use lib.ListN.{getD}
 use borrow.Author.Needs.{needs}
-use Rattle.fields.proofs.Tables.{log-byte}
 use Rattle.fields.proofs.table.log.Statement.{statement}
 use Rattle.fields.proofs.table.log.Tie as tie
 
-log-word-requires : tie.Need-log-word-requires
-log-word-requires c κs = search needs
-
-byte-of-requires : tie.Need-byte-of-requires
-byte-of-requires c κs = search needs
+element-copy-out-result : tie.Need-element-copy-out-result
+element-copy-out-result c = search needs
 
 returns : tie.Need-returns
-returns c =
-    let a = c .before .before .args .a in
-    c .byte-of .ensures ∙ ap (λ (w : ℕ). w / 2 ^ (a % 8 * 8) % 256) (c .before .log-word .ensures) ∙ log-byte a (omega arith)
+returns c = ap (λ (l : List ℕ). getD l (c .before .args .a) 0) (c .before .pre)
 
 pub log-spec : {M : Type 1} → statement M
-log-spec = tie.close (tie.spec log-word-requires byte-of-requires returns)
+log-spec = tie.close (tie.spec element-copy-out-result returns)

@@ -1,22 +1,17 @@
--- `power` meets its contract. Assumes nothing.
-use mathlib.Core.Path.{ap, _∙_}
-use Prim.Native.Nat.{ℕ, _*_, _/_, _%_, _^_}
-use native.Mathlib.Omega.{arith}
+-- `power` meets its contract: the table that is lent is that of the definition. Assumes nothing.
+use mathlib.Core.Path.{ap}
+use mathlib.Core.List.{List}
+use Prim.Native.Nat.{ℕ}
+use lib.ListN.{getD}
 use borrow.Author.Needs.{needs}
-use Rattle.fields.proofs.Tables.{power-byte}
 use Rattle.fields.proofs.table.power.Statement.{statement}
 use Rattle.fields.proofs.table.power.Tie as tie
 
-power-word-requires : tie.Need-power-word-requires
-power-word-requires c κs = search needs
-
-byte-of-requires : tie.Need-byte-of-requires
-byte-of-requires c κs = search needs
+element-copy-out-result : tie.Need-element-copy-out-result
+element-copy-out-result c = search needs
 
 returns : tie.Need-returns
-returns c =
-    let n = c .before .before .args .n in
-    c .byte-of .ensures ∙ ap (λ (w : ℕ). w / 2 ^ (n % 8 * 8) % 256) (c .before .power-word .ensures) ∙ power-byte n (omega arith)
+returns c = ap (λ (l : List ℕ). getD l (c .before .args .n) 0) (c .before .pre)
 
 pub power-spec : {M : Type 1} → statement M
-power-spec = tie.close (tie.spec power-word-requires byte-of-requires returns)
+power-spec = tie.close (tie.spec element-copy-out-result returns)

@@ -2,7 +2,7 @@
 use Prim.Native.Nat.{ℕ}
 use lib.ListN.{getD}
 use Rattle.fields.specs.Gap.{amount-inverses}
-use Rattle.fields.proofs.Arms.{at, last}
+use Rattle.lowering.proofs.Arms.{at, last}
 use Rattle.lowering.proofs.amount.inverse.Statement.{statement}
 use Rattle.lowering.proofs.amount.inverse.Tie as tie
 

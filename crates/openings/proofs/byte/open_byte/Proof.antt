@@ -19,8 +19,17 @@ returns c = sym (unreadable byte-scheme _ _ (sym (c .before .readable .ensures) 
 passed : (c : tie.Else1) → Readable 256 (c .before .before .before .args .n) (c .before .before .before .args .words .now)
 passed c = read 256 _ _ (sym (c .before .readable .ensures) ∙ not-false (c .before .readable .result) (c .if1 .left))
 
+log-table-requires : tie.Need-log-table-requires
+log-table-requires c κs = search needs
+
+power-table-requires : tie.Need-power-table-requires
+power-table-requires c κs = search needs
+
 sums-requires : tie.Need-sums-requires
-sums-requires c κs = (passed c .least, passed c .most, passed c .long)
+sums-requires c κs =
+    let l = c .before .before .before in
+    let p = passed (l .before) in
+    (p .least, p .most, p .long, (l .log-table .ensures, c .before .power-table .ensures))
 
 secret-of-requires : tie.Need-secret-of-requires
 secret-of-requires c κs = search needs
@@ -28,7 +37,7 @@ secret-of-requires c κs = search needs
 returns-2 : tie.Need-returns-2
 returns-2 c =
     let s = c .before in
-    c .secret-of .ensures ∙ whole-read _ _ (passed (s .before)) _ (s .sums .ensures .0)
+    c .secret-of .ensures ∙ whole-read _ _ (passed (s .before .before .before .before .before)) _ (s .sums .ensures .0)
 
 pub open-byte-spec : {M : Type 1} → statement M
-open-byte-spec = tie.close (tie.spec readable-requires returns sums-requires secret-of-requires returns-2)
+open-byte-spec = tie.close (tie.spec readable-requires returns log-table-requires power-table-requires sums-requires secret-of-requires returns-2)

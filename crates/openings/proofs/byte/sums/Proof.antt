@@ -9,18 +9,20 @@ use Rattle.fields.specs.Byte.{xor}
 use Rattle.sharing.specs.Scheme.{threshold, points}
 use Rattle.weights.specs.Rows.{byte-rows}
 use Rattle.weights.proofs.Picked.{own-row}
+use Rattle.openings.proofs.Settled.{Counted}
 use Rattle.openings.proofs.Packed.{from-place}
-use Rattle.openings.proofs.Weighted.{weighted, lows, highs, readable-lows, readable-highs, weight-positive, one-turn, before-all}
+use Rattle.openings.proofs.Parts.{lows, highs}
+use Rattle.openings.proofs.Weighted.{weighted, readable-lows, readable-highs, weight-positive, one-turn, before-all}
 use Rattle.openings.proofs.byte.sums.Statement.{statement}
 use Rattle.openings.proofs.byte.sums.Tie as tie
 
 abbrev Inv-loop : tie.InvT-loop
-Inv-loop n words row count low₀ high₀ i₀ low high i =
+Inv-loop n words logs powers row count low₀ high₀ i₀ low high i =
     (i ≤ n) × (low ≡ from-place (n - threshold n) (points n) (weighted n (lows words)) i)
     × (high ≡ from-place (n - threshold n) (points n) (weighted n (highs words)) i)
 
 abbrev μ-loop : tie.MeasureT-loop
-μ-loop n words row count low₀ high₀ i₀ low high i = i
+μ-loop n words logs powers row count low₀ high₀ i₀ low high i = i
 
 byte-row-requires : tie.Need-byte-row-requires Inv-loop μ-loop
 byte-row-requires c κs = search needs
@@ -31,13 +33,17 @@ threshold-requires c κs = search needs
 sub-count : tie.Need-sub-count Inv-loop μ-loop
 sub-count c = omega (arith, c .threshold .ensures)
 
+-- as many words as parties
+many : (c : tie.Start Inv-loop μ-loop) → Counted (c .args .n) (c .args .words .now)
+many c = (c .pre .0, c .pre .1, c .pre .2)
+
 loop-holds : tie.Need-loop-holds Inv-loop μ-loop
 loop-holds c =
     let s = c .before .before .before in
     let a = s .args in (
       omega (arith, s .pre),
-      before-all _ _ (readable-lows _ (a .words .now) (s .pre)) ∙ ap (from-place _ _ _) (sym (s .pre .2)),
-      before-all _ _ (readable-highs _ (a .words .now) (s .pre)) ∙ ap (from-place _ _ _) (sym (s .pre .2)),
+      before-all _ _ (readable-lows _ (a .words .now) (many s)) ∙ ap (from-place _ _ _) (sym (s .pre .2)),
+      before-all _ _ (readable-highs _ (a .words .now) (many s)) ∙ ap (from-place _ _ _) (sym (s .pre .2)),
     )
 
 -- in a turn: what the call was given, the row, and the place that is taken
@@ -80,12 +86,12 @@ cast-terms c = search needs
 
 -- the weight is not 0
 positive : (c : tie.In-loop Inv-loop μ-loop) → 0 < getD (c .before .before .before .byte-row .result) (place c) 0
-positive c = rw (row-is c) (weight-positive _ _ (readable-lows _ (words c) (start c .pre)) (place c) (inside c))
+positive c = rw (row-is c) (weight-positive _ _ (readable-lows _ (words c) (many (start c))) (place c) (inside c))
 
 terms-requires : tie.Need-terms-requires Inv-loop μ-loop
 terms-requires c κs =
     let l = c .before in
-    (positive l, omega (arith, inside l), omega (arith, l .before .before .threshold .ensures, start l .pre))
+    (positive l, omega (arith, inside l), omega (arith, l .before .before .threshold .ensures, start l .pre), start l .pre .3)
 
 cast-terms-2 : tie.Need-cast-terms-2 Inv-loop μ-loop
 cast-terms-2 c = search needs
@@ -93,7 +99,7 @@ cast-terms-2 c = search needs
 terms-requires-2 : tie.Need-terms-requires-2 Inv-loop μ-loop
 terms-requires-2 c κs =
     let l = c .before .before in
-    (positive l, omega (arith, inside l), omega (arith, l .before .before .threshold .ensures, start l .pre))
+    (positive l, omega (arith, inside l), omega (arith, l .before .before .threshold .ensures, start l .pre), start l .pre .3)
 
 loop-less : tie.Need-loop-less Inv-loop μ-loop
 loop-less c = search needs
@@ -105,9 +111,9 @@ loop-again c =
     let i = l .before .loop .i in
     let t = l .before .before .threshold in (
       omega (arith, inside l),
-      one-turn _ _ (readable-lows _ (words l) (start l .pre)) i (t .result) _ _ _ _ (l .loop-test .taken) (l .before .loop .inv .0) (t .ensures) (row-is l)
+      one-turn _ _ (readable-lows _ (words l) (many (start l))) i (t .result) _ _ _ _ (l .loop-test .taken) (l .before .loop .inv .0) (t .ensures) (row-is l)
           (sym (List·getD-map (λ w. w % 256) (words l) (place l) 0)) (l .before .loop .inv .1) (c .before .terms .ensures),
-      one-turn _ _ (readable-highs _ (words l) (start l .pre)) i (t .result) _ _ _ _ (l .loop-test .taken) (l .before .loop .inv .0) (t .ensures) (row-is l)
+      one-turn _ _ (readable-highs _ (words l) (many (start l))) i (t .result) _ _ _ _ (l .loop-test .taken) (l .before .loop .inv .0) (t .ensures) (row-is l)
           (sym (List·getD-map (λ w. w / 256 % 256) (words l) (place l) 0)) (l .before .loop .inv .2) (c .terms2 .ensures),
     )
 

@@ -6,7 +6,7 @@ use native.Mathlib.Omega.{arith}
 use lib.ListN.{getD}
 use borrow.Author.Needs.{needs}
 use Rattle.fields.specs.Byte.{product, bytes}
-use Rattle.fields.specs.Packed.{packed}
+use Rattle.openings.specs.Packed.{packed}
 use Rattle.fields.specs.Table.{logarithms, added}
 use Rattle.fields.proofs.Bytes.{product-zero}
 use Rattle.fields.proofs.Fields.{byte-field}
@@ -17,11 +17,11 @@ use Rattle.openings.proofs.byte.terms.Statement.{statement}
 use Rattle.openings.proofs.byte.terms.Tie as tie
 
 abbrev Inv-loop : tie.InvT-loop
-Inv-loop weight word point count step at₀ all₀ j₀ at all j =
+Inv-loop weight word point count logs powers step at₀ all₀ j₀ at all j =
     (j ≤ count) × (at < 256) × (power at ≡ multiplied point j (product weight word)) × (all ≡ packed (moments bytes j (point ∷ []) (product weight word ∷ [])))
 
 abbrev μ-loop : tie.MeasureT-loop
-μ-loop weight word point count step at₀ all₀ j₀ at all j = count - j
+μ-loop weight word point count logs powers step at₀ all₀ j₀ at all j = count - j
 
 returns : tie.Need-returns Inv-loop μ-loop
 returns c =

@@ -1,8 +1,10 @@
 -- `open_present_byte` meets its contract in both ways that it takes. Assumes nothing.
-use mathlib.Core.Path.{_∙_}
+use mathlib.Core.Path.{sym, _∙_}
 use borrow.Author.Needs.{needs}
+use borrow.Author.Tests.{not-true, not-false}
 use Rattle.openings.proofs.Laws.{byte-fits}
 use Rattle.present_openings.proofs.Laws.{by-everyone}
+use Rattle.present_openings.proofs.Opened.{not-bytes, lows-are}
 use Rattle.present_openings.proofs.present.open_present_byte.Statement.{statement}
 use Rattle.present_openings.proofs.present.open_present_byte.Tie as tie
 
@@ -12,11 +14,23 @@ open-byte-requires c κs = search needs
 returns : tie.Need-returns
 returns c = rw (c .before .if1 .taken) (c .open-byte .ensures ∙ by-everyone byte-fits _ _)
 
+are-bytes-requires : tie.Need-are-bytes-requires
+are-bytes-requires c κs = search needs
+
+returns-2 : tie.Need-returns-2
+returns-2 c =
+    let b = c .before in
+    rw (b .before .if1 .left) (not-bytes _ _ _ (sym (b .are-bytes .ensures) ∙ not-true (b .are-bytes .result) (c .if2 .taken)))
+
 open-some-requires : tie.Need-open-some-requires
 open-some-requires c κs = search needs
 
-returns-2 : tie.Need-returns-2
-returns-2 c = rw (c .before .if1 .left) (c .open-some .ensures)
+returns-3 : tie.Need-returns-3
+returns-3 c =
+    let b = c .before .before in
+    rw (b .before .if1 .left)
+    (c .open-some .ensures .0 ∙ lows-are _ _ _ (sym (b .are-bytes .ensures) ∙ not-false (b .are-bytes .result) (c .before .if2 .left)))
 
 pub open-present-byte-spec : {M : Type 1} → statement M
-open-present-byte-spec = tie.close (tie.spec open-byte-requires returns open-some-requires returns-2)
+open-present-byte-spec =
+    tie.close (tie.spec open-byte-requires returns are-bytes-requires returns-2 open-some-requires returns-3)

@@ -1,55 +1,76 @@
--- `open_some` meets its contract, by the words that are gathered. Assumes nothing.
+-- `open_some` meets its contract: the words of those who were chosen, in both parts. Assumes nothing.
 use mathlib.Core.Path.{_≡_, sym, _∙_}
-use mathlib.Core.Bool.{true}
+use Prim.Native.Nat.{_/_, _%_}
+use lib.ListN.{length, take}
 use borrow.Author.Needs.{needs}
-use borrow.Author.Tests.{not-true, not-false}
-use Rattle.lowering.specs.Both.{scheme-of}
-use Rattle.present_openings.specs.Present.{sized}
-use Rattle.present_openings.specs.Law.{Sized}
-use Rattle.present_openings.proofs.Opened.{sized-as, gather-asks, rising-gathered, by-not, by-gathered}
+use Rattle.weights.specs.Rows.{byte-scheme}
+use Rattle.present_openings.proofs.Opened.{rising-chosen, by-part, taken}
 use Rattle.present_openings.proofs.present.open_some.Statement.{statement}
 use Rattle.present_openings.proofs.present.open_some.Tie as tie
 
--- there are as many marks and words as parties
-module _ (c : tie.Else1) where
-  abbrev start : tie.Start
-  start = c .before .before .before .before
+chosen-requires : tie.Need-chosen-requires
+chosen-requires c κs = search needs
 
-  passed : sized (start .args .n) (start .args .present .now) (start .args .words .now) ≡ true
-  passed = sym (c .before .sized .ensures) ∙ not-false (c .before .sized .result) (c .if1 .left)
+log-table-requires : tie.Need-log-table-requires
+log-table-requires c κs = search needs
 
-  counts : Sized (start .args .n) (start .args .present .now) (start .args .words .now)
-  counts = sized-as (start .args .n) (start .args .present .now) (start .args .words .now) passed
-
-sized-requires : tie.Need-sized-requires
-sized-requires c κs = search needs
-
-returns : tie.Need-returns
-returns c =
-    let a = c .before .before .before .before .args in
-    sym
-    (by-not (a .n) (a .present .now) (a .words .now) (scheme-of (a .bytes))
-    (sym (c .before .sized .ensures) ∙ not-true (c .before .sized .result) (c .if1 .taken)))
-
-gather-requires : tie.Need-gather-requires
-gather-requires c κs = gather-asks _ _ _ (counts c)
+power-table-requires : tie.Need-power-table-requires
+power-table-requires c κs = search needs
 
 threshold-requires : tie.Need-threshold-requires
 threshold-requires c κs = search needs
 
-open-at-requires : tie.Need-open-at-requires
-open-at-requires c κs =
-    let g = c .before .before .before in
-    (g .gather .ensures .0 .0, rising-gathered _ _ _ (counts (g .before)) _ (g .gather .ensures .1 .0))
+-- as many points and words as were chosen
+module _ (c : tie.After-chosen) where
+  many-points : length (take (c .chosen .result .count) (c .chosen .result .parties)) ≡ c .chosen .result .count
+  many-points = taken _ _ (c .chosen .ensures .0 .0) (c .chosen .ensures .0 .1)
 
-returns-2 : tie.Need-returns-2
-returns-2 c =
-    let g = c .before .before .before .before in
-    let e = g .before in
-    let a = start e .args in
-    c .open-at .ensures
-    ∙ by-gathered (a .n) (a .present .now) (a .words .now) (scheme-of (a .bytes)) _ _ _ (passed e) (c .before .threshold .ensures)
-    (g .gather .ensures .1 .0) (g .gather .ensures .1 .1)
+  many-words : length (take (c .chosen .result .count) (c .chosen .result .words)) ≡ c .chosen .result .count
+  many-words = taken _ _ (c .chosen .ensures .0 .0) (c .chosen .ensures .0 .2)
+
+array-share-prefix-points : tie.Need-array-share-prefix-points
+array-share-prefix-points c = search needs
+
+slice-aggregate-open-pairs-at : tie.Need-slice-aggregate-open-pairs-at
+slice-aggregate-open-pairs-at c = sym (many-points (c .before .before .before .before .before .before))
+
+array-borrow-prefix-left : tie.Need-array-borrow-prefix-left
+array-borrow-prefix-left c = search needs
+
+slice-aggregate-open-pairs-at-2 : tie.Need-slice-aggregate-open-pairs-at-2
+slice-aggregate-open-pairs-at-2 c = sym (many-words (c .before .before .before .before .before .before .before))
+
+open-pairs-at-requires : tie.Need-open-pairs-at-requires
+open-pairs-at-requires c κs =
+    let p = c .before .before .before .before .before in
+    let h = p .before .before .before .before in (
+      rising-chosen _ _ _ _ (h .chosen .ensures .1 .0),
+      many-words h ∙ sym (many-points h),
+      (p .before .log-table .ensures, p .power-table .ensures),
+    )
+
+returns : tie.Need-returns
+returns c =
+    let o = c .before in
+    let t = o .before .before .before .before .before in
+    let h = t .before .before .before .before .before in
+    let e = o .open-pairs-at .ensures in
+    let k = h .chosen .ensures .1 in (
+      e .0 ∙ by-part (λ w. w % 256) _ _ _ byte-scheme _ (t .threshold .ensures) _ _ (k .0) (k .1),
+      e .1 ∙ by-part (λ w. w / 256) _ _ _ byte-scheme _ (t .threshold .ensures) _ _ (k .0) (k .1),
+    )
 
 pub open-some-spec : {M : Type 1} → statement M
-open-some-spec = tie.close (tie.spec sized-requires returns gather-requires threshold-requires open-at-requires returns-2)
+open-some-spec =
+    tie.close
+    (tie.spec
+    chosen-requires
+    log-table-requires
+    power-table-requires
+    threshold-requires
+    array-share-prefix-points
+    slice-aggregate-open-pairs-at
+    array-borrow-prefix-left
+    slice-aggregate-open-pairs-at-2
+    open-pairs-at-requires
+    returns)
