@@ -119,9 +119,9 @@
  * Replies
  *   0 when the call is done, else the number of a refusal. Each call lists its
  *   refusals in the order in which it judges them, and gives the first that
- *   applies; but where a record has not CLOCKIVY_RECORD_LEN words, nothing
- *   else can be judged and the reply is 2 (clockivy_open, which only writes the
- *   record, judges 1 first). A refused call has changed nothing.
+ *   applies. Where a record has not CLOCKIVY_RECORD_LEN words, what needs no
+ *   record is judged all the same (n, own and k, bidder, the marks in present:
+ *   1), and then the reply is 2. A refused call has changed nothing.
  *
  * A bid entry by entry
  *   clockivy_split is lent all 2kt coins of a bid at once. A desk that cannot

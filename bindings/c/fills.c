@@ -2,7 +2,8 @@
  * What buyers get at the price. Runs whole auctions of three parties and four
  * prices: the paper's bids, buyers who get a part each, no bids, no demand at the
  * price, and no price. Each fill is held against the tables, and before the end
- * there is none. Then tries every refusal of clockivy_fill, in its order.
+ * there is none. Then tries every refusal of clockivy_fill, in its order, and what
+ * comes before the length of a record that clockivy_add and clockivy_hear are lent.
  */
 #include <stdio.h>
 #include <stdlib.h>
@@ -272,6 +273,34 @@ static void try_refusals(void)
     filled(&party, CLOCKIVY_MAX_AMOUNT, 0, 0);
 }
 
+/* A bidder's number and marks need no record: 1 where they are none, and then 2. */
+static void try_lengths(void)
+{
+    static const size_t lengths[] = {0, 10, 26, 29, 30, 32};
+    static const uint64_t bidders[] = {1, 1000, 0, 1001};
+    static const uint8_t marks[] = {0, 1, 2, 7};
+    const uint64_t word = 0;
+    uint64_t words[32];
+    uint64_t total = 0;
+    size_t i;
+    size_t j;
+
+    memset(words, 0xFF, sizeof words);
+    for (i = 0; i < sizeof lengths / sizeof lengths[0]; i++)
+        for (j = 0; j < sizeof marks; j++) {
+            const uint64_t number = j < 2 ? CLOCKIVY_WRONG_LENGTH : CLOCKIVY_OUT_OF_RANGE;
+
+            check(clockivy_add(words, lengths[i], &total, 1, bidders[j], &word, 1) == number,
+                  "a bid was not refused, or with another number");
+            check(clockivy_hear(words, lengths[i], &word, 1, &word, 1, &word, 1, &marks[j], 1)
+                      == number,
+                  "a hearing was not refused, or with another number");
+            refusals += 2;
+        }
+    for (i = 0; i < 32; i++)
+        check(words[i] == UINT64_MAX && total == 0, "a refused call has written something");
+}
+
 int main(void)
 {
     size_t number;
@@ -279,6 +308,7 @@ int main(void)
     for (number = 0; number < CASES; number++)
         run(number);
     try_refusals();
+    try_lengths();
     printf("%d auctions, %d fills, %d refusals\n", (int)CASES, fills, refusals);
     return EXIT_SUCCESS;
 }

@@ -1,9 +1,10 @@
 //! The eleven calls on plain words, as the C library has them. The reply is 0,
 //! or the number of the [refusal](crate::Refusal), and then nothing that was
 //! lent has changed. Each call's refusals are listed in the order in which it
-//! judges them. But a record may have any length here, and where it has not
-//! [`RECORD_LEN`](crate::RECORD_LEN) words the reply is 2 before all else; only
-//! [`open`], which writes the record, judges 1 first.
+//! judges them. A record may have any length here. Where it has not
+//! [`RECORD_LEN`](crate::RECORD_LEN) words, a call still judges what needs no
+//! record, 1: the numbers of [`open`], the bidder's number of [`add`] and the marks
+//! of [`hear`]. Then it is 2 before all else.
 //!
 //! Most callers want [`Collecting`](crate::Collecting) and what stands beside
 //! it. This module serves those who keep records as words, and tests. Nothing

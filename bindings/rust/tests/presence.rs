@@ -372,12 +372,20 @@ fn a_hearing_is_judged_in_its_order() {
             assert_eq!(refusal.number(), number, "{hearing:?}");
         }
     }
-    // On plain words the record's length comes before all else.
+    // On plain words the record's length comes before all else but the marks, which
+    // need no record.
     for length in [0, RECORD_LEN - 1, RECORD_LEN + 1] {
-        let mut record = vec![u64::MAX; length];
-        let number = words::hear(&mut record, &[], &[], &[], &[2]);
-        assert_eq!(number, Refusal::WrongLength.number());
-        assert_eq!(record, vec![u64::MAX; length]);
+        for (present, refusal) in [
+            (&[][..], Refusal::WrongLength),
+            (&[0, 1, 1], Refusal::WrongLength),
+            (&[2], Refusal::OutOfRange),
+            (&[0, 1, 7], Refusal::OutOfRange),
+        ] {
+            let mut record = vec![u64::MAX; length];
+            let number = words::hear(&mut record, &[], &[], &[], present);
+            assert_eq!(number, refusal.number());
+            assert_eq!(record, vec![u64::MAX; length]);
+        }
     }
 }
 

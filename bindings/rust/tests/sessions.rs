@@ -343,12 +343,20 @@ fn a_bid_is_judged_in_its_order() {
             assert_eq!(add_to(record, bidder, totals, shares), Err(refusal));
         }
     }
-    // On plain words the record's length comes before all else.
+    // On plain words the record's length comes before all else but the bidder's
+    // number, which needs no record.
     for length in [0, 10, 26, 29, RECORD_LEN - 1, RECORD_LEN + 1] {
-        let mut record = vec![u64::MAX; length];
-        let number = words::add(&mut record, &mut [0; 4], 0, short);
-        assert_eq!(number, Refusal::WrongLength.number());
-        assert_eq!(record, vec![u64::MAX; length]);
+        for (bidder, refusal) in [
+            (1, Refusal::WrongLength),
+            (1_000, Refusal::WrongLength),
+            (0, Refusal::OutOfRange),
+            (1_001, Refusal::OutOfRange),
+        ] {
+            let mut record = vec![u64::MAX; length];
+            let number = words::add(&mut record, &mut [0; 4], bidder, short);
+            assert_eq!(number, refusal.number());
+            assert_eq!(record, vec![u64::MAX; length]);
+        }
     }
 }
 

@@ -1,14 +1,14 @@
 -- A record in a lent slice: "n, own number, k, bids, lo, hi, probes done, round, T, carry share", a word each, then "a roll of who is in",
 -- 16 words, and then what "The record gains": "which search is on and, 0 until the first ends, i and its probes", and "D and S". Assumes
 -- nothing.
-use mathlib.Core.Bool.{not}
+use mathlib.Core.Bool.{Bool, cond, not}
 use mathlib.Core.List.{List, [], _∷_, _++_, map}
 use Prim.Native.Nat.{ℕ}
 use lib.ListN.{getD}
-use Rattle.refusal.specs.Refusal.{numberOf}
-use Rattle.refusal.specs.Judging.{_⇒_, judged, kept}
+use Rattle.refusal.specs.Refusal.{numberOf, codeOf}
+use Rattle.refusal.specs.Judging.{_⇒_, judged, then, kept}
 use Rattle.refusal.specs.declared.Judgement.{Judgement}
-use Rattle.refusal.specs.declared.Refusal.the-variants.{WrongLength}
+use Rattle.refusal.specs.declared.Refusal.the-variants.{OutOfRange, WrongLength}
 use Rattle.ranges.specs.Lists.{from}
 use Rattle.ranges.specs.Sizes.{long}
 use Rattle.record.specs.declared.Party.{Party}
@@ -66,9 +66,18 @@ record-judgement words = judged ((not (long record-size words) ⇒ WrongLength) 
 abbrev pub on-record : {A : Type 0} (words : List ℕ) (given otherwise : A) → A
 on-record words given otherwise = kept (record-judgement words) given otherwise
 
--- the call's number: without a record nothing else is judged
+-- the number of a call of which nothing is judged without a record
 abbrev pub number-on : (words : List ℕ) (number : ℕ) → ℕ
 number-on words number = on-record words number (numberOf WrongLength)
+
+-- The code of a call with something to judge that needs no record. "The lowest number that applies is given": 1 where that is out of range;
+-- then 2 where no record is lent; then the rest.
+unfoldable pub code-on : (words : List ℕ) (in-range : Bool) (rest : Judgement) → ℕ
+code-on words in-range rest = codeOf (then (judged ((not in-range ⇒ OutOfRange) ∷ [])) (then (record-judgement words) rest))
+
+-- and that code where none is lent
+abbrev pub code-without : (in-range : Bool) → ℕ
+code-without in-range = cond in-range (numberOf WrongLength) (numberOf OutOfRange)
 
 -- what a reply leaves in the record's slice
 abbrev pub stored : Reply → List ℕ → List ℕ

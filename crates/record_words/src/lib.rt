@@ -6,7 +6,7 @@ ghost use mathlib.Core.List.{_++_};
 ghost use lib.ListN.{length, take, drop, getD};
 ghost use Rattle.refusal.specs.Refusal.{codeOf};
 ghost use Rattle.ranges.specs.Sizes.{long};
-ghost use Rattle.record_words.specs.Words.{record-size, later-words, words-of, party-of, number-on, on-record, stored};
+ghost use Rattle.record_words.specs.Words.{record-size, later-words, words-of, party-of, number-on, code-without, on-record, stored};
 use record::Party;
 use record::Reply;
 use refusal::Judgement;
@@ -22,6 +22,16 @@ pub fn is_record(words: &[u64]) -> bool
     ensures { λ r. ⌜ r ≡ long record-size (now (words .entry)) ⌝ }
 {
     words.len() == WORDS
+}
+
+// What a call gives that is lent no record: 2, unless what needs none is out of its range.
+pub fn without_record(in_range: bool) -> u64
+    ensures { λ r. ⌜ r ≡ code-without in_range ⌝ }
+{
+    if in_range {
+        return number(Refusal::WrongLength);
+    }
+    number(Refusal::OutOfRange)
 }
 
 // Who calls knows the length, so that no word is asked for: so it is small enough to be inlined.

@@ -4,7 +4,7 @@
 use std::fmt;
 use std::ops::{Deref, DerefMut};
 
-use clockivy_reference::{LINE, RECORD};
+use clockivy_reference::{LINE, MAX_BIDS, MAX_PRICES, RECORD};
 
 use crate::engine::Engine;
 
@@ -102,6 +102,19 @@ impl Kind {
             _ => None,
         }
     }
+
+    /// The calls that are lent a record.
+    pub const LENT_RECORDS: [Kind; 6] = [
+        Kind::Open,
+        Kind::Add,
+        Kind::Say,
+        Kind::Hear,
+        Kind::Answer,
+        Kind::Fill,
+    ];
+
+    /// Those of them that judge something for which they need no record.
+    pub const NEEDING_NONE: [Kind; 3] = [Kind::Open, Kind::Add, Kind::Hear];
 
     /// The calls that read a record, and so judge it.
     pub const ON_RECORDS: [Kind; 5] = [Kind::Add, Kind::Say, Kind::Hear, Kind::Answer, Kind::Fill];
@@ -306,6 +319,26 @@ impl Call {
         let place = self.kind.record()?;
         let record = &self.words[place];
         (Kind::ON_RECORDS.contains(&self.kind) && record.len() == RECORD).then_some(record)
+    }
+
+    /// Whether the call is lent a record that has not the length of one.
+    pub fn lacks_record(&self) -> bool {
+        let place = self.kind.record();
+        place.is_some_and(|place| self.words[place].len() != RECORD)
+    }
+
+    /// Whether what the call judges without a record is within its range: the numbers
+    /// of an opening, a bidder's number and the marks of a hearing.
+    pub fn in_range_without_record(&self) -> bool {
+        let [n, own, k] = self.numbers;
+        match self.kind {
+            Kind::Open => {
+                (3..=9).contains(&n) && (1..=n).contains(&own) && (1..=MAX_PRICES).contains(&k)
+            }
+            Kind::Add => (1..=MAX_BIDS).contains(&self.bidder),
+            Kind::Hear => self.bytes.iter().all(|&mark| mark <= 1),
+            _ => true,
+        }
     }
 
     /// Makes the call and gives the reply.

@@ -22,19 +22,25 @@ pub struct Difference(pub String);
 /// One more than the highest reply.
 const REPLIES: usize = 18;
 
-/// The reply to a record that is not sound.
+/// The reply to a record that is not sound, and to what needs no record and is out
+/// of its range.
 const OUT_OF_RANGE: u64 = 1;
+
+/// The reply to a record that has not the length of one.
+const WRONG_LENGTH: u64 = 2;
 
 /// The reply to a sum or a total that is none.
 const SUM_OUT_OF_RANGE: u64 = 11;
 
 /// How many calls of each kind had each reply, how many were lent a record in each
-/// condition, how many hearings had each reply by who was present, and how many
+/// condition, how many were lent none and had what needs none out of its range or
+/// within, how many hearings had each reply by who was present, and how many
 /// were refused for what was opened; what came of the settlement pages; how the whole
 /// auctions ended, and who was there; and how many byte products were the same.
 pub struct Tally {
     counts: [[u64; REPLIES]; Kind::ALL.len()],
     records: [[u64; Kind::ALL.len()]; soundness::CONDITIONS],
+    lacking: [[u64; 2]; Kind::ALL.len()],
     hearings: [[u64; presence::REPLIES.len()]; presence::CONDITIONS],
     opened: [u64; opened::COUNT],
     pages: [u64; page::CONDITIONS],
@@ -48,6 +54,7 @@ impl Default for Tally {
         Tally {
             counts: Default::default(),
             records: [[0; Kind::ALL.len()]; soundness::CONDITIONS],
+            lacking: Default::default(),
             hearings: [[0; presence::REPLIES.len()]; presence::CONDITIONS],
             opened: [0; opened::COUNT],
             pages: [0; page::CONDITIONS],
@@ -87,7 +94,11 @@ impl Tally {
             )));
         }
         self.counts[call.kind as usize][reply as usize] += 1;
-        self.count_record(call, reply)?;
+        if call.lacks_record() {
+            self.count_lacking(call, reply)?;
+        } else {
+            self.count_record(call, reply)?;
+        }
         match (call.kind, reply) {
             (Kind::Hear, _) => self.count_hearing(call, reply)?,
             (Kind::Fill, 0) => filled(&verified)?,
@@ -107,14 +118,7 @@ impl Tally {
         };
         let found = soundness::found(record);
         let sound = matches!(found, Found::Sound(_));
-        // Adding judges the bidder's number by the same refusal, and hearing the
-        // marks.
-        let else_wrong = match call.kind {
-            Kind::Add => !(1..=MAX_BIDS).contains(&call.bidder),
-            Kind::Hear => call.bytes.iter().any(|&mark| mark > 1),
-            _ => false,
-        };
-        if (reply == OUT_OF_RANGE) == (sound && !else_wrong) {
+        if (reply == OUT_OF_RANGE) == (sound && call.in_range_without_record()) {
             return Err(Difference(format!(
                 "both replied {reply} to a record of which is found {found:?}, given\n{call}"
             )));
@@ -122,6 +126,19 @@ impl Tally {
         if let Found::Sound(condition) | Found::Broken(condition) = found {
             self.records[condition][call.kind as usize] += 1;
         }
+        Ok(())
+    }
+
+    /// Counts a call that was lent no record. What needs none is judged before that.
+    fn count_lacking(&mut self, call: &Call, reply: u64) -> Result<(), Difference> {
+        let within = call.in_range_without_record();
+        let expected = if within { WRONG_LENGTH } else { OUT_OF_RANGE };
+        if reply != expected {
+            return Err(Difference(format!(
+                "both replied {reply} in place of {expected}, given\n{call}"
+            )));
+        }
+        self.lacking[call.kind as usize][usize::from(within)] += 1;
         Ok(())
     }
 
@@ -231,6 +248,18 @@ impl Tally {
             .collect()
     }
 
+    /// The calls that were never lent another slice than a record with what needs none
+    /// within its range, or out of it.
+    pub fn unlent(&self) -> Vec<(Kind, u64)> {
+        let within = Kind::LENT_RECORDS.map(|kind| (kind, WRONG_LENGTH));
+        let outside = Kind::NEEDING_NONE.map(|kind| (kind, OUT_OF_RANGE));
+        within
+            .into_iter()
+            .chain(outside)
+            .filter(|&(kind, reply)| self.lacking[kind as usize][reply as usize - 1] == 0)
+            .collect()
+    }
+
     /// The replies that a hearing can give by who was present and that did not come
     /// up.
     pub fn unheard(&self) -> Vec<(String, u64)> {
@@ -291,6 +320,8 @@ impl fmt::Display for Tally {
             "\n\nCalls by the record lent: sound, or with one fault\n"
         )?;
         self.write_records(f)?;
+        writeln!(f, "\n\nCalls lent a record of another length, by reply\n")?;
+        self.write_lacking(f)?;
         writeln!(f, "\n\nHearings by who was present, and by reply\n")?;
         self.write_hearings(f)?;
         writeln!(f, "\n\nHearings refused with 11, by what was opened\n")?;
@@ -386,6 +417,21 @@ impl Tally {
             write!(f, "\n{:<50}", soundness::name(condition))?;
             for kind in Kind::ON_RECORDS {
                 write!(f, "{:>8}", counts[kind as usize])?;
+            }
+        }
+        Ok(())
+    }
+
+    /// By the call that is lent no record, and the reply.
+    fn write_lacking(&self, f: &mut fmt::Formatter<'_>) -> fmt::Result {
+        write!(f, "{:<17}{OUT_OF_RANGE:>8}{WRONG_LENGTH:>8}", "call")?;
+        for kind in Kind::LENT_RECORDS {
+            let [outside, within] = self.lacking[kind as usize];
+            write!(f, "\n{:<17}", kind.name())?;
+            if Kind::NEEDING_NONE.contains(&kind) {
+                write!(f, "{outside:>8}{within:>8}")?;
+            } else {
+                write!(f, "{:>8}{within:>8}", "-")?;
             }
         }
         Ok(())

@@ -1,6 +1,6 @@
 //! Every clause by which a record is sound, broken by itself, on every call that
 //! judges a record and on both implementations; and sound records beside them. Then
-//! every way in which a fill is refused.
+//! slices of another length, and every way in which a fill is refused.
 
 use clockivy_checks::call::{Call, Kind};
 use clockivy_checks::differential::{Difference, Tally};
@@ -79,6 +79,40 @@ fn sound_searches() {
             }
         }
     }
+}
+
+/// Lent no record, a call judges what needs none, and then the length.
+#[test]
+fn another_length_than_a_record() {
+    let mut rng = Rng::new(2008);
+    for kind in Kind::LENT_RECORDS {
+        for length in [0, 10, 26, 29, RECORD - 1, RECORD + 1] {
+            let mut call = call(&mut rng, kind);
+            call.words[kind.record().unwrap()].resize(length, 0);
+            call.bidder = rng.pick(&[1, 1_000]);
+            call.bytes.iter_mut().for_each(|mark| *mark %= 2);
+            assert_eq!(reply(&call), 2, "{call}");
+            for change in [no_panel, no_bidder, no_mark] {
+                let mut other = call.clone();
+                change(&mut other);
+                let judged = !other.in_range_without_record();
+                assert_eq!(reply(&other), if judged { 1 } else { 2 }, "{other}");
+            }
+        }
+    }
+}
+
+fn no_panel(call: &mut Call) {
+    call.numbers[1] = 0;
+}
+
+fn no_bidder(call: &mut Call) {
+    call.bidder = 1_001;
+}
+
+fn no_mark(call: &mut Call) {
+    call.bytes.resize(3, 7);
+    call.bytes[0] = 2;
 }
 
 /// A change that makes a good fill one that is refused, and with which number, in

@@ -320,8 +320,8 @@ impl<'a> Drawn<'a> {
 }
 
 fn try_add(record: &mut [u64], totals: &mut [u64], bidder: u64, shares: &[u64]) -> Result<(), u64> {
-    let mut party = Record::read(record)?;
     need((1..=MAX_BIDS).contains(&bidder), OUT_OF_RANGE)?;
+    let mut party = Record::read(record)?;
     let length = 2 * party.k as usize;
     need(
         totals.len() == length && shares.len() == length,
@@ -360,8 +360,8 @@ fn try_hear(
     messages: &[u64],
     present: &[u8],
 ) -> Result<(), u64> {
-    let mut party = Record::read(record)?;
     need(present.iter().all(|&mark| mark <= 1), OUT_OF_RANGE)?;
+    let mut party = Record::read(record)?;
     let n = party.n as usize;
     need(
         party.lengths_fit(totals, sheets) && messages.len() == n && present.len() == n,

@@ -273,14 +273,15 @@ fn a_verdict_that_is_no_bit() {
     }
 }
 
-/// The length of a record comes before all else.
+/// The length of a record comes before all else but the marks, which need none.
 #[test]
 fn a_record_that_is_none() {
     for length in [0, RECORD - 1, RECORD + 1] {
         let mut hearing = of_five(1, ROUNDS[0].1);
         hearing.record.resize(length, u64::MAX);
-        hearing.present[0] = 2;
         assert_eq!(reply(&hearing), 2);
+        hearing.present[0] = 2;
+        assert_eq!(reply(&hearing), 1);
     }
 }
 

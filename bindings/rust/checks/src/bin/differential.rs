@@ -4,11 +4,12 @@
 //!
 //! It passes where no call and no byte product made a difference, every reply has
 //! come up, those of a hearing by who was present and by what was opened, every fault
-//! of a record has met every call that judges one, every fault of a settlement page has
-//! been read, and whole auctions have ended in every way, with and without parties that
-//! drop off. All byte products, the whole auctions and some thousand pages come first,
-//! however few calls are asked for, and single calls fill up the number; without enough
-//! of these, something may not come up.
+//! of a record has met every call that judges one, every call on a record was lent one
+//! of another length, with and without a fault in what needs no record, every fault of
+//! a settlement page has been read, and whole auctions have ended in every way, with and
+//! without parties that drop off. All byte products, the whole auctions and some
+//! thousand pages come first, however few calls are asked for, and single calls fill up
+//! the number; without enough of these, something may not come up.
 
 use std::env;
 use std::process::ExitCode;
@@ -75,6 +76,10 @@ fn missing(tally: &Tally) -> Vec<String> {
     }
     for (kind, condition) in tally.unmet() {
         lines.push(format!("{} met no such record: {condition}", kind.name()));
+    }
+    for (kind, reply) in tally.unlent() {
+        let name = kind.name();
+        lines.push(format!("{name} never replied {reply} to no record"));
     }
     for (present, reply) in tally.unheard() {
         lines.push(format!("hear never replied {reply} in {present}"));

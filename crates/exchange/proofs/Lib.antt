@@ -1,2 +1,0 @@
--- Lemmas that the functions' proofs share.
-pub mod Opening

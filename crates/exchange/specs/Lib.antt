@@ -1,2 +1,0 @@
--- The exported calls: what the contracts cite.
-pub mod Calls

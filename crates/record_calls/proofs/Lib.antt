@@ -1,0 +1,2 @@
+-- Lemmas that the functions' proofs share.
+pub mod Codes

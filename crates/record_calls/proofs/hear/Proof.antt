@@ -1,0 +1,90 @@
+-- `hear` meets its contract: the slice is no record, or the call is `hearing::hear` on what it holds. Assumes nothing.
+use mathlib.Core.Path.{_≡_, sym, ap, _∙_}
+use mathlib.Core.Bool.{not}
+use Prim.Native.Nat.{ℕ}
+use mathlib.Core.List.{List}
+use Rattle.refusal.specs.Refusal.{codeOf}
+use Rattle.record.specs.declared.Party.{Party}
+use Rattle.record.specs.declared.Reply.{Reply}
+use Rattle.hearing.specs.Hear.{hear-reply}
+use Rattle.record_words.specs.Words.{party-of, on-record, number-on, code-without, stored}
+use Rattle.record_words.proofs.Lent.{lent-long, no-record, no-record-code}
+use Rattle.record_calls.proofs.Codes.{hears}
+use borrow.Author.Needs.{needs}
+use Rattle.record_calls.proofs.hear.Statement.{statement}
+use Rattle.record_calls.proofs.hear.Tie as tie
+
+is-record-requires : tie.Need-is-record-requires
+is-record-requires c κs = search needs
+
+count-marks-requires : tie.Need-count-marks-requires
+count-marks-requires c κs = search needs
+
+without-record-requires : tie.Need-without-record-requires
+without-record-requires c κs = search needs
+
+same-length : tie.Need-same-length
+same-length c = search needs
+
+-- what is lent, once it is known whether there is a record
+module _ (c : tie.After-is-record) where
+  abbrev start : tie.Start
+  start = c .before .before .before .before .before .before .before
+
+  abbrev words : List ℕ
+  words = start .args .words .now
+
+  abbrev reply : Party → Reply
+  reply q = hear-reply q (start .args .totals .now) (start .args .sheets .now) (start .args .messages .now) (start .args .present .now)
+
+returns : tie.Need-returns
+returns c =
+    let m = c .before in
+    let j = m .before .before in
+    let no = ap not (sym (j .is-record .ensures)) ∙ m .before .if1 .taken in (
+      c .without-record .ensures ∙ ap code-without (m .count-marks .ensures .0) ∙ sym (no-record-code (words j) _ _ no),
+      sym (no-record (words j) _ _ no),
+    )
+
+read-requires : tie.Need-read-requires
+read-requires c κs =
+    let j = c .before .before in
+    lent-long (words j) (ap not (sym (j .is-record .ensures)) ∙ c .before .if1 .left)
+
+hear-requires : tie.Need-hear-requires
+hear-requires c κs = search needs
+
+store-requires : tie.Need-store-requires
+store-requires c κs = search needs
+
+same-length-2 : tie.Need-same-length-2
+same-length-2 c = search needs
+
+returns-2 : tie.Need-returns-2
+returns-2 c =
+    let h = c .before .before .before .before in
+    let r = h .before in
+    let j = r .before .before .before in
+    let a = start j .args in
+    let lent = ap not (sym (j .is-record .ensures)) ∙ r .before .before .if1 .left in
+    let s = c .before .before .store .ensures in
+    let given : h .hear .result ≡ reply j (party-of (words j)) = h .hear .ensures ∙ ap (reply j) (r .read .ensures) in (
+      s .0 ∙ ap (λ (r : Reply). number-on (words j) (codeOf (r .judgement))) given
+          ∙ hears (words j) lent _ (a .totals .now) (a .sheets .now) (a .messages .now) (a .present .now),
+      s .1 ∙ ap (λ (r : Reply). on-record (words j) (stored r (words j)) (words j)) given,
+    )
+
+pub hear-spec : {M : Type 1} → statement M
+hear-spec =
+    tie.close
+    (tie.spec
+    is-record-requires
+    count-marks-requires
+    without-record-requires
+    same-length
+    returns
+    read-requires
+    hear-requires
+    store-requires
+    same-length-2
+    returns-2)

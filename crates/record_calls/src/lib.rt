@@ -1,0 +1,119 @@
+// The calls on a record that is lent as its words, with their replies as numbers. Where no record is lent,
+// what needs none is judged all the same: each call gives the lowest number that applies.
+ghost use mathlib.Core.Path.{_≡_};
+ghost use Rattle.record_calls.specs.Calls.{open-code, open-totals, open-record, add-code, add-totals, add-record, say-code, say-message, hear-code, hear-record, answer-code, answer-index, answer-probes, fill-code, fill-hours, fill-remainder};
+use filling::Filled;
+use presence::count_marks;
+use ranges::on_list;
+use record_words::is_record;
+use record_words::read;
+use record_words::store;
+use record_words::without_record;
+use refusal::Refusal;
+use refusal::number;
+use roll::is_bidder;
+use saying::Said;
+use session::Answer;
+
+// Nothing is zeroed unless the record can be written too.
+pub fn open(n: u64, own: u64, k: u64, totals: &mut [u64], words: &mut [u64]) -> u64
+    ensures { λ r. ⌜ (r ≡ open-code n own k (now (totals .entry)) (now (words .entry)))
+        × (now (totals .exit) ≡ open-totals n own k (now (totals .entry)) (now (words .entry)))
+        × (now (words .exit) ≡ open-record n own k (now (totals .entry)) (now (words .entry))) ⌝ }
+{
+    if !is_record(&words[..]) {
+        return without_record(on_list(n, own, k));
+    }
+    store(session::open(n, own, k, totals), words)
+}
+
+// The totals and the record are written, or neither is.
+pub fn add(words: &mut [u64], totals: &mut [u64], bidder: u64, shares: &[u64]) -> u64
+    ensures { λ r. ⌜ (r ≡ add-code (now (words .entry)) (now (totals .entry)) bidder (now (shares .entry)))
+        × (now (words .exit) ≡ add-record (now (words .entry)) (now (totals .entry)) bidder (now (shares .entry)))
+        × (now (totals .exit) ≡ add-totals (now (words .entry)) (now (totals .entry)) bidder (now (shares .entry))) ⌝ }
+{
+    if !is_record(&words[..]) {
+        return without_record(is_bidder(bidder));
+    }
+    store(
+        session::add(read(&words[..]), totals, bidder, shares),
+        words,
+    )
+}
+
+// The message of the round. The record is only read.
+pub fn say(words: &[u64], totals: &[u64], sheets: &[u64], message: &mut u64) -> u64
+    ensures { λ r. ⌜ (r ≡ say-code (now (words .entry)) (now (totals .entry)) (now (sheets .entry)))
+        × (now (message .exit) ≡ say-message (now (words .entry)) (now (totals .entry)) (now (sheets .entry)) (now (message .entry))) ⌝ }
+{
+    if !is_record(words) {
+        return number(Refusal::WrongLength);
+    }
+    match saying::say(read(words), totals, sheets) {
+        Said::Message(word) => {
+            *message = word;
+            0
+        }
+        Said::Refused(why) => number(why),
+    }
+}
+
+// The record after the round is written over the record before it.
+pub fn hear(
+    words: &mut [u64],
+    totals: &[u64],
+    sheets: &[u64],
+    messages: &[u64],
+    present: &[u8],
+) -> u64
+    ensures { λ r. ⌜ (r ≡ hear-code (now (words .entry)) (now (totals .entry)) (now (sheets .entry)) (now (messages .entry)) (now (present .entry)))
+        × (now (words .exit) ≡ hear-record (now (words .entry)) (now (totals .entry)) (now (sheets .entry)) (now (messages .entry)) (now (present .entry))) ⌝ }
+{
+    if !is_record(&words[..]) {
+        let tally = count_marks(present);
+        return without_record(tally.marks);
+    }
+    store(
+        hearing::hear(read(&words[..]), totals, sheets, messages, present),
+        words,
+    )
+}
+
+// The price index, 0 for no price, and how many probes both searches made.
+pub fn answer(words: &[u64], index: &mut u64, probes: &mut u64) -> u64
+    ensures { λ r. ⌜ (r ≡ answer-code (now (words .entry)))
+        × (now (index .exit) ≡ answer-index (now (words .entry)) (now (index .entry)))
+        × (now (probes .exit) ≡ answer-probes (now (words .entry)) (now (probes .entry))) ⌝ }
+{
+    if !is_record(words) {
+        return number(Refusal::WrongLength);
+    }
+    match session::answer(read(words)) {
+        Answer::Cleared(price, made) => {
+            *index = price;
+            *probes = made;
+            0
+        }
+        Answer::Refused(why) => number(why),
+    }
+}
+
+// What a buyer of this amount gets at the price, and the remainder of the division.
+pub fn fill(words: &[u64], amount: u64, hours: &mut u64, remainder: &mut u64) -> u64
+    ensures { λ r. ⌜ (r ≡ fill-code (now (words .entry)) amount)
+        × (now (hours .exit) ≡ fill-hours (now (words .entry)) amount (now (hours .entry)))
+        × (now (remainder .exit) ≡ fill-remainder (now (words .entry)) amount (now (remainder .entry))) ⌝ }
+{
+    if !is_record(words) {
+        return number(Refusal::WrongLength);
+    }
+    match filling::fill(read(words), amount) {
+        Filled::Hours(got, left) => {
+            *hours = got;
+            *remainder = left;
+            0
+        }
+        Filled::Refused(why) => number(why),
+    }
+}

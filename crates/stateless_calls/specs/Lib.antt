@@ -1,0 +1,2 @@
+-- The calls that take no record: what the contracts cite.
+pub mod Calls
