@@ -1,5 +1,5 @@
 -- t + 1 PARTIES ARE ENOUGH TO END: the same ones are present in every round, the others never say or hear a word. Assumes nothing.
-use mathlib.Core.Path.{_≡_, ap, _∙_}
+use mathlib.Core.Path.{_≡_, refl, ap, _∙_}
 use mathlib.Core.Bool.{true, false, cond}
 use mathlib.Core.List.{List}
 use Prim.Native.Nat.{ℕ, suc, _-_, _≤_, min}
@@ -30,6 +30,7 @@ module _ (a : Auction) (present : List ℕ) where
         hears = λ own. cond (is-present present own) (rounds a) 0;
         speaks = λ own round. false;
         elsewhere = λ own round place. 0;
+        asks = λ own. true;
       }
 
   pub alone-attends : Attends a always alone
@@ -44,7 +45,7 @@ module _ (a : Auction) (present : List ℕ) where
     run = canonical-run a c always desk D alone alone-attends
 
     module _ (j : ℕ) (j1 : 1 ≤ j) (jn : j ≤ a .n) where
-      its : Outcome a (cond (is-present present j) (rounds a) 0) l j
+      its : Outcome a (cond (is-present present j) (rounds a) 0) true l j
       unfolding always alone run canonical-run
       its = demand-2 a A c C always (λ round h. E) .outcome l run j j1 jn
 
@@ -52,7 +53,7 @@ module _ (a : Auction) (present : List ℕ) where
       pub told-the-price : is-present present j ≡ true → (m : ℕ) × (answers j l ≡ replicate (suc m) (Cleared (price-answer a) (length (verdicts j l))))
       told-the-price here =
           let all : length (hearings j l) ≡ rounds a = its .heard ∙ ap (λ b. min (cond b (rounds a) 0) (rounds a)) here ∙ omega arith in
-          let some = its .once-over .0 all in
+          let some = its .once-over .0 (all, refl) in
           let m : ℕ = its .asked - 1 in
           let e : its .asked ≡ suc m = omega arith in
           (m, its .cleared ∙ ap (λ (k : ℕ). replicate k (Cleared (price-answer a) (length (verdicts j l)))) e)

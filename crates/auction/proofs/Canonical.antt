@@ -4,7 +4,6 @@ use mathlib.Core.Bool.{true, cond}
 use mathlib.Core.List.{List, [], _∷_, _++_, map, append-nil, List·Memᴰ}
 use mathlib.Core.Option.{Option}
 use Prim.Native.Nat.{ℕ, _/_, _≤_, _<_, min}
-use lib.Dec.{leb}
 use lib.ListN.{length, take}
 use Rattle.ranges.specs.Sizes.{probe-rounds}
 use Rattle.presence.specs.Presence.{is-present}
@@ -13,7 +12,7 @@ use Rattle.auction.specs.Coins.{Coins, InRange}
 use Rattle.auction.specs.Desk.{Desk, Complete}
 use Rattle.auction.specs.Attendance.{Marks, EnoughPresent, Attendance}
 use Rattle.auction.specs.Call.{Call}
-use Rattle.auction.specs.Canonical.{canonical}
+use Rattle.auction.specs.Canonical.{asks-then, canonical}
 use Rattle.auction.specs.Run.{own}
 use Rattle.auction.specs.Received.{collect, bid-in, Saying, saying-in, hearing-in, asking-in, received-bids, sayings, hearings, askings, messages, decisions}
 use Rattle.auction.specs.Demands.{all-accepted}
@@ -62,7 +61,7 @@ module _ (a : Auction) (c : Coins) (A : IsAuction a) (C : InRange a c) (marks : 
     pub canonical-decisions : decisions j (canonical a c marks desk att) ≡ take (att .hears j / probe-rounds) (map decision (probes a c))
     canonical-decisions = ap (collect _) canonical-hearings ∙ rounds-decisions a c A C marks M att j j1 jn
 
-    pub canonical-askings : askings j (canonical a c marks desk att) ≡ cond (leb (rounds a) (att .hears j)) (record-at a c (end a c) j ∷ []) []
+    pub canonical-askings : askings j (canonical a c marks desk att) ≡ cond (asks-then marks att (rounds a) j) (record-at a c (end a c) j ∷ []) []
     unfolding asking-in
     canonical-askings = reads asking-in [] (setup-none A C desk j j1 jn asking-in (λ n i k t. refl) (λ q t b s. refl)) ∙ rounds-askings a c A C marks M att j j1 jn
 

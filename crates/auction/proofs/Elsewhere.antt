@@ -4,7 +4,7 @@ use mathlib.Core.Bool.{Bool, true, false, not, _&&_, true≢false}
 use mathlib.Core.List.{List, [], _∷_, _++_, map, flatten, zip}
 use Prim.Native.Nat.{ℕ, zero, suc, _+_, _≤_}
 use native.Mathlib.Omega.{arith}
-use lib.Dec.{leb, ltb, eqb}
+use lib.Dec.{ltb, eqb}
 use borrow.Author.Tests.{ne-eqb}
 use Rattle.refusal.specs.Judging.{kept}
 use Rattle.refusal.proofs.Judging.{refuses}
@@ -32,7 +32,7 @@ use Rattle.auction.specs.Coins.{Coins, DrawnBid, flat}
 use Rattle.auction.specs.Desk.{Desk}
 use Rattle.auction.specs.Attendance.{Marks, Attendance}
 use Rattle.auction.specs.Call.{Call, open-call, judgement, is-accepted, accepted, whose, of-party}
-use Rattle.auction.specs.Canonical.{Seat, all-over, zeros, seated, shares-for, splits-for, add-by, after-adding, deal-for, after-dealing, say-by, hear-by, after-hearing, ask, where-so, says-word, say-in, words-for, hear-round, hear-in, after-round, ask-in, enough-rounds, from-rounds, deals, from-bids, canonical}
+use Rattle.auction.specs.Canonical.{Seat, all-over, zeros, seated, shares-for, splits-for, add-by, after-adding, deal-for, after-dealing, say-by, hear-by, after-hearing, ask, where-so, says-word, say-in, words-for, hear-round, hear-in, after-round, asks-then, ask-in, enough-rounds, from-rounds, deals, from-bids, canonical}
 use Rattle.auction.specs.Run.{select, own}
 use Rattle.auction.proofs.Calls.{select-append, flatten-ones, own-none, own-flatten, own-bundle}
 
@@ -141,7 +141,7 @@ module _ (j : ℕ) where
     none-asks : (round : ℕ) (ss : List Seat) → Each Away ss → own j (flatten (map (ask-in marks att round) ss)) ≡ []
     unfolding ask-in ask judgement whose of-party
     none-asks round ss h =
-        none-each Away (ask-in marks att round) (λ s e. none-one (leb round (att .hears (s .party .own))) (ask s) (none-by (s .party) _ (no-answer (s .party)) e)) ss h
+        none-each Away (ask-in marks att round) (λ s e. none-one (asks-then marks att round (s .party .own)) (ask s) (none-by (s .party) _ (no-answer (s .party)) e)) ss h
 
     none-says : (round : ℕ) (ss : List Seat) → Each Away ss → own j (flatten (map (say-in marks att round) ss)) ≡ []
     unfolding say-in say-by judgement whose of-party

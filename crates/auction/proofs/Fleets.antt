@@ -3,7 +3,7 @@ use mathlib.Core.Path.{_≡_, refl, ap₂, _∙_}
 use mathlib.Core.Bool.{Bool, true, false}
 use mathlib.Core.List.{List, [], _∷_, _++_, map, flatten, zip}
 use Prim.Native.Nat.{ℕ, zero, suc}
-use lib.Dec.{leb, ltb}
+use lib.Dec.{ltb}
 use Rattle.ranges.proofs.Loops.{and-false}
 use Rattle.sharing.specs.Scheme.{points}
 use Rattle.auction.specs.Auction.{Auction}
@@ -11,7 +11,7 @@ use Rattle.auction.specs.Coins.{Coins, DrawnBid}
 use Rattle.auction.specs.Desk.{Way, whole, by-entries, Desk}
 use Rattle.auction.specs.Attendance.{Marks, Attendance}
 use Rattle.auction.specs.Call.{Call, open-call, accepted, whose, of-fleet}
-use Rattle.auction.specs.Canonical.{Seat, all-over, zeros, seated, entry-calls, bundle-calls, splits-for, add-by, after-adding, deal-for, deals, after-dealing, say-by, hear-by, ask, where-so, says-word, say-in, hear-round, hear-in, after-round, ask-in, enough-rounds, from-rounds, from-bids, canonical}
+use Rattle.auction.specs.Canonical.{Seat, all-over, zeros, seated, entry-calls, bundle-calls, splits-for, add-by, after-adding, deal-for, deals, after-dealing, say-by, hear-by, ask, where-so, says-word, say-in, hear-round, hear-in, after-round, asks-then, ask-in, enough-rounds, from-rounds, from-bids, canonical}
 use Rattle.auction.specs.Run.{select, fills}
 use Rattle.auction.proofs.Calls.{select-append}
 
@@ -57,7 +57,7 @@ module _ (a : Auction) where
 module _ (marks : Marks) (att : Attendance) where
   none-asks : (round : ℕ) (ss : List Seat) → None (flatten (map (ask-in marks att round) ss))
   unfolding ask-in ask whose of-fleet
-  none-asks round ss = none-flat (ask-in marks att round) (λ s. none-so (leb round (att .hears (s .party .own))) (ask s) refl) ss
+  none-asks round ss = none-flat (ask-in marks att round) (λ s. none-so (asks-then marks att round (s .party .own)) (ask s) refl) ss
 
   none-rounds : (fuel round : ℕ) (ss : List Seat) → None (from-rounds marks att fuel round ss)
   unfolding from-rounds say-in say-by hear-in hear-round hear-by whose of-fleet

@@ -1,12 +1,13 @@
--- Demand 3 speaks of something: of any two auctions there are coins of the first, in range, whose masks stay when moved.
+-- Demand 3 speaks of something: of any two auctions there are coins of the first, in range, whose masks stay when moved; and any coins
+-- of the first are such, but for their masks.
 -- Assumes nothing.
-use mathlib.Core.Path.{_≡_, ap₂}
+use mathlib.Core.Path.{_≡_, refl, ap, ap₂, _∙_}
 use mathlib.Core.Bool.{true, _&&_}
-use mathlib.Core.List.{List, [], _∷_, zip}
+use mathlib.Core.List.{List, [], _∷_, map, zip}
 use Prim.Native.Nat.{ℕ, zero, suc, _+_, _*_, _^_}
 use native.Mathlib.Omega.{arith}
 use lib.Dec.{lit<}
-use lib.ListN.{length, replicate, length-replicate}
+use lib.ListN.{length, replicate, length-map, length-replicate}
 use borrow.Author.Tests.{le-leb, lt-ltb}
 use Rattle.fields.specs.Amount.{p}
 use Rattle.sharing.specs.Scheme.{threshold}
@@ -16,13 +17,17 @@ use Rattle.comparison.specs.Probe.{SheetCoins, SheetInRange, Group, Each}
 use Rattle.comparison.proofs.Plain.{each-replicate, zeros-group, plain-coins, plain-mask, plain-ranged}
 use Rattle.auction.specs.Auction.{Auction, IsAuction, left-side, right-side, probed}
 use Rattle.auction.specs.Coins.{Coins, InRange}
-use Rattle.auction.specs.Demands.{stays, Stay}
+use Rattle.auction.specs.Demands.{stays, Stay, remasked, ButMasks}
 use Rattle.auction.proofs.Totals.{left-small, right-small}
 
+-- a mask in the middle of its range
+abbrev middle : ℕ
+middle = 2 ^ 57
+
 module _ (a : Auction) where
-  -- every coefficient 0, every mask in the middle of its range
+  -- every coefficient 0, every mask in the middle
   plain-sheet : SheetCoins
-  plain-sheet = plain-coins (threshold (a .n)) (2 ^ 57)
+  plain-sheet = plain-coins (threshold (a .n)) middle
 
   plain : Coins
   plain =
@@ -41,19 +46,19 @@ module _ (a : Auction) where
             each-replicate (λ groups. (length groups ≡ 2 * a .k) × Each (Group p t) groups) (length (a .bids)) _
             (length-replicate (2 * a .k) _, each-replicate (Group p t) (2 * a .k) _ (zeros-group p t (lit< tt)));
         sheets-many = length-replicate (most-probes (a .k)) _;
-        sheets = each-replicate (SheetInRange t) (most-probes (a .k)) _ (plain-ranged t (2 ^ 57) (lit< tt));
+        sheets = each-replicate (SheetInRange t) (most-probes (a .k)) _ (plain-ranged t middle (lit< tt));
       }
 
 module _ (a b : Auction) (A : IsAuction a) (B : IsAuction b) where
   -- surpluses are far smaller than half the range of masks
-  middle-stays : (which i : ℕ) → stays a b which i (2 ^ 57) ≡ true
+  middle-stays : (which i : ℕ) → stays a b which i middle ≡ true
   unfolding stays
   middle-stays which i =
       let la = left-small A which i in
       let ra = right-small A which i in
       let lb = left-small B which i in
       let rb = right-small B which i in
-      let up : ℕ = 2 ^ 57 + left-side b which i + right-side a which i in
+      let up : ℕ = middle + left-side b which i + right-side a which i in
       let down : ℕ = left-side a which i + right-side b which i in
       ap₂ _&&_ (le-leb down up (omega arith)) (lt-ltb up (2 ^ 58 + down) (omega arith))
 
@@ -61,7 +66,51 @@ module _ (a b : Auction) (A : IsAuction a) (B : IsAuction b) where
   unfolding plain-sheet zip
   all-stay [] m = tt
   all-stay (d ∷ ds) zero = tt
-  all-stay (d ∷ ds) (suc m) = (rw (plain-mask (threshold (a .n)) (2 ^ 57)) (middle-stays (d .which) (d .index)), all-stay ds m)
+  all-stay (d ∷ ds) (suc m) = (rw (plain-mask (threshold (a .n)) middle) (middle-stays (d .which) (d .index)), all-stay ds m)
+
+  -- all masks in the middle
+  module _ (c : Coins) (C : InRange a c) where
+    middle-coins : Coins
+    middle-coins = record { bids = c .bids; sheets = map (remasked middle) (c .sheets) }
+
+    remasked-in-range : (t : ℕ) (ss : List SheetCoins) → Each (SheetInRange t) ss → Each (SheetInRange t) (map (remasked middle) ss)
+    remasked-in-range t [] h = tt
+    remasked-in-range t (s ∷ ss) h = (
+      record {
+        mask = lit< tt;
+        of-mask = h .0 .of-mask;
+        of-bits = h .0 .of-bits;
+        bits-long = h .0 .bits-long;
+        triples = h .0 .triples;
+        triples-long = h .0 .triples-long;
+      },
+      remasked-in-range t ss (h .1),
+    )
+
+    middle-in-range : InRange a middle-coins
+    unfolding middle-coins
+    middle-in-range =
+        record {
+          bids-many = C .bids-many;
+          bids = C .bids;
+          sheets-many = length-map (c .sheets) (remasked middle) ∙ C .sheets-many;
+          sheets = remasked-in-range (threshold (a .n)) (c .sheets) (C .sheets);
+        }
+
+    middles-stay : (ds : List Decision) (ss : List SheetCoins)
+        → Each (λ s. stays a b (s .0 .which) (s .0 .index) (s .1 .mask) ≡ true) (zip ds (map (remasked middle) ss))
+    unfolding zip
+    middles-stay [] ss = tt
+    middles-stay (d ∷ ds) [] = tt
+    middles-stay (d ∷ ds) (s ∷ ss) = (middle-stays (d .which) (d .index), middles-stay ds ss)
+
+    unmasked : (ss : List SheetCoins) → map (remasked 0) (map (remasked middle) ss) ≡ map (remasked 0) ss
+    unmasked [] = refl
+    unmasked (s ∷ ss) = ap (λ (l : List SheetCoins). remasked 0 s ∷ l) (unmasked ss)
+
+    pub but-masks : (d : Coins) × InRange a d × Stay a b d × ButMasks c d
+    unfolding middle-coins
+    but-masks = (middle-coins, middle-in-range, middles-stay (probed a) (c .sheets), record { bids = refl; sheets = unmasked (c .sheets) })
 
   pub some-coins : (c : Coins) × InRange a c × Stay a b c
   unfolding plain

@@ -1,6 +1,6 @@
 -- DEMANDS 2 AND 3, of every run of every auction. Assumes nothing.
 use mathlib.Core.Path.{_≡_, refl, sym, ap, ap₂, subst, _∙_}
-use mathlib.Core.Bool.{Bool, true, false, cond}
+use mathlib.Core.Bool.{Bool, true, false, cond, _&&_, true≢false}
 use mathlib.Core.List.{List, [], _∷_, _++_, map, flatten, List·Memᴰ, List·Memᴰ·cases-cons, List·Memᴰ·not-nil}
 use mathlib.Core.Logic.{_↔_, ⊎-elim}
 use Prim.Native.Nat.{ℕ, zero, suc, _+_, _-_, _*_, _/_, _≤_, _<_, min}
@@ -56,6 +56,7 @@ use Rattle.auction.proofs.Whole.{end, end-search, end-totals, end-bare,
 use Rattle.auction.proofs.SameSheets.{all-spoken-long}
 use Rattle.auction.proofs.Rounds.{end-answer, present-of, spoken-word, Says}
 use Rattle.auction.proofs.Falling.{few-fall}
+use Rattle.auction.proofs.Plain.{some-coins, but-masks}
 use Rattle.auction.proofs.Fixed.{all-fixed}
 use Rattle.auction.proofs.Match.{Match, matching}
 
@@ -180,31 +181,43 @@ module _ (a : Auction) (c : Coins) (A : IsAuction a) (C : InRange a c) (marks : 
           bare = (end-bare a c .0, ap (λ (cs : List ℕ). value bytes cs j) (end-bare a c .1));
         }
 
-  -- it asks with the last record where it has heard all, else not at all
+  -- whether it asks where it has heard all
+  abbrev will : Bool
+  will = run .attendance .asks j
+
+  -- it asks with the last record where it has heard all and asks, else not at all
   record Asks : Type 0 where
     times : ℕ
-    once-over : (length (hearings j l) ≡ rounds a) ↔ (0 < times)
+    once-over : ((length (hearings j l) ≡ rounds a) × (will ≡ true)) ↔ (0 < times)
     asked-with : askings j l ≡ replicate times (record-at a c (end a c) j)
 
   asks : Asks
-  asks = split (leb (rounds a) most) refl (canonical-askings a c A C marks M (run .desk) (run .complete) (run .attendance) j j1 jn)
+  asks = split (leb (rounds a) most) refl will refl (canonical-askings a c A C marks M (run .desk) (run .complete) (run .attendance) j j1 jn)
     where
-      split : (b : Bool) → leb (rounds a) most ≡ b → askings j (told run) ≡ cond b (record-at a c (end a c) j ∷ []) [] → Asks
-      split true e f =
+      -- it is not asked
+      never : askings j (told run) ≡ [] → (length (hearings j l) ≡ rounds a → will ≡ true → ⊥) → Asks
+      never f not-so =
+          record {
+            times = 0;
+            once-over = ((λ g. absurd (not-so (g .0) (g .1))), (λ g. absurd (omega arith)));
+            asked-with = run-asks-not a c marks l run j f;
+          }
+
+      split : (b : Bool) → leb (rounds a) most ≡ b → (w : Bool) → will ≡ w
+          → askings j (told run) ≡ cond (leb (rounds a) most && will) (record-at a c (end a c) j ∷ []) [] → Asks
+      split true e true u f₀ =
+          let f : askings j (told run) ≡ record-at a c (end a c) j ∷ [] = rw (e, u) at f₀ in
           let r = run-askings a c marks l run j (record-at a c (end a c) j) f in
           let h = leb-true (rounds a) most e in
           record {
             times = suc (r .0);
-            once-over = ((λ g. omega arith), (λ g. heard-are ∙ omega arith));
+            once-over = ((λ g. omega arith), (λ g. (heard-are ∙ omega arith, u)));
             asked-with = r .1;
           }
-      split false e f =
+      split true e false u f = never (rw (e, u) at f) (λ g v. absurd (true≢false (sym v ∙ u)))
+      split false e w u f =
           let h = leb-false (rounds a) most e in
-          record {
-            times = 0;
-            once-over = ((λ g. absurd (omega (arith, heard-are))), (λ g. absurd (omega arith)));
-            asked-with = run-asks-not a c marks l run j f;
-          }
+          never (rw e at f) (λ g v. omega (arith, heard-are))
 
   -- each answer that it is given
   answers-are : answers j l ≡ replicate (asks .times) (Cleared (price-answer a) (length (probed a)))
@@ -219,11 +232,11 @@ module _ (a : Auction) (c : Coins) (A : IsAuction a) (C : InRange a c) (marks : 
       (canonical-rolled a c A C marks M (run .desk) (run .complete) (run .attendance) j j1 jn
       (λ q. (b : ℕ) → marked (q .roll) b ≡ member b (bidders a)) (λ σ. entered-marked (bidders a) (A .bidders)))
 
-  outcome : Outcome a most l j
+  outcome : Outcome a most will l j
   outcome =
       let given : (which i : ℕ) → ℕ = promise (demand a) (supply a) in
       let q : Party = record-at a c (end a c) j in
-      let all : 0 < asks .times → rounds a ≤ most = λ h. omega (arith, asks .once-over .1 h, heard-are) in
+      let all : 0 < asks .times → rounds a ≤ most = λ h. omega (arith, asks .once-over .1 h .0, heard-are) in
       record {
         heard = heard-are;
         promised =
@@ -273,7 +286,7 @@ module _ (a : Auction) (c : Coins) (A : IsAuction a) (C : InRange a c) (marks : 
 
   asked-last : q ≡ record-at a c (end a c) j
   asked-last =
-      only (leb (rounds a) (run .attendance .hears j))
+      only (leb (rounds a) (run .attendance .hears j) && run .attendance .asks j)
       (subst (List·Memᴰ q) (canonical-askings a c A C marks M (run .desk) (run .complete) (run .attendance) j (one-of-n .0) (one-of-n .1)) asked-with)
     where
       only : (b : Bool) → List·Memᴰ q (cond b (record-at a c (end a c) j ∷ []) []) → q ≡ record-at a c (end a c) j
@@ -284,8 +297,8 @@ module _ (a : Auction) (c : Coins) (A : IsAuction a) (C : InRange a c) (marks : 
   asked-by = subst (FleetTold a) (sym asked-last) (fleet-told a c A C j (one-of-n .0) (one-of-n .1))
 
 -- DEMAND 2: no call of a run is refused but those that stand between; each verdict that a party hears is the promise at the true totals;
--- whoever has heard all the rounds is asked, and each answer is the price index, with as many probes as verdicts, at most 2P; the record has
--- what the searches found; and the roll marks the bidders.
+-- whoever has heard all the rounds and asks is answered, and each answer is the price index, with as many probes as verdicts, at most 2P;
+-- the record has what the searches found, and D and S; each fleet is told its hours; and the roll marks the bidders.
 pub demand-2 : (a : Auction) → IsAuction a → (c : Coins) → InRange a c → (marks : Marks) → EnoughPresent a marks → Demand2 a c marks
 demand-2 a A c C marks M =
     record {
@@ -463,12 +476,15 @@ module _ (a b : Auction) (A : IsAuction a) (B : IsAuction b) (alike : Alike a b)
         only = λ o R marks M l m runL runM S. same-coins marks M o R l m runL runM S;
       }
 
--- DEMAND 3: any t parties together learn nothing but who bids, in which order, and i and j; whoever is present, and though some of the
--- t hear no round.
+-- DEMAND 3: any t parties together learn nothing but who bids, in which order, what the searches find, i and j, and the totals that are
+-- opened at the price, D and S; whoever is present, and though some of the t hear no round. And it speaks of something: there are coins whose
+-- masks stay, and any coins are such but for their masks.
 pub demand-3 : Demand3
 demand-3 =
     record {
       matched = λ a b A B alike pool P c C stay. matched a b A B alike pool P c C (matching a b A B alike pool P c C stay);
       few-fall = λ a b A B alike which i. few-fall a b which i A B;
+      some-stay = λ a b A B alike. some-coins a b A B;
+      others-free = λ a b A B alike c C. but-masks a b A B c C;
       runs = λ a A c C marks M desk D att T. canonical-run a c marks desk D att T;
     }

@@ -6,7 +6,6 @@ use mathlib.Core.Option.{Option}
 use Prim.Native.Nat.{ℕ, zero, suc, _+_, _-_, _/_, _≤_, _<_, min}
 use native.Mathlib.Nat.{zero-add}
 use native.Mathlib.Omega.{arith}
-use lib.Dec.{leb}
 use lib.ListN.{length, take, getD, length-take}
 use Rattle.ranges.specs.Sizes.{probe-rounds}
 use Rattle.refusal.specs.Judging.{judged}
@@ -25,7 +24,7 @@ use Rattle.auction.specs.Auction.{Auction, IsAuction, price-answer, roun
 use Rattle.auction.specs.Coins.{Coins, InRange}
 use Rattle.auction.specs.Attendance.{Marks, EnoughPresent, Attendance}
 use Rattle.auction.specs.Call.{Call, accepted, is-accepted, judgement, whose, of-party, given}
-use Rattle.auction.specs.Canonical.{enough-rounds, ask, where-so, ask-in, from-rounds}
+use Rattle.auction.specs.Canonical.{enough-rounds, ask, where-so, asks-then, ask-in, from-rounds}
 use Rattle.auction.specs.Run.{own}
 use Rattle.auction.specs.Received.{collect, bid-in, Saying, saying-in, round-of, Hearing, hearing-in, asking-in, decision-in}
 use Rattle.auction.specs.Demands.{all-accepted}
@@ -142,9 +141,9 @@ module _ (a : Auction) (c : Coins) (A : IsAuction a) (C : InRange a c) where
 
     -- ---- the calls
 
-    -- who has heard all the rounds is asked
+    -- who has heard all the rounds is asked, if it asks
     abbrev is-over : ℕ → Bool
-    is-over j = leb (rounds a) (att .hears j)
+    is-over j = asks-then marks att (rounds a) j
 
     asks : List Call
     asks = flatten (map (λ j. where-so (is-over j) (ask (seat a c τ j))) (points (a .n)))
@@ -159,7 +158,7 @@ module _ (a : Auction) (c : Coins) (A : IsAuction a) (C : InRange a c) where
         ∙ ap (λ (l : List Call). calls a c marks att 0 rs ++ l)
         (from-ending a c marks att (enough-rounds a - length rs) (0 + length rs) (seats a c marks att τ) (all-done a c marks att τ (end-over a c A C) (points (a .n)))
         ∙ ap flatten (map-map (ask-in marks att (0 + length rs)) (seat a c τ) (points (a .n)))
-        ∙ ap (λ (k : ℕ). flatten (map (λ j. where-so (leb k (att .hears j)) (ask (seat a c τ j))) (points (a .n)))) (zero-add (length rs) ∙ rounds-are a c A C))
+        ∙ ap (λ (k : ℕ). flatten (map (λ j. where-so (asks-then marks att k j) (ask (seat a c τ j))) (points (a .n)))) (zero-add (length rs) ∙ rounds-are a c A C))
 
     pub rounds-accepted : all-accepted (round-calls a c marks att) ≡ true
     unfolding asks

@@ -31,6 +31,8 @@ pub record Attendance : Type 0 where
   pub speaks : (own round : ℕ) → Bool
   -- what it hears in the place of a party that is not marked
   pub elsewhere : (own round place : ℕ) → ℕ
+  -- whether it is asked for the answer, where it has heard all rounds
+  pub asks : (own : ℕ) → Bool
 
 -- a marked party has heard every round before
 abbrev pub Attends : Auction → Marks → Attendance → Type 0

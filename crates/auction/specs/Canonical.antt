@@ -161,10 +161,14 @@ module _ (marks : Marks) (att : Attendance) where
   unfoldable pub after-round : (round : ℕ) → List Seat → Seat → Seat
   after-round round ss s = after-hearing (words-for round (s .party .own) ss) (marks round) s
 
-  unfoldable pub ask-in : (round : ℕ) → Seat → List Call
-  ask-in round s = where-so (leb round (att .hears (s .party .own))) (ask s)
+  -- who has heard all the rounds, and asks
+  abbrev pub asks-then : (round own : ℕ) → Bool
+  asks-then round own = leb round (att .hears own) && att .asks own
 
-  -- ".. until over; then each is asked for the answer"
+  unfoldable pub ask-in : (round : ℕ) → Seat → List Call
+  ask-in round s = where-so (asks-then round (s .party .own)) (ask s)
+
+  -- ".. until over; then each is asked for the answer", if it likes
   unfoldable pub from-rounds : (fuel round : ℕ) → List Seat → List Call
   from-rounds zero round ss = flatten (map (ask-in round) ss)
   from-rounds (suc fuel) round ss =

@@ -14,7 +14,7 @@ use Rattle.ranges.specs.Lists.{member, count}
 use Rattle.roll.specs.Marks.{marked}
 use Rattle.search.specs.Limit.{most-probes}
 use Rattle.search.specs.Search.{promise, Decision, made-in}
-use Rattle.comparison.specs.Probe.{Each}
+use Rattle.comparison.specs.Probe.{SheetCoins, Each}
 use Rattle.record.specs.declared.Party.{Party}
 use Rattle.session.specs.declared.reply.Answer.the-variants.{Cleared}
 use Rattle.refusal.specs.declared.Refusal.the-variants.{NotCleared}
@@ -58,17 +58,18 @@ pub record FleetTold (a : Auction) (q : Party) : Type 0 where
       → fill-reply q amount ≡ Hours (hours (demand a (price-answer a)) (supply a (price-answer a)) amount) (remainder (demand a (price-answer a)) (supply a (price-answer a)) amount)
   pub not-cleared : price-answer a ≡ 0 → (amount : ℕ) → fill-reply q amount ≡ Refused NotCleared
 
--- what party j sees of a run in which it hears so many rounds, if there are so many
-pub record Outcome (a : Auction) (hears : ℕ) (l : List Call) (j : ℕ) : Type 0 where
+-- what party j sees of a run in which it hears so many rounds, if there are so many, and then asks or not
+pub record Outcome (a : Auction) (hears : ℕ) (asks : Bool) (l : List Call) (j : ℕ) : Type 0 where
   pub heard : length (hearings j l) ≡ min hears (rounds a)
   -- "a verdict is 1 exactly when total demand there, added in tenths unrounded, is at least total supply", and in the second search exactly
   -- when total supply is at least total demand
   pub promised : verdicts j l ≡ map (λ d. promise (demand a) (supply a) (d .which) (d .index)) (decisions j l)
   -- they are those of the two searches, as far as it has heard: from the first probe to the last, where it has heard all
   pub searched : decisions j l ≡ take (length (hearings j l) / probe-rounds) (probed a)
-  -- it is asked at least once where it has heard all, and each answer is the price index with the number of verdicts heard
+  -- it is asked only where it has heard all, and then at least once if it asks; each answer is the price index with the number of verdicts
+  -- heard
   pub asked : ℕ
-  pub once-over : (length (hearings j l) ≡ rounds a) ↔ (0 < asked)
+  pub once-over : ((length (hearings j l) ≡ rounds a) × (asks ≡ true)) ↔ (0 < asked)
   pub cleared : answers j l ≡ replicate asked (Cleared (price-answer a) (length (verdicts j l)))
   -- the record that it asks with has what the searches found, and gives each fleet its hours
   pub found : Each (Found a (decisions j l)) (askings j l)
@@ -83,7 +84,7 @@ pub record Demand2 (a : Auction) (c : Coins) (marks : Marks) : Type 0 where
   -- no call of the run is refused, but those that stand between, in whichever way the desk writes each bundle and the parties attend
   pub none-refused : (desk : Desk) → Complete (a .k) desk → (att : Attendance) → Attends a marks att
       → all-accepted (canonical a c marks desk att) ≡ true
-  pub outcome : (l : List Call) (run : Run a c marks l) → (j : ℕ) → 1 ≤ j → j ≤ a .n → Outcome a (run .attendance .hears j) l j
+  pub outcome : (l : List Call) (run : Run a c marks l) → (j : ℕ) → 1 ≤ j → j ≤ a .n → Outcome a (run .attendance .hears j) (run .attendance .asks j) l j
   -- every fleet that asks, asks with a record that a party asks with, and so is told right
   pub fleets : (l : List Call) → Run a c marks l → (q : Party) (amount : ℕ) → List·Memᴰ (fill-call q amount) (fills l) → FleetTold a q
   -- supply is at most demand at the price, so that 11 stops nobody; over all bids the fills and remainders come to D times S
@@ -118,6 +119,14 @@ stays a b which i mask =
 -- at each probe
 abbrev pub Stay : (a b : Auction) → Coins → Type 0
 Stay a b c = Each (λ s. stays a b (s .0 .which) (s .0 .index) (s .1 .mask) ≡ true) (zip (probed a) (c .sheets))
+
+-- the same coins, but for the masks
+abbrev pub remasked : (mask : ℕ) → SheetCoins → SheetCoins
+remasked mask s = record { mask = mask; of-mask = s .of-mask; of-bits = s .of-bits; triples = s .triples }
+
+pub record ButMasks (c d : Coins) : Type 0 where
+  pub bids : d .bids ≡ c .bids
+  pub sheets : map (remasked 0) (d .sheets) ≡ map (remasked 0) (c .sheets)
 
 -- "Unused sheets are the lent ones after those of the probes made"
 abbrev pub unused : Auction → Coins → (j : ℕ) → List ℕ
@@ -167,6 +176,11 @@ pub record Demand3 : Type 0 where
   -- "At each probe at most 2^33 - 2 of the 2^58 masks fall outside when so moved."
   pub few-fall : (a b : Auction) → IsAuction a → IsAuction b → Alike a b → (which i : ℕ)
       → count (λ mask. not (stays a b which i mask)) (2 ^ 58) ≤ 2 ^ 33 - 2
+  -- for every two auctions that agree as asked there are draws of the first whose masks stay; and any draws of the first are such, but for
+  -- their masks
+  pub some-stay : (a b : Auction) → IsAuction a → IsAuction b → Alike a b → (c : Coins) × InRange a c × Stay a b c
+  pub others-free : (a b : Auction) → IsAuction a → IsAuction b → Alike a b → (c : Coins) → InRange a c
+      → (d : Coins) × InRange a d × Stay a b d × ButMasks c d
   -- every auction with coins in range has a run, in whichever way the desk writes each bundle, with whatever marks, and in whichever way the
   -- parties attend
   pub runs : (a : Auction) → IsAuction a → (c : Coins) → InRange a c → (marks : Marks) → EnoughPresent a marks
