@@ -1,5 +1,7 @@
 -- `settle_between` is safe and ends. Assumes nothing.
 use mathlib.Core.Path.{sym}
+use Prim.Native.Nat.{ℕ}
+use lib.ListN.{length-replicate}
 use lib.Seq.{length-take-le}
 use native.Mathlib.Omega.{arith}
 use Rattle.listing.proofs.Writing.{length-wrote}
@@ -7,23 +9,18 @@ use borrow.Author.Needs.{needs}
 use Rattle.relay.proofs.settle_between.Statement.{statement}
 use Rattle.relay.proofs.settle_between.Tie as tie
 
-input-room-requires : tie.Need-input-room-requires
-input-room-requires c κs = search needs
-
+-- by the law: `search` would count the four million bytes one by one
 slice-aggregate-read-full : tie.Need-slice-aggregate-read-full
-slice-aggregate-read-full c = search needs
+slice-aggregate-read-full c = sym (length-replicate {A = ℕ} 4194304 0)
 
 read-full-requires : tie.Need-read-full-requires
 read-full-requires c κs = search needs
 
-page-room-requires : tie.Need-page-room-requires
-page-room-requires c κs = search needs
-
 array-share-prefix-input : tie.Need-array-share-prefix-input
-array-share-prefix-input c = search needs
+array-share-prefix-input c = c .before .read-full .ensures .0
 
 slice-aggregate-settle : tie.Need-slice-aggregate-settle
-slice-aggregate-settle c = search needs
+slice-aggregate-settle c = c .before .before .read-full .ensures .1
 
 settle-requires : tie.Need-settle-requires
 settle-requires c κs = search needs
@@ -44,10 +41,8 @@ pub settle-between-spec : {M : Type 1} → statement M
 settle-between-spec =
     tie.close
     (tie.spec
-    input-room-requires
     slice-aggregate-read-full
     read-full-requires
-    page-room-requires
     array-share-prefix-input
     slice-aggregate-settle
     settle-requires
