@@ -12,7 +12,8 @@ ghost use Rattle.present_openings.specs.Present.{sized};
 use presence::Gathered;
 use presence::gather;
 
-// Of no word where there are not as many marks and words as parties: too few to open.
+// Those who were present, with their words. Nobody where there are not as many marks and words as parties: that
+// is too few to open.
 pub(crate) fn chosen(n: u64, present: &[u8], words: &[u64]) -> Gathered
     ensures few { λ r. ⌜ (r .count ≤ 9) × (length (r .parties) ≡ 9) × (length (r .words) ≡ 9) ⌝ }
     ensures parties { λ r. ⌜ take (r .count) (r .parties)
