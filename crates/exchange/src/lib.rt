@@ -1,6 +1,7 @@
 // The calls, exported for C: those on a record, which is lent as its 31 words, and those that take none.
 // Each answers 0, or the refusal's number, and writes what it gives into what it is lent; a refused call
-// changes nothing that is lent.
+// changes nothing that is lent. Beside them stands the version, by which a caller tells that the library is
+// the one that it was written for.
 ghost use mathlib.Core.Path.{_≡_};
 ghost use Rattle.bid.specs.Split.{split-left};
 ghost use Rattle.bid.specs.Entry.{split-entry-left};
@@ -9,6 +10,14 @@ ghost use Rattle.settlement.specs.Write.{write-left};
 ghost use Rattle.settlement.specs.Read.{read-left};
 ghost use Rattle.record_calls.specs.Calls.{open-code, open-totals, open-record, add-code, add-totals, add-record, say-code, say-message, hear-code, hear-record, answer-code, answer-index, answer-probes, fill-code, fill-hours, fill-remainder};
 ghost use Rattle.stateless_calls.specs.Calls.{split-code, split-entry-code, deal-code, settlement-write-code, settlement-written, settlement-read-code};
+
+// The version of these calls and of the record's words. It grows by one whenever any of them changes.
+#[no_mangle]
+pub extern "C" fn clockivy_version() -> u64
+    ensures { λ r. ⌜ r ≡ 1 ⌝ }
+{
+    1
+}
 
 #[no_mangle]
 pub extern "C" fn clockivy_open(
