@@ -10,20 +10,26 @@
  * all of it against the tables, which only a program that plays every role can add
  * up.
  *
- *   cc -O2 -I../../include auction.c -L../../target/staticlib -lexchange -o auction
+ *   make
+ *   cc -O2 -I../../include auction.c -L../../target/staticlib -lclockivy -o auction
  *
- * The coins here come from a small generator with a fixed seed. A real bidder
- * or dealer draws them from the operating system.
+ * The coins come from the operating system (clockivy_coins.h). A real auction has a
+ * program for each role, and each role sees what the functions here are given of it.
  */
-#include <stdio.h>
-#include <stdlib.h>
-#include <string.h>
+#include "check.h"
+#include "clockivy_coins.h"
 
-#include "clockivy.h"
+enum {
+    N = 5,
+    K = 8,
+    BIDS = 4,
+    WAY = CLOCKIVY_ROUNDS_33,
+    TABLE = CLOCKIVY_TABLE_LEN(K),
+    T = CLOCKIVY_THRESHOLD(N),
+    SHEETS_LEN = 8 * CLOCKIVY_SHEET_LEN(WAY) /* for 8 probes of both searches */
+};
 
-enum { N = 5, K = 8, SHEETS = 8, BIDS = 4, TABLE = 2 * K, T = CLOCKIVY_THRESHOLD(N) };
-
-static const int prices[K] = {80, 90, 100, 110, 120, 130, 140, 150};
+static const uint64_t prices[K] = {80, 90, 100, 110, 120, 130, 140, 150};
 
 /* Demand at each price, then supply at each, in tenths of an hour. */
 static const uint64_t tables[BIDS][TABLE] = {
@@ -51,17 +57,17 @@ enum { AWAY = 3, FROM = 20, UNTIL = 45 };
 /* What a desk keeps until every party has its bid. */
 struct desk {
     uint64_t bidder;
-    uint64_t shares[N][TABLE];
+    uint64_t shares[N * TABLE]; /* party 1's first */
 };
 
 /* What one party keeps. */
-struct seat {
-    clockivy_party party;
+struct kept {
+    clockivy_session session;
     uint64_t totals[TABLE];
-    uint64_t sheets[SHEETS * CLOCKIVY_SHEET_LEN];
+    uint64_t sheets[SHEETS_LEN];
 };
 
-static struct seat seats[N];
+static struct kept parties[N];
 
 /* A round, as it is kept for a party that comes back. */
 struct heard {
@@ -71,86 +77,59 @@ struct heard {
 
 static struct heard missed[UNTIL - FROM];
 
-/* Stops at a reply other than 0. */
-static void done(uint64_t reply, const char *call)
+/* Each party opens its session. */
+static void open_sessions(void)
 {
-    if (reply != CLOCKIVY_DONE) {
-        fprintf(stderr, "%s: refusal %d\n", call, (int)reply);
-        exit(EXIT_FAILURE);
-    }
-}
-
-/* Stops where something that has to hold does not. */
-static void check(int holds, const char *otherwise)
-{
-    if (!holds) {
-        fprintf(stderr, "%s\n", otherwise);
-        exit(EXIT_FAILURE);
-    }
-}
-
-/* Marsaglia's xorshift64. */
-static uint64_t draw(void)
-{
-    static uint64_t state = ((uint64_t)0x9E3779B9 << 32) | 0x7F4A7C15;
-
-    state ^= state << 13;
-    state ^= state >> 7;
-    state ^= state << 17;
-    return state;
-}
-
-static uint64_t draw_coefficient(void)
-{
-    uint64_t word;
-
-    do
-        word = draw() & CLOCKIVY_PRIME;
-    while (word == CLOCKIVY_PRIME);
-    return word;
-}
-
-/* The desk splits its bidder's table for every party, with the same coins. */
-static void split(struct desk *desk, uint64_t bidder, const uint64_t *table)
-{
-    uint64_t coins[CLOCKIVY_COINS_LEN(N, K)];
     size_t i;
 
-    for (i = 0; i < CLOCKIVY_COINS_LEN(N, K); i++)
-        coins[i] = draw_coefficient();
-    desk->bidder = bidder;
-    for (i = 0; i < N; i++)
-        done(clockivy_split(N, i + 1, K, table, TABLE, coins, CLOCKIVY_COINS_LEN(N, K),
-                            desk->shares[i], TABLE), "split");
+    check(clockivy_sheets_len(K, WAY) == SHEETS_LEN, "the sheets are too few");
+    for (i = 0; i < N; i++) {
+        struct kept *const kept = &parties[i];
+        clockivy_seat seat;
+
+        seat.n = N;
+        seat.own = i + 1;
+        seat.k = K;
+        seat.way = WAY;
+        done(clockivy_session_open(&kept->session, &seat, kept->totals, TABLE,
+                                   kept->sheets, SHEETS_LEN), "open");
+    }
+}
+
+/* The desk splits its bidder's table for every party, with coins from the system. */
+static void split(struct desk *desk, const uint64_t *table)
+{
+    done(clockivy_draw_bid(N, K, table, TABLE, desk->shares, N * TABLE,
+                           clockivy_system_source, NULL), "draw_bid");
 }
 
 /*
- * The same, holding the t coins of one entry at a time: every party's share of
- * it is written before the coins of the next one are drawn. Each place holds
- * UINT64_MAX before that, so that one that was left out would be no share.
+ * The same by hand: every party's share of an entry is written before the t coins of
+ * the next one are drawn. Each place is blank before that, so that one that was left
+ * out would be no share.
  */
-static void split_by_entries(struct desk *desk, uint64_t bidder, const uint64_t *table)
+static void split_by_entries(struct desk *desk, const uint64_t *table)
 {
     uint64_t coins[T];
     uint64_t entry;
     size_t i;
 
-    desk->bidder = bidder;
-    memset(desk->shares, 0xFF, sizeof desk->shares);
+    clockivy_blank(desk->shares, N * TABLE);
     for (entry = 1; entry <= TABLE; entry++) {
-        for (i = 0; i < T; i++)
-            coins[i] = draw_coefficient();
+        check(clockivy_draw_words(clockivy_system_source, NULL, CLOCKIVY_PRIME, coins, T),
+              "there are no coins");
         for (i = 0; i < N; i++)
             done(clockivy_split_entry(N, i + 1, K, entry, table, TABLE, coins, T,
-                                      desk->shares[i], TABLE), "split_entry");
+                                      desk->shares + i * TABLE, TABLE), "split_entry");
     }
+    clockivy_wipe(coins, sizeof coins);
 }
 
 /* A party is sent the desk's bid. */
 static uint64_t add(size_t i, const struct desk *desk)
 {
-    return clockivy_party_add(&seats[i].party, seats[i].totals, TABLE,
-                              desk->bidder, desk->shares[i], TABLE);
+    return clockivy_session_add(&parties[i].session, desk->bidder,
+                                desk->shares + i * TABLE, TABLE);
 }
 
 /* The bid goes to the first parties, and each adds its own shares. */
@@ -172,11 +151,11 @@ static void send_again(const struct desk *desk)
     size_t i;
 
     for (i = 0; i < N; i++) {
-        const struct seat before = seats[i];
+        const struct kept before = parties[i];
         const uint64_t reply = add(i, desk);
 
         if (reply == CLOCKIVY_ALREADY_ENTERED) {
-            check(memcmp(&before, &seats[i], sizeof before) == 0,
+            check(memcmp(&before, &parties[i], sizeof before) == 0,
                   "a refused bid has changed something");
             refused++;
         } else {
@@ -195,50 +174,67 @@ static int all_in(void)
     size_t j;
 
     for (i = 0; i < N; i++) {
-        if (seats[i].party.bids != BIDS)
+        const clockivy_party *const party = &parties[i].session.party;
+
+        if (party->bids != BIDS)
             return 0;
         for (j = 0; j < BIDS; j++)
-            if (!clockivy_party_has_bid(&seats[i].party, bidders[j]))
+            if (!clockivy_party_has_bid(party, bidders[j]))
                 return 0;
     }
     return 1;
 }
 
-/* The dealer writes every party's sheet for one probe. */
-static void deal(size_t probe)
+/* All bids are split and sent, one of them twice. */
+static void collect_bids(void)
 {
-    uint64_t words[CLOCKIVY_DEAL_WORDS_LEN(N)];
-    uint8_t bytes[CLOCKIVY_DEAL_BYTES_LEN(N)];
+    static struct desk desks[BIDS];
     size_t i;
 
-    words[0] = draw() % CLOCKIVY_MASK_LIMIT;
-    for (i = 1; i < CLOCKIVY_DEAL_WORDS_LEN(N); i++)
-        words[i] = draw_coefficient();
-    for (i = 0; i < CLOCKIVY_DEAL_BYTES_LEN(N); i++)
-        bytes[i] = (uint8_t)(draw() % 256);
-    for (i = 0; i < N; i++)
-        done(clockivy_deal(N, i + 1, words, CLOCKIVY_DEAL_WORDS_LEN(N),
-                           bytes, CLOCKIVY_DEAL_BYTES_LEN(N),
-                           seats[i].sheets + probe * CLOCKIVY_SHEET_LEN,
-                           CLOCKIVY_SHEET_LEN), "deal");
+    for (i = 0; i < BIDS; i++) {
+        desks[i].bidder = bidders[i];
+        if (i == BY_ENTRIES)
+            split_by_entries(&desks[i], tables[i]);
+        else
+            split(&desks[i], tables[i]);
+        if (i == DROPPED)
+            send_bid(&desks[i], REACHED);
+        else
+            send_bid(&desks[i], N);
+    }
+    send_again(&desks[DROPPED]);
+    check(all_in(), "a bid is missing");
+    clockivy_wipe(desks, sizeof desks);
 }
 
-/* A party says its message of the round. */
+/* The dealer draws and writes every party's sheets, and each receives its own. */
+static void deal(void)
+{
+    static uint64_t sheets[N * SHEETS_LEN];
+    size_t i;
+
+    done(clockivy_draw_sheets(N, K, WAY, sheets, N * SHEETS_LEN,
+                              clockivy_system_source, NULL), "draw_sheets");
+    for (i = 0; i < N; i++)
+        done(clockivy_session_receive(&parties[i].session, sheets + i * SHEETS_LEN, SHEETS_LEN),
+             "receive");
+    clockivy_wipe(sheets, sizeof sheets);
+}
+
+/* A party says its message of the round, which is one word. */
 static uint64_t say(size_t i)
 {
     uint64_t message;
 
-    done(clockivy_party_say(&seats[i].party, seats[i].totals, TABLE,
-                            seats[i].sheets, SHEETS * CLOCKIVY_SHEET_LEN, &message), "say");
+    done(clockivy_session_say(&parties[i].session, &message, 1), "say");
     return message;
 }
 
 /* A party hears a round. */
 static void hear(size_t i, const struct heard *round)
 {
-    done(clockivy_party_hear(&seats[i].party, seats[i].totals, TABLE,
-                             seats[i].sheets, SHEETS * CLOCKIVY_SHEET_LEN,
-                             round->messages, N, round->present, N), "hear");
+    done(clockivy_session_hear(&parties[i].session, round->messages, N, round->present, N),
+         "hear");
 }
 
 /*
@@ -248,12 +244,13 @@ static void hear(size_t i, const struct heard *round)
  */
 static void come_back(void)
 {
+    const clockivy_party *const back = &parties[AWAY].session.party;
+    const clockivy_party *const other = &parties[0].session.party;
     size_t i;
 
     for (i = 0; i < UNTIL - FROM; i++)
         hear(AWAY, &missed[i]);
-    check(seats[AWAY].party.probes == seats[0].party.probes
-          && seats[AWAY].party.round == seats[0].party.round,
+    check(back->probes == other->probes && back->round == other->round,
           "a party has not come back to where the others are");
     printf("party %d back: %d rounds heard late\n", AWAY + 1, UNTIL - FROM);
 }
@@ -333,118 +330,125 @@ static uint64_t expected_index(void)
     return lowest <= highest ? (highest + lowest) / 2 : highest;
 }
 
+/* Probe after probe and then the totals, until party 1 says that it is over. */
+static clockivy_outcome run_rounds(size_t *rounds)
+{
+    const clockivy_party *const party = &parties[0].session.party;
+    clockivy_outcome outcome;
+    uint64_t reply;
+    size_t i;
+
+    while ((reply = clockivy_session_outcome(&parties[0].session, &outcome))
+           == CLOCKIVY_OUT_OF_TURN) {
+        const uint64_t search = party->search;
+        const uint64_t probed = (party->lo + party->hi) / 2;
+        int opened;
+
+        if (party->round >= CLOCKIVY_ROUND_DEMAND) {
+            /* There is a price: two more rounds, for the totals. */
+            exchange_round((*rounds)++);
+            continue;
+        }
+        for (i = 0; i < WAY; i++)
+            exchange_round((*rounds)++);
+        opened = verdict(search, probed, party);
+        printf("probe %d index %d verdict %d\n", (int)party->probes, (int)probed, opened);
+        check(opened == compared(search, probed), "the verdict is wrong");
+    }
+    done(reply, "outcome");
+    return outcome;
+}
+
+/* Every party has come to the same, and it is what the tables say. */
+static void check_outcomes(const clockivy_outcome *outcome, size_t rounds)
+{
+    const uint64_t index = outcome->index;
+    size_t i;
+
+    check(index == expected_index(), "the answer is wrong");
+    check(index == 0 || (outcome->demand == demand(index) && outcome->supply == supply(index)),
+          "the totals are wrong");
+    check(rounds == WAY * outcome->probes + (index == 0 ? 0 : 2),
+          "the number of rounds is wrong");
+    for (i = 0; i < N; i++) {
+        clockivy_outcome other;
+
+        done(clockivy_session_outcome(&parties[i].session, &other), "outcome");
+        check(memcmp(&other, outcome, sizeof other) == 0, "two parties have two outcomes");
+    }
+}
+
 /*
  * Every fleet is told the index and the totals, and has its own table: what it
  * sells there is sold, and what it gets of what it wants it works out for itself.
  * Here all of them tell it to whoever lays out the page.
  */
-static void share_out(uint64_t index, uint64_t total_demand, uint64_t total_supply,
-                      uint64_t *entries)
+static void share_out(const clockivy_outcome *outcome, uint64_t *amounts)
 {
-    clockivy_party cleared;
     uint64_t bought = 0;
     uint64_t remainders = 0;
     size_t i;
 
-    clockivy_party_cleared(&cleared, total_demand, total_supply);
     for (i = 0; i < BIDS; i++) {
-        const uint64_t wants = tables[i][index - 1];
-        const uint64_t sells = tables[i][K + index - 1];
-        uint64_t *const settled = entries + 4 * (bidders[i] - 1);
-        uint64_t hours;
+        const uint64_t wants = tables[i][outcome->index - 1];
+        const uint64_t sells = tables[i][K + outcome->index - 1];
+        uint64_t *const settled = amounts + 4 * (bidders[i] - 1);
+        uint64_t tenths;
         uint64_t remainder;
 
-        done(clockivy_party_fill(&cleared, wants, &hours, &remainder), "fill");
+        done(clockivy_cleared_fill(outcome->demand, outcome->supply, wants,
+                                   &tenths, &remainder), "fill");
         settled[0] = wants;
-        settled[1] = hours;
+        settled[1] = tenths;
         settled[2] = sells;
         settled[3] = sells;
-        bought += hours;
+        bought += tenths;
         remainders += remainder;
     }
-    check(bought * total_demand + remainders == total_demand * total_supply,
+    check(bought * outcome->demand + remainders == outcome->demand * outcome->supply,
           "something is left that is in no remainder");
 }
 
 /* Prints the page. Whoever knows the price reads the hours off it again. */
-static void pin_up(uint64_t price, const uint64_t *entries)
+static void pin_up(uint64_t price, const uint64_t *amounts)
 {
     static uint8_t page[2 * BIDS * CLOCKIVY_LINE_LEN];
-    static uint64_t found[CLOCKIVY_ENTRIES_LEN];
+    static uint64_t found[CLOCKIVY_SETTLEMENT_LEN];
     uint64_t written;
 
-    done(clockivy_settlement_write(price, entries, CLOCKIVY_ENTRIES_LEN,
+    done(clockivy_settlement_write(price, amounts, CLOCKIVY_SETTLEMENT_LEN,
                                    page, sizeof page, &written), "settlement_write");
     fwrite(page, 1, (size_t)written, stdout);
     done(clockivy_settlement_read(price, page, (size_t)written,
-                                  found, CLOCKIVY_ENTRIES_LEN), "settlement_read");
-    check(memcmp(found, entries, sizeof found) == 0, "the page gives other entries");
+                                  found, CLOCKIVY_SETTLEMENT_LEN), "settlement_read");
+    check(memcmp(found, amounts, sizeof found) == 0, "the page gives other amounts");
 }
 
 int main(void)
 {
-    static uint64_t entries[CLOCKIVY_ENTRIES_LEN];
-    const clockivy_party *party = &seats[0].party;
-    uint64_t index = 0;
-    uint64_t probes = 0;
-    struct desk desks[BIDS];
+    static uint64_t amounts[CLOCKIVY_SETTLEMENT_LEN];
+    clockivy_outcome outcome;
+    uint64_t price;
+    uint64_t reply;
     size_t rounds = 0;
-    size_t i;
 
-    check(clockivy_sheet_count(K) == SHEETS, "the sheets are too few");
-    for (i = 0; i < N; i++)
-        done(clockivy_party_open(&seats[i].party, N, i + 1, K, seats[i].totals, TABLE),
-             "open");
-    for (i = 0; i < BIDS; i++) {
-        if (i == BY_ENTRIES)
-            split_by_entries(&desks[i], bidders[i], tables[i]);
-        else
-            split(&desks[i], bidders[i], tables[i]);
-        if (i == DROPPED)
-            send_bid(&desks[i], REACHED);
-        else
-            send_bid(&desks[i], N);
-    }
-    send_again(&desks[DROPPED]);
-    check(all_in(), "a bid is missing");
-    for (i = 0; i < SHEETS; i++)
-        deal(i);
+    open_sessions();
+    collect_bids();
+    deal();
+    outcome = run_rounds(&rounds);
+    check_outcomes(&outcome, rounds);
 
-    while (clockivy_party_answer(party, &index, &probes) == CLOCKIVY_OUT_OF_TURN) {
-        const uint64_t search = party->search;
-        const uint64_t probed = (party->lo + party->hi) / 2;
-        int opened;
-
-        if (party->round > CLOCKIVY_ROUNDS) {
-            /* There is a price: two more rounds, for the totals. */
-            exchange_round(rounds++);
-            continue;
-        }
-        for (i = 0; i < CLOCKIVY_ROUNDS; i++)
-            exchange_round(rounds++);
-        opened = verdict(search, probed, party);
-        printf("probe %d index %d verdict %d\n", (int)party->probes, (int)probed, opened);
-        check(opened == compared(search, probed), "the verdict is wrong");
-    }
-
-    for (i = 0; i < N; i++) {
-        done(clockivy_party_answer(&seats[i].party, &index, &probes), "answer");
-        check(index == expected_index(), "the answer is wrong");
-        check(index == 0 || (seats[i].party.demand == demand(index)
-                             && seats[i].party.supply == supply(index)),
-              "the totals are wrong");
-    }
-    check(rounds == CLOCKIVY_ROUNDS * probes + (index == 0 ? 0 : 2),
-          "the number of rounds is wrong");
-    if (index == 0) {
+    reply = clockivy_outcome_price(&outcome, prices, K, &price);
+    if (reply == CLOCKIVY_NOT_CLEARED) {
         printf("clears 0 none\n");
         printf("rounds %d\n", (int)rounds);
         return EXIT_SUCCESS;
     }
-    printf("clears %d %d\n", (int)index, prices[index - 1]);
-    printf("demand %d supply %d\n", (int)party->demand, (int)party->supply);
+    done(reply, "outcome_price");
+    printf("clears %d %d\n", (int)outcome.index, (int)price);
+    printf("demand %d supply %d\n", (int)outcome.demand, (int)outcome.supply);
     printf("rounds %d\n", (int)rounds);
-    share_out(index, party->demand, party->supply, entries);
-    pin_up((uint64_t)prices[index - 1], entries);
+    share_out(&outcome, amounts);
+    pin_up(price, amounts);
     return EXIT_SUCCESS;
 }

@@ -1,7 +1,8 @@
-//! Links libexchange.a, the verified library.
+//! Links the verified library: libexchange.a, as `rt` writes it, or libclockivy.a, as
+//! `make install` does.
 
 mod link;
 
 fn main() {
-    link::archive("exchange", "../..");
+    link::archive(&["exchange", "clockivy"], "../..");
 }

@@ -1,29 +1,27 @@
 //! A whole auction of five parties in one process: four bids, eight listed
-//! prices. One bid is split entry by entry. A line drops while a bid is sent, and
-//! the bid is sent again when the others are in. A party drops off in the middle
-//! of a probe; the others go on, and it hears what it has missed when it comes
-//! back. Demand equals supply at four neighbouring prices, and the middle one is
-//! taken, rounded down; the totals there are opened, each fleet works out its hours,
-//! and the settlement page has those of all. Prints the bid sent again, each probe,
-//! the party that comes back, the price, the totals and the page, and checks all of it
-//! against the tables, which only a program that plays every role can add up.
+//! prices. A line drops while a bid is sent, and the bid is sent again when the
+//! others are in. A party drops off in the middle of a probe; the others go on, and
+//! it hears what it has missed when it comes back. Demand equals supply at four
+//! neighbouring prices, and the middle one is taken, rounded down; the totals there
+//! are opened, each fleet works out its hours, and the settlement page has those of
+//! all. Prints the bid sent again, each probe, the party that comes back, the price,
+//! the totals and the page, and checks all of it against the tables, which only a
+//! program that plays every role can add up.
 //!
-//! The coins here come from a small generator with a fixed seed. A real bidder
-//! or dealer draws them from the operating system.
+//! The coins come from the operating system, so that no two auctions have the same
+//! shares. What is printed does not depend on them.
 
-mod coins;
-
+use std::num::NonZeroU64;
 use std::ops::Range;
 
 use clockivy::{
-    coins_len, deal, deal_bytes_len, deal_words_len, sheets_len, split, table_len, Answer, Cleared,
-    Collecting, Entries, Fill, Line, Record, Refusal, Settlement, Side, Speaking, MASK_LIMIT,
-    MAX_BIDS, ROUNDS, SHEET_LEN,
+    table_len, Cleared, Collecting, Dealing, Entries, Fill, Line, Message, Outcome, Record,
+    Refusal, Seat, Settlement, Side, Speaking, System, Way, BLANK, MAX_BIDS,
 };
-use coins::Coins;
 
 const N: u64 = 5;
 const K: u64 = 8;
+const WAY: Way = Way::Rounds33;
 const PRICES: [u64; K as usize] = [80, 90, 100, 110, 120, 130, 140, 150];
 /// Demand at each price, then supply at each, in tenths of an hour.
 const BIDS: [[u64; 2 * K as usize]; 4] = [
@@ -35,8 +33,6 @@ const BIDS: [[u64; 2 * K as usize]; 4] = [
 
 /// The numbers of those who bid.
 const BIDDERS: [u64; BIDS.len()] = [17, 4, 640, MAX_BIDS];
-/// The bid that is split entry by entry.
-const BY_ENTRIES: usize = 2;
 /// The bid whose line drops, and the parties that it has reached by then.
 const DROPPED: usize = 1;
 const REACHED: usize = 2;
@@ -46,108 +42,216 @@ const AWAY: usize = 3;
 const WITHOUT: Range<u64> = 20..45;
 
 fn main() -> Result<(), Refusal> {
-    let mut coins = Coins::new();
-    let mut totals = vec![vec![0; table_len(K)]; N as usize];
-    let mut sessions = open_sessions(&mut totals)?;
+    let sessions = collect_bids()?;
+    let mut meeting = Meeting::new(sessions)?;
+    while let Some((search, index)) = meeting.probe_to_come() {
+        for _ in 0..WAY.rounds() {
+            meeting.exchange()?;
+        }
+        report_probe(search, index, meeting.parties[0].record());
+    }
+    // Two more, for the totals, where there is a price.
+    while meeting.parties[0].outcome()?.is_none() {
+        meeting.exchange()?;
+    }
+    report_outcome(&meeting)
+}
+
+/// Every party opens its session, and every desk sends its bid to all of them.
+fn collect_bids() -> Result<Vec<Collecting>, Refusal> {
+    let mut sessions = Vec::new();
+    for own in 1..=N {
+        let seat = Seat {
+            n: N,
+            own,
+            k: K,
+            way: WAY,
+        };
+        sessions.push(Collecting::open(seat)?);
+    }
     // What each desk keeps until every party has its bid.
-    let desks = BIDS
-        .iter()
-        .enumerate()
-        .map(|(place, table)| match place {
-            BY_ENTRIES => split_by_entries(table, &mut coins),
-            _ => split_bid(table, &mut coins),
-        })
-        .collect::<Result<Vec<_>, _>>()?;
+    let desks = BIDS.iter().map(split_bid).collect::<Result<Vec<_>, _>>()?;
     for (place, (bidder, shares)) in BIDDERS.into_iter().zip(&desks).enumerate() {
         let reached = if place == DROPPED {
             REACHED
         } else {
             sessions.len()
         };
-        send(&mut sessions[..reached], &mut totals, bidder, shares)?;
+        for (session, shares) in sessions[..reached].iter_mut().zip(shares) {
+            session.add(bidder, shares)?;
+        }
     }
-    send_again(
-        &mut sessions,
-        &mut totals,
-        BIDDERS[DROPPED],
-        &desks[DROPPED],
-    )?;
+    send_again(&mut sessions, BIDDERS[DROPPED], &desks[DROPPED])?;
     for session in &sessions {
         let record = session.record();
         assert_eq!(record.bids as usize, BIDS.len());
         assert!(BIDDERS.iter().all(|&bidder| record.has_bid(bidder)));
     }
-    let sheets = preprocess(&mut coins)?;
-    let mut parties: Vec<Speaking> = sessions
-        .into_iter()
-        .zip(&totals)
-        .zip(&sheets)
-        .map(|((session, totals), sheets)| session.speak(totals, sheets))
-        .collect();
-
-    let mut rounds = 0;
-    let mut missed = Vec::new();
-    while is_searching(&parties[0]) {
-        let (search, index) = (parties[0].record().search, parties[0].index());
-        for _ in 0..ROUNDS {
-            exchange(&mut parties, rounds, &mut missed)?;
-            rounds += 1;
-        }
-        let after = parties[0].record();
-        let verdict = verdict(search, index, after);
-        println!(
-            "probe {} index {index} verdict {}",
-            after.probes,
-            u64::from(verdict)
-        );
-        assert_eq!(verdict, compared(search, index));
-    }
-    // Two more, for the totals, where there is a price.
-    while !parties[0].is_over() {
-        exchange(&mut parties, rounds, &mut missed)?;
-        rounds += 1;
-    }
-
-    let Answer { index, probes } = parties[0].answer()?;
-    assert_eq!(index, expected_index());
-    let extra = if index > 0 { 2 } else { 0 };
-    assert_eq!(rounds, ROUNDS * probes + extra);
-    for party in &parties {
-        assert_eq!(party.answer()?, Answer { index, probes });
-    }
-    if index == 0 {
-        println!("clears 0 none");
-        println!("rounds {rounds}");
-        return Ok(());
-    }
-    println!("clears {index} {}", PRICES[index as usize - 1]);
-    let cleared = parties[0].cleared()?;
-    for party in &parties {
-        assert_eq!(party.cleared()?, cleared);
-    }
-    let totals = [cleared.demand(), cleared.supply()];
-    assert_eq!(totals, [demand(index), supply(index)]);
-    println!("demand {} supply {}", totals[0], totals[1]);
-    println!("rounds {rounds}");
-    let settlement = share_out(index, cleared)?;
-    pin_up(&settlement, PRICES[index as usize - 1])
+    Ok(sessions)
 }
 
-/// Whether there is another probe.
-fn is_searching(party: &Speaking) -> bool {
-    party.record().round <= ROUNDS && !party.is_over()
+/// The desk splits its bidder's table for every party, with new coins for each entry.
+fn split_bid<const LEN: usize>(table: &[u64; LEN]) -> Result<Vec<Vec<u64>>, Refusal> {
+    let mut shares = vec![BLANK; N as usize * table_len(K)];
+    Entries::new(N, K, table, &mut shares, &mut System)?.write_all()?;
+    Ok(shares.chunks(table_len(K)).map(<[u64]>::to_vec).collect())
+}
+
+/// The same shares go to every party once more. Those that have the bid refuse
+/// it and are as before; the others add it, after bids that came later.
+fn send_again(
+    sessions: &mut [Collecting],
+    bidder: u64,
+    shares: &[Vec<u64>],
+) -> Result<(), Refusal> {
+    let mut refused = 0;
+    for (session, shares) in sessions.iter_mut().zip(shares) {
+        let before = session.store();
+        match session.add(bidder, shares) {
+            Err(Refusal::AlreadyEntered) => {
+                assert_eq!(session.store(), before);
+                refused += 1;
+            }
+            reply => reply?,
+        }
+    }
+    assert_eq!(refused, REACHED);
+    let added = sessions.len() - refused;
+    println!("bidder {bidder} sent again: {refused} refused, {added} added");
+    Ok(())
+}
+
+/// A round, as it is kept for a party that comes back: each party's message, or that
+/// it was away.
+type Round = Vec<Option<Message>>;
+
+/// The parties while they speak.
+struct Meeting {
+    parties: Vec<Speaking>,
+    /// The rounds that were held, of all probes.
+    rounds: u64,
+    /// Those that the party which is away has missed.
+    missed: Vec<Round>,
+}
+
+impl Meeting {
+    /// The dealer deals every party its sheets, and from here on there are no more
+    /// bids.
+    fn new(sessions: Vec<Collecting>) -> Result<Meeting, Refusal> {
+        let dealt = Dealing::new(N, K, WAY, &mut System)?.deal_all()?;
+        let dealt = sessions.into_iter().zip(dealt);
+        Ok(Meeting {
+            parties: dealt
+                .map(|(session, sheets)| session.speak(sheets))
+                .collect(),
+            rounds: 0,
+            missed: Vec::new(),
+        })
+    }
+
+    /// The search and the index of the next probe, where there is another one.
+    fn probe_to_come(&self) -> Option<(u64, u64)> {
+        let party = &self.parties[0];
+        let is_over = matches!(party.outcome(), Ok(Some(_)));
+        let is_searching = party.record().round <= WAY.rounds() && !is_over;
+        is_searching.then(|| (party.record().search, party.index()))
+    }
+
+    /// Each party that is there says its message, and each hears those of all who are.
+    /// While one is away, the round is kept for it.
+    fn exchange(&mut self) -> Result<(), Refusal> {
+        if self.rounds == WITHOUT.end {
+            self.come_back()?;
+        }
+        let without = WITHOUT.contains(&self.rounds);
+        let is_there = |place: usize| !(without && place == AWAY);
+        let say = |(place, party): (usize, &Speaking)| match is_there(place) {
+            true => party.say().map(Some),
+            false => Ok(None),
+        };
+        let round = self.parties.iter().enumerate().map(say);
+        let round = round.collect::<Result<Round, _>>()?;
+        for (place, party) in self.parties.iter_mut().enumerate() {
+            if is_there(place) {
+                party.hear(&round)?;
+            }
+        }
+        if without {
+            self.missed.push(round);
+        }
+        self.rounds += 1;
+        Ok(())
+    }
+
+    /// The party that comes back hears every round that it has missed, in order, as the
+    /// others have heard it. Then it stands where they do, and may be present again.
+    fn come_back(&mut self) -> Result<(), Refusal> {
+        let (own, late) = (AWAY + 1, self.missed.len());
+        for round in self.missed.drain(..) {
+            self.parties[AWAY].hear(&round)?;
+        }
+        let [back, there] = [AWAY, 0].map(|place| self.parties[place].record());
+        assert_eq!((back.probes, back.round), (there.probes, there.round));
+        println!("party {own} back: {late} rounds heard late");
+        Ok(())
+    }
+}
+
+/// Prints the verdict that a probe of this search at this index has left in a record.
+fn report_probe(search: u64, index: u64, after: &Record) {
+    let verdict = match (search, after.search) {
+        (1, 1) => after.lo == index,
+        (1, _) => after.first == index,
+        _ => after.hi == index,
+    };
+    let (probes, bit) = (after.probes, u64::from(verdict));
+    println!("probe {probes} index {index} verdict {bit}");
+    assert_eq!(verdict, compared(search, index));
+}
+
+/// Prints what all parties have come to, and how the fleets share it out.
+fn report_outcome(meeting: &Meeting) -> Result<(), Refusal> {
+    let outcome = meeting.parties[0].outcome()?;
+    for party in &meeting.parties {
+        assert_eq!(party.outcome()?, outcome);
+    }
+    let Some(Outcome::Price {
+        index,
+        probes,
+        cleared,
+    }) = outcome
+    else {
+        println!("clears 0 none");
+        println!("rounds {}", meeting.rounds);
+        return Ok(());
+    };
+    assert_eq!(index.get(), expected_index());
+    assert_eq!(meeting.rounds, WAY.rounds() * probes + 2);
+    let [wanted, offered] = [cleared.demand(), cleared.supply()];
+    assert_eq!(
+        [wanted, offered],
+        [demand(index.get()), supply(index.get())]
+    );
+    let price = outcome.and_then(|outcome| outcome.price_in(&PRICES).copied());
+    let price = price.ok_or(Refusal::NotCleared)?;
+    println!("clears {index} {price}");
+    println!("demand {wanted} supply {offered}");
+    println!("rounds {}", meeting.rounds);
+    pin_up(&share_out(index, cleared)?, price)
 }
 
 /// Every fleet is told the index and the totals, and has its own table: what it sells
 /// there is sold, and what it gets of what it wants it works out for itself. Here all
 /// of them tell it to whoever lays out the page.
-fn share_out(index: u64, cleared: Cleared) -> Result<Settlement, Refusal> {
+fn share_out(index: NonZeroU64, cleared: Cleared) -> Result<Settlement, Refusal> {
     let mut settlement = Settlement::new();
     let (mut bought, mut remainders) = (0, 0);
     for (bidder, table) in BIDDERS.into_iter().zip(&BIDS) {
-        let [wants, sells] = [index, K + index].map(|entry| table[entry as usize - 1]);
-        let Fill { hours, remainder } = cleared.fill(wants)?;
-        for (side, wanted, got) in [(Side::Buy, wants, hours), (Side::Sell, sells, sells)] {
+        let (demand, supply) = table.split_at(K as usize);
+        let place = index.get() as usize - 1;
+        let [wants, sells] = [demand[place], supply[place]];
+        let Fill { tenths, remainder } = cleared.fill(wants)?;
+        for (side, wanted, got) in [(Side::Buy, wants, tenths), (Side::Sell, sells, sells)] {
             settlement.set(Line {
                 bidder,
                 side,
@@ -155,7 +259,7 @@ fn share_out(index: u64, cleared: Cleared) -> Result<Settlement, Refusal> {
                 got,
             })?;
         }
-        bought += hours;
+        bought += tenths;
         remainders += remainder;
     }
     // Nothing is lost: what is left over is in the remainders.
@@ -170,140 +274,6 @@ fn pin_up(settlement: &Settlement, price: u64) -> Result<(), Refusal> {
     print!("{}", String::from_utf8_lossy(&page));
     assert_eq!(Settlement::read(price, &page)?, *settlement);
     Ok(())
-}
-
-fn open_sessions(totals: &mut [Vec<u64>]) -> Result<Vec<Collecting>, Refusal> {
-    (1..)
-        .zip(totals)
-        .map(|(own, totals)| Collecting::open(N, own, K, totals))
-        .collect()
-}
-
-/// The desk splits its bidder's table for every party, with the same coins.
-fn split_bid(table: &[u64], coins: &mut Coins) -> Result<Vec<Vec<u64>>, Refusal> {
-    let drawn: Vec<u64> = (0..coins_len(N, K)).map(|_| coins.coefficient()).collect();
-    (1..=N)
-        .map(|own| {
-            let mut shares = vec![0; table_len(K)];
-            split(N, own, K, table, &drawn, &mut shares)?;
-            Ok(shares)
-        })
-        .collect()
-}
-
-/// The same, holding the t coins of one entry at a time.
-fn split_by_entries(table: &[u64], coins: &mut Coins) -> Result<Vec<Vec<u64>>, Refusal> {
-    let mut shares = vec![0; N as usize * table_len(K)];
-    Entries::new(N, K, table, &mut shares, &mut || coins.coefficient())?.write_all()?;
-    Ok(shares.chunks(table_len(K)).map(<[u64]>::to_vec).collect())
-}
-
-/// The bid goes to these parties, and each adds its own shares.
-fn send(
-    sessions: &mut [Collecting],
-    totals: &mut [Vec<u64>],
-    bidder: u64,
-    shares: &[Vec<u64>],
-) -> Result<(), Refusal> {
-    for ((session, totals), shares) in sessions.iter_mut().zip(totals).zip(shares) {
-        session.add(totals, bidder, shares)?;
-    }
-    Ok(())
-}
-
-/// The same shares go to every party once more. Those that have the bid refuse
-/// it and are as before; the others add it, after bids that came later.
-fn send_again(
-    sessions: &mut [Collecting],
-    totals: &mut [Vec<u64>],
-    bidder: u64,
-    shares: &[Vec<u64>],
-) -> Result<(), Refusal> {
-    let mut refused = 0;
-    for ((session, totals), shares) in sessions.iter_mut().zip(totals).zip(shares) {
-        let before = (session.store(), totals.clone());
-        match session.add(totals, bidder, shares) {
-            Err(Refusal::AlreadyEntered) => {
-                assert_eq!((session.store(), totals.clone()), before);
-                refused += 1;
-            }
-            reply => reply?,
-        }
-    }
-    assert_eq!(refused, REACHED);
-    let added = sessions.len() - refused;
-    println!("bidder {bidder} sent again: {refused} refused, {added} added");
-    Ok(())
-}
-
-/// The dealer writes every party's preprocessing, with new coins for each probe.
-fn preprocess(coins: &mut Coins) -> Result<Vec<Vec<u64>>, Refusal> {
-    let mut sheets = vec![vec![0; sheets_len(K)]; N as usize];
-    for start in (0..sheets_len(K)).step_by(SHEET_LEN) {
-        let mut words = vec![coins.word() % MASK_LIMIT];
-        words.resize_with(deal_words_len(N), || coins.coefficient());
-        let bytes: Vec<u8> = (0..deal_bytes_len(N)).map(|_| coins.word() as u8).collect();
-        for (own, sheets) in (1..).zip(&mut sheets) {
-            let sheet = &mut sheets[start..start + SHEET_LEN];
-            deal(N, own, &words, &bytes, sheet)?;
-        }
-    }
-    Ok(sheets)
-}
-
-/// A round, as it is kept for a party that comes back.
-struct Round {
-    messages: [u64; N as usize],
-    present: [u8; N as usize],
-}
-
-/// Each party that is there says its message, and each hears those of all who are.
-/// While one is away, the round is kept for it.
-fn exchange(parties: &mut [Speaking], number: u64, missed: &mut Vec<Round>) -> Result<(), Refusal> {
-    if number == WITHOUT.end {
-        come_back(parties, missed)?;
-    }
-    let mut round = Round {
-        messages: [0; N as usize],
-        present: [1; N as usize],
-    };
-    if WITHOUT.contains(&number) {
-        round.present[AWAY] = 0;
-    }
-    let is_there = |place: &usize| round.present[*place] == 1;
-    for place in (0..parties.len()).filter(is_there) {
-        round.messages[place] = parties[place].say()?;
-    }
-    for place in (0..parties.len()).filter(is_there) {
-        parties[place].hear(&round.messages, &round.present)?;
-    }
-    if WITHOUT.contains(&number) {
-        missed.push(round);
-    }
-    Ok(())
-}
-
-/// The party that comes back hears every round that it has missed, in order, with
-/// the messages and the marks with which the others have heard it. Then it stands
-/// where they do, and may be marked again.
-fn come_back(parties: &mut [Speaking], missed: &mut Vec<Round>) -> Result<(), Refusal> {
-    let (own, late) = (AWAY + 1, missed.len());
-    for Round { messages, present } in missed.drain(..) {
-        parties[AWAY].hear(&messages, &present)?;
-    }
-    let [back, there] = [AWAY, 0].map(|place| parties[place].record());
-    assert_eq!((back.probes, back.round), (there.probes, there.round));
-    println!("party {own} back: {late} rounds heard late");
-    Ok(())
-}
-
-/// The verdict that a probe of this search at this index has left in a record.
-fn verdict(search: u64, index: u64, after: &Record) -> bool {
-    match (search, after.search) {
-        (1, 1) => after.lo == index,
-        (1, _) => after.first == index,
-        _ => after.hi == index,
-    }
 }
 
 /// What the verdict of a search has to be at an index.

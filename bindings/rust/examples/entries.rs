@@ -1,46 +1,50 @@
 //! The largest bid, 1,024 listed prices among nine parties, split entry by entry
 //! while four coins are held at a time. Splitting it at once takes 8,192 coins
-//! together; here only the check against that draws them so.
+//! together; here only the check against that keeps them.
 //!
-//! The coins here come from a small generator with a fixed seed, so that they
-//! can be drawn once more for the check. A real bidder draws them from the
-//! operating system, and never a second time.
-
-mod coins;
+//! The coins come from the operating system. A real desk keeps none of them.
 
 use clockivy::{
-    coins_len, split, table_len, threshold, Entries, Refusal, MAX_AMOUNT, MAX_PRICES, PARTIES,
+    coins_len, split, table_len, threshold, Entries, Refusal, Seat, Source, System, Way, BLANK,
+    MAX_AMOUNT, MAX_PRICES, PARTIES, PRIME,
 };
-use coins::Coins;
 
 const N: u64 = *PARTIES.end();
 const K: u64 = MAX_PRICES;
 
 fn main() -> Result<(), Refusal> {
     let table = table();
-    let mut coins = Coins::new();
-    let mut drawn = 0;
+    let mut drawn = Vec::new();
     let mut source = || {
-        drawn += 1;
-        coins.coefficient()
+        let coin = System.below(PRIME)?;
+        drawn.push(coin);
+        Some(coin)
     };
 
     // What the desk keeps until every party has its bid.
-    let mut shares = vec![0; N as usize * table_len(K)];
+    let mut shares = vec![BLANK; N as usize * table_len(K)];
     let mut written = 0;
     for entry in Entries::new(N, K, &table, &mut shares, &mut source)? {
         written = entry?;
     }
     assert_eq!(written as usize, table_len(K));
     println!("{N} parties, {K} prices: {written} entries, each for every party");
-    println!("coins drawn {drawn}, held at a time {}", threshold(N));
+    println!(
+        "coins drawn {}, held at a time {}",
+        drawn.len(),
+        threshold(N)
+    );
 
-    let mut coins = Coins::new();
-    let all: Vec<u64> = (0..coins_len(N, K)).map(|_| coins.coefficient()).collect();
-    assert_eq!(drawn, all.len());
+    assert_eq!(drawn.len(), coins_len(N, K));
     for (own, shares) in (1..).zip(shares.chunks(table_len(K))) {
-        let mut whole = vec![0; table_len(K)];
-        split(N, own, K, &table, &all, &mut whole)?;
+        let seat = Seat {
+            n: N,
+            own,
+            k: K,
+            way: Way::Rounds33,
+        };
+        let mut whole = vec![BLANK; table_len(K)];
+        split(seat, &table, &drawn, &mut whole)?;
         assert_eq!(shares, whole);
     }
     println!("the shares are those split at once from the same coins");

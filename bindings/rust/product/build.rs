@@ -4,5 +4,5 @@
 mod link;
 
 fn main() {
-    link::archive("byte_product", "../../..");
+    link::archive(&["byte_product"], "../../..");
 }

@@ -3,45 +3,28 @@
 //! and all parties' shares of an entry come from the same.
 
 use std::fmt;
-use std::hint::black_box;
 use std::iter::FusedIterator;
 
 use crate::refusal::Refusal;
-use crate::{split_entry, table_len, threshold, MAX_PRICES, PARTIES};
-
-/// The most coins of an entry: four, of nine parties.
-const MOST_COINS: usize = threshold(*PARTIES.end());
-
-/// What stands in a place that is not written: no share, so that adding it is
-/// refused.
-const NO_SHARE: u64 = u64::MAX;
+use crate::secret::Secret;
+use crate::source::Source;
+use crate::{split_entry, table_len, threshold, Seat, Way, BLANK, MAX_PRICES, PARTIES, PRIME};
 
 /// The entries of a bid, written one after the other for all parties, with t
 /// new coins for each: so t coins are held at a time, where
 /// [`split`](crate::split) is lent all 2kt. What is written is the same. It is
 /// the coins that are fewer: the shares of all parties are lent together, 2kn
 /// words, 18,432 for the largest bid, and a desk that is short of room goes by
-/// [`split_entry`]. See [a bid entry by entry](crate#a-bid-entry-by-entry).
+/// [`split_entry`]. See [a bid entry by entry](crate::callers#a-bid-entry-by-entry).
 ///
 /// ```
-/// use clockivy::{split, Entries};
+/// use clockivy::{Entries, System, BLANK};
 ///
 /// # fn main() -> Result<(), clockivy::Refusal> {
-/// // Three parties and two listed prices. The coins are fixed for the sake of
-/// // the example; real ones are random.
+/// // Three parties and two listed prices: what each party is sent.
 /// let (n, k, table) = (3, 2, [5, 2, 1, 4]);
-/// let coins = [11, 12, 13, 14];
-/// let mut drawn = coins.into_iter();
-/// let mut source = || drawn.next().unwrap_or(u64::MAX);
-///
-/// let mut shares = [[0; 4]; 3];
-/// Entries::new(n, k, &table, shares.as_flattened_mut(), &mut source)?.write_all()?;
-///
-/// for (own, shares) in (1..).zip(shares) {
-///     let mut whole = [0; 4];
-///     split(n, own, k, &table, &coins, &mut whole)?;
-///     assert_eq!(shares, whole);
-/// }
+/// let mut shares = [[BLANK; 4]; 3];
+/// Entries::new(n, k, &table, shares.as_flattened_mut(), &mut System)?.write_all()?;
 /// # Ok(())
 /// # }
 /// ```
@@ -54,7 +37,7 @@ const NO_SHARE: u64 = u64::MAX;
 ///
 /// ```compile_fail,E0502
 /// # use clockivy::Entries;
-/// # let (mut shares, mut source) = ([0; 6], || 7);
+/// # let (mut shares, mut source) = ([0; 6], || Some(7));
 /// let mut entries = Entries::new(3, 1, &[5, 3], &mut shares, &mut source)?;
 /// entries.next();
 /// let sent = shares.to_vec();
@@ -64,20 +47,17 @@ const NO_SHARE: u64 = u64::MAX;
 ///
 /// # What remains the caller's
 ///
-/// * **The source.** Each call of it draws a coin: a word below
-///   [`PRIME`](crate::PRIME), uniform and independent of all others. It is lent,
-///   so that the next bid goes on from where this one ended. One that repeats
-///   itself, within a bid or from one bid to another,
-///   [gives bids away](crate#three-uses-that-give-bids-away), and nothing here
-///   can tell. A word that is not below the prime is refused, so a source that
-///   cannot draw may give `u64::MAX`.
+/// * **The source.** It draws coins below [`PRIME`], uniform and independent of all
+///   others. One that repeats itself, within a bid or from one bid to another,
+///   [gives bids away](crate::callers#four-uses-that-give-bids-away), and nothing
+///   here can tell. One that has no bits is refused, and so is one that gave zeros
+///   for a whole bid: those were not drawn.
 /// * **The end.** Shares are whole once every entry is written. Hand out none
 ///   before, and none of a splitting that was refused, or that was left for
 ///   another one with new coins.
 ///
 /// The coins of an entry are overwritten once they are used, as far as safe Rust
-/// can see to that; those of a source that panics half-way are not, and what the
-/// source keeps is its own.
+/// can see to that, and what the source keeps is its own.
 #[must_use = "no entry is written before it is asked for"]
 pub struct Entries<'a, S> {
     n: u64,
@@ -87,16 +67,18 @@ pub struct Entries<'a, S> {
     source: &'a mut S,
     /// The entries from 1 on that are written.
     written: u64,
+    /// Whether any coin so far was another number than 0.
+    drawn: bool,
     refused: Option<Refusal>,
 }
 
-impl<'a, S: FnMut() -> u64> Entries<'a, S> {
+impl<'a, S: Source> Entries<'a, S> {
     /// The entries of a bid among `n` parties. `table` is demand at prices 1 to
     /// k, then supply; `shares` are those of all parties, party 1's 2k words
     /// first; `source` gives coins. Nothing is drawn yet, and the table is judged
     /// with each entry.
     ///
-    /// The shares are filled with `u64::MAX`, which is no share: what they held
+    /// The shares are filled with [`BLANK`], which is no share: what they held
     /// is gone, and where a place is not written, adding them is
     /// [`ShareOutOfRange`](Refusal::ShareOutOfRange). A refusal changes nothing.
     ///
@@ -116,7 +98,7 @@ impl<'a, S: FnMut() -> u64> Entries<'a, S> {
         if table.len() != table_len(k) || shares.len() != n as usize * table_len(k) {
             return Err(Refusal::WrongLength);
         }
-        shares.fill(NO_SHARE);
+        shares.fill(BLANK);
         Ok(Entries {
             n,
             k,
@@ -124,6 +106,7 @@ impl<'a, S: FnMut() -> u64> Entries<'a, S> {
             shares,
             source,
             written: 0,
+            drawn: false,
             refused: None,
         })
     }
@@ -139,13 +122,30 @@ impl<'a, S: FnMut() -> u64> Entries<'a, S> {
         self.refused.map_or(Ok(()), Err)
     }
 
-    /// Writes an entry for every party. What may be refused here is the same for
-    /// all of them, so that it is refused for the first or for none.
-    fn write(&mut self, entry: u64, coins: &[u64]) -> Result<(), Refusal> {
-        let (n, k) = (self.n, self.k);
-        (1..=n)
-            .zip(self.shares.chunks_exact_mut(table_len(k)))
-            .try_for_each(|(own, shares)| split_entry(n, own, k, entry, self.table, coins, shares))
+    /// Draws the coins of an entry and writes it for every party. What may be
+    /// refused here is the same for all of them, so that it is refused for the first
+    /// or for none.
+    fn write(&mut self, entry: u64) -> Result<(), Refusal> {
+        // To a bid the way makes no difference.
+        let (n, k, way) = (self.n, self.k, Way::Rounds33);
+        let coins = self.draw();
+        self.drawn |= coins.iter().any(|&coin| coin != 0);
+        if entry as usize == table_len(k) && !self.drawn {
+            return Err(Refusal::CoinOutOfRange);
+        }
+        let shares = self.shares.chunks_exact_mut(table_len(k));
+        (1..).zip(shares).try_for_each(|(own, shares)| {
+            split_entry(Seat { n, own, k, way }, entry, self.table, &coins, shares)
+        })
+    }
+
+    /// The t coins of an entry. Where the source has none, what stands there is none.
+    fn draw(&mut self) -> Secret<u64> {
+        let mut coins = Secret::filled(BLANK, threshold(self.n));
+        for coin in coins.iter_mut() {
+            *coin = self.source.below(PRIME).unwrap_or(BLANK);
+        }
+        coins
     }
 }
 
@@ -159,7 +159,7 @@ impl<S> Entries<'_, S> {
     }
 }
 
-impl<S: FnMut() -> u64> Iterator for Entries<'_, S> {
+impl<S: Source> Iterator for Entries<'_, S> {
     type Item = Result<u64, Refusal>;
 
     /// Draws t coins and writes the next entry for every party.
@@ -168,13 +168,7 @@ impl<S: FnMut() -> u64> Iterator for Entries<'_, S> {
             return None;
         }
         let entry = self.written + 1;
-        let mut room = [0; MOST_COINS];
-        let coins = &mut room[..threshold(self.n)];
-        coins.fill_with(&mut *self.source);
-        let outcome = self.write(entry, coins);
-        // Looked at afterwards, so that it is not left out as of no use.
-        room.fill(0);
-        black_box(&room);
+        let outcome = self.write(entry);
         match outcome {
             Ok(()) => self.written = entry,
             Err(refusal) => self.refused = Some(refusal),
@@ -190,7 +184,7 @@ impl<S: FnMut() -> u64> Iterator for Entries<'_, S> {
     }
 }
 
-impl<S: FnMut() -> u64> FusedIterator for Entries<'_, S> {}
+impl<S: Source> FusedIterator for Entries<'_, S> {}
 
 /// Shows how far it has come. The table, the shares and the source are secret.
 impl<S> fmt::Debug for Entries<'_, S> {

@@ -1,21 +1,23 @@
-use crate::refusal::{outcome, Refusal};
-use crate::{RECORD_LEN, ROLL_LEN};
+use std::fmt;
+
+use crate::refusal::{result, Refusal};
+use crate::{DEMAND_ROUND, RECORD_LEN, ROLL_LEN};
 
 /// Where a party stands in an auction, for reading: a session shows its record
 /// and keeps it.
 ///
-/// A record is for its party alone. `carry` is this party's share, and `sum`,
-/// which all parties know, gives the dealer total demand minus total supply at
-/// the probed index; both are 0 again when the auction is over, and then the record
-/// holds no share. The roll is no secret among the parties: before they speak they
-/// compare theirs, which have to be the same.
+/// What stands here is no secret among the parties, and before they speak they compare
+/// their rolls, which have to be the same. The record's words have two numbers more,
+/// which a session shows to nobody: the opened sum of the probe, which the dealer must
+/// not see, and this party's share of the carry. Both are 0 again when the auction is
+/// over.
 ///
 /// What `lo` and `hi` tell depends on which of [the two
-/// searches](crate#the-two-searches) is on. A probe's verdict can be read off
+/// searches](crate::callers#the-two-searches) is on. A probe's verdict can be read off
 /// the record that round 33 leaves. In the first search it is 1 where `lo` is
 /// the probed index now or, if that probe has ended the search, where `first`
 /// is; in the second, where `hi` is.
-#[derive(Debug, PartialEq, Eq)]
+#[derive(PartialEq, Eq)]
 #[non_exhaustive]
 pub struct Record {
     /// The number of parties, 3 to 9.
@@ -41,9 +43,9 @@ pub struct Record {
     /// [35](crate::SUPPLY_ROUND), and [36](crate::OVER_ROUND) when it is over.
     pub round: u64,
     /// The opened sum of this probe's round 1, else 0.
-    pub sum: u64,
+    pub(crate) sum: u64,
     /// This party's share of the carry, else 0.
-    pub carry: u64,
+    pub(crate) carry: u64,
     /// Who is in: bidder b is bit b % 64 of word b / 64, the lowest being bit
     /// 0. See [`has_bid`](Record::has_bid).
     pub roll: [u64; ROLL_LEN],
@@ -65,6 +67,16 @@ impl Record {
     pub fn has_bid(&self, bidder: u64) -> bool {
         let word = self.roll.get((bidder / 64) as usize);
         word.is_some_and(|word| word >> (bidder % 64) & 1 == 1)
+    }
+
+    /// The index that the current round is about: the probed one or, once the searches
+    /// have ended, that of the price, and 0 where there is none.
+    pub(crate) fn index(&self) -> u64 {
+        match self.round {
+            ..DEMAND_ROUND => self.lo.midpoint(self.hi),
+            _ if self.hi <= self.first => self.first.midpoint(self.hi),
+            _ => self.first,
+        }
     }
 
     /// The record as words, in the order of the fields.
@@ -122,8 +134,29 @@ impl Record {
     /// Makes a call that steps the record. A refused one leaves it as it was.
     pub(crate) fn step(&mut self, call: impl FnOnce(&mut [u64]) -> u64) -> Result<(), Refusal> {
         let mut words = self.to_words();
-        outcome(call(&mut words))?;
+        result(call(&mut words))?;
         *self = Record::from_words(words);
         Ok(())
+    }
+}
+
+/// Shows neither the sum nor the carry.
+impl fmt::Debug for Record {
+    fn fmt(&self, f: &mut fmt::Formatter<'_>) -> fmt::Result {
+        f.debug_struct("Record")
+            .field("n", &self.n)
+            .field("own", &self.own)
+            .field("k", &self.k)
+            .field("bids", &self.bids)
+            .field("lo", &self.lo)
+            .field("hi", &self.hi)
+            .field("probes", &self.probes)
+            .field("round", &self.round)
+            .field("search", &self.search)
+            .field("first", &self.first)
+            .field("first_probes", &self.first_probes)
+            .field("demand", &self.demand)
+            .field("supply", &self.supply)
+            .finish_non_exhaustive()
     }
 }

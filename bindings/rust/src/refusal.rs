@@ -8,8 +8,8 @@ use std::fmt;
 #[non_exhaustive]
 pub enum Refusal {
     /// 1: `n`, `own`, `k`, the entry's or the bidder's number is outside its
-    /// range, or a field of the record is, or the first word of a stored
-    /// session, or a mark of who was present is above 1, or the price of a
+    /// range, or a field of the record is, or the version or the type of a
+    /// stored session, or a mark of who was present is above 1, or the price of a
     /// settlement page; `bids` is not the number of marks on the roll, or the roll
     /// marks a number outside 1 to 1,000; the numbers of the two searches do not
     /// fit, as where the first has ended and the second has not begun; the round is
@@ -22,14 +22,15 @@ pub enum Refusal {
     /// the answer before it is over; a stored session resumed as one of the
     /// other type.
     OutOfTurn = 3,
-    /// 5: a coefficient is not below the prime, or a mask not below 2^58.
+    /// 5: a coefficient is not below the prime, or a mask not below 2^58; or a
+    /// source has no coins, or none but zeros.
     CoinOutOfRange = 5,
     /// 6: an amount is above 4,194,303, or a bidder got more than it wanted.
     AmountTooLarge = 6,
     /// 7: demand rises or supply falls.
     NotMonotone = 7,
     /// 8: a share of an amount is not below the prime, or one of a bit is
-    /// above 255.
+    /// above 255; or sheets were never dealt, or one of them stands in two places.
     ShareOutOfRange = 8,
     /// 9: the message in the party's own place is not what the party says, and
     /// the party is marked as present.
@@ -42,7 +43,7 @@ pub enum Refusal {
     SumOutOfRange = 11,
     /// 12: the opened verdict is neither 0 nor 1.
     VerdictNotBit = 12,
-    /// 13: no entries lay out to a settlement page at its price. (The rehearsal has
+    /// 13: no amounts lay out to a settlement page at its price. (The rehearsal has
     /// this number for a file that is none.)
     Malformed = 13,
     /// 14: a bid of this bidder has been added already.
@@ -104,7 +105,7 @@ impl fmt::Display for Refusal {
             Refusal::Inconsistent => "the messages lie on no polynomial of the degree",
             Refusal::SumOutOfRange => "the opened sum or total is out of range",
             Refusal::VerdictNotBit => "the opened verdict is not a bit",
-            Refusal::Malformed => "no entries lay out to the page at this price",
+            Refusal::Malformed => "no amounts lay out to the page at this price",
             Refusal::AlreadyEntered => "a bid of this bidder has been added already",
             Refusal::TooFewPresent => "too few parties were present",
             Refusal::NotCleared => "no totals are open, or there is no price",
@@ -117,7 +118,7 @@ impl fmt::Display for Refusal {
 impl Error for Refusal {}
 
 /// A reply as a result.
-pub(crate) fn outcome(reply: u64) -> Result<(), Refusal> {
+pub(crate) fn result(reply: u64) -> Result<(), Refusal> {
     if reply == 0 {
         return Ok(());
     }

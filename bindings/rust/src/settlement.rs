@@ -3,11 +3,11 @@
 
 use std::fmt;
 
-use crate::refusal::{outcome, Refusal};
-use crate::{words, ENTRIES_LEN, LINE_LEN, MAX_AMOUNT, MAX_BIDS};
+use crate::refusal::{result, Refusal};
+use crate::{words, LINE_LEN, MAX_AMOUNT, MAX_BIDS, SETTLEMENT_LEN};
 
-/// What every bidder wanted and got at the price, buying and selling: the entries of a
-/// [settlement page](crate#the-settlement-page), which show every bidder's amounts.
+/// What every bidder wanted and got at the price, buying and selling: the amounts of a
+/// [settlement page](crate::callers#the-settlement-page), which show every bidder's amounts.
 /// They are in range from the first on, so that every settlement has a page at every
 /// price.
 ///
@@ -35,16 +35,16 @@ use crate::{words, ENTRIES_LEN, LINE_LEN, MAX_AMOUNT, MAX_BIDS};
 /// # }
 /// ```
 ///
-/// Entries that were not judged do not compile:
+/// Amounts that were not judged do not compile:
 ///
 /// ```compile_fail,E0451
-/// # use clockivy::{Settlement, ENTRIES_LEN};
-/// let settlement = Settlement { entries: Box::new([7; ENTRIES_LEN]) };
+/// # use clockivy::{Settlement, SETTLEMENT_LEN};
+/// let settlement = Settlement { amounts: Box::new([7; SETTLEMENT_LEN]) };
 /// ```
 #[derive(Clone, PartialEq, Eq)]
 pub struct Settlement {
     /// For each bidder in turn: wanted and got, buying and then selling.
-    entries: Box<[u64; ENTRIES_LEN]>,
+    amounts: Box<[u64; SETTLEMENT_LEN]>,
 }
 
 /// A side of the auction.
@@ -73,7 +73,7 @@ impl Settlement {
     /// That of nobody: no line.
     pub fn new() -> Settlement {
         Settlement {
-            entries: Box::new([0; ENTRIES_LEN]),
+            amounts: Box::new([0; SETTLEMENT_LEN]),
         }
     }
 
@@ -88,8 +88,8 @@ impl Settlement {
         if line.wanted > MAX_AMOUNT || line.got > line.wanted {
             return Err(Refusal::AmountTooLarge);
         }
-        self.entries[place] = line.wanted;
-        self.entries[place + 1] = line.got;
+        self.amounts[place] = line.wanted;
+        self.amounts[place + 1] = line.got;
         Ok(())
     }
 
@@ -97,7 +97,7 @@ impl Settlement {
     /// about.
     pub fn line(&self, bidder: u64, side: Side) -> Option<Line> {
         let place = place(bidder, side)?;
-        let [wanted, got] = [self.entries[place], self.entries[place + 1]];
+        let [wanted, got] = [self.amounts[place], self.amounts[place + 1]];
         (wanted > 0).then_some(Line {
             bidder,
             side,
@@ -137,8 +137,8 @@ impl Settlement {
     /// [`page_len`](Settlement::page_len) bytes. A refusal changes nothing.
     pub fn write_into(&self, price: u64, page: &mut [u8]) -> Result<usize, Refusal> {
         let mut written = 0;
-        let reply = words::settlement_write(price, &self.entries[..], page, &mut written);
-        outcome(reply)?;
+        let reply = words::settlement_write(price, &self.amounts[..], page, &mut written);
+        result(reply)?;
         Ok(written as usize)
     }
 
@@ -150,10 +150,10 @@ impl Settlement {
     /// [`Malformed`](Refusal::Malformed) where there is none.
     pub fn read(price: u64, page: &[u8]) -> Result<Settlement, Refusal> {
         let mut settlement = Settlement::new();
-        outcome(words::settlement_read(
+        result(words::settlement_read(
             price,
             page,
-            &mut settlement.entries[..],
+            &mut settlement.amounts[..],
         ))?;
         Ok(settlement)
     }
@@ -174,7 +174,7 @@ impl fmt::Debug for Settlement {
     }
 }
 
-/// Where the entries have what a bidder wanted on a side; what it got is next.
+/// Where the amounts have what a bidder wanted on a side; what it got is next.
 fn place(bidder: u64, side: Side) -> Option<usize> {
     let is_bidder = (1..=MAX_BIDS).contains(&bidder);
     is_bidder.then(|| 4 * (bidder as usize - 1) + 2 * side as usize)

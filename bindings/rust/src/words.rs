@@ -1,28 +1,66 @@
 //! The eleven calls on plain words, as the C library has them. The reply is 0,
 //! or the number of the [refusal](crate::Refusal), and then nothing that was
 //! lent has changed. Each call's refusals are listed in the order in which it
-//! judges them. A record may have any length here. Where it has not
-//! [`RECORD_LEN`](crate::RECORD_LEN) words, a call still judges what needs no
-//! record, 1: the numbers of [`open`], the bidder's number of [`add`] and the marks
-//! of [`hear`]. Then it is 2 before all else.
+//! judges them. A record may have any length here; its words have [names](place).
+//! Where it has not [`RECORD_LEN`](crate::RECORD_LEN) words, a call still judges
+//! what needs no record, 1: the numbers of [`open`], the bidder's number of [`add`]
+//! and the marks of [`hear`]. Then it is 2 before all else.
 //!
 //! Most callers want [`Collecting`](crate::Collecting) and what stands beside
 //! it. This module serves those who keep records as words, and tests. Nothing
 //! here guards against the
-//! [three uses that give bids away](crate#three-uses-that-give-bids-away), or
-//! sees that a bid's entries [fit](crate#a-bid-entry-by-entry), that a record and
-//! its totals [belong together](crate#a-bid-sent-again), or that all parties hear
-//! a round [with the same marks](crate#a-party-that-drops-off).
+//! [four uses that give bids away](crate::callers#four-uses-that-give-bids-away),
+//! or sees to anything else that [callers have to see to](crate::callers).
 //!
-//! It is the only module with `unsafe` in it. Each function passes every slice
-//! as its pointer and its length. The library asks nothing else of its caller:
-//! it reads and writes within the slices, on any contents, always returns, and
-//! keeps no pointer. The borrows of one call cannot overlap where one of them
-//! is written.
+//! Each function passes every slice as its pointer and its length. The library
+//! asks nothing else of its caller: it reads and writes within the slices, on any
+//! contents, always returns, and keeps no pointer. The borrows of one call cannot
+//! overlap where one of them is written. Beside this module only
+//! [`System`](crate::System) has `unsafe` in it, for one call of the C library's.
 
 #![allow(unsafe_code)]
 
+/// The places of a record's words. The roll has [`ROLL_LEN`](crate::ROLL_LEN) words
+/// from its place on, and each of the others one.
+pub mod place {
+    use crate::ROLL_LEN;
+
+    /// The number of parties.
+    pub const N: usize = 0;
+    /// The party's number.
+    pub const OWN: usize = 1;
+    /// The number of listed prices.
+    pub const K: usize = 2;
+    /// Bids added.
+    pub const BIDS: usize = 3;
+    /// The lower end of the search that is on.
+    pub const LO: usize = 4;
+    /// The upper end of the search that is on.
+    pub const HI: usize = 5;
+    /// Probes done, of both searches.
+    pub const PROBES: usize = 6;
+    /// The current round.
+    pub const ROUND: usize = 7;
+    /// The opened sum of round 1, or 0.
+    pub const SUM: usize = 8;
+    /// The party's share of the carry, or 0.
+    pub const CARRY: usize = 9;
+    /// The first word of the roll.
+    pub const ROLL: usize = 10;
+    /// Which search is on.
+    pub const SEARCH: usize = ROLL + ROLL_LEN;
+    /// What the first search gave, or 0.
+    pub const FIRST: usize = SEARCH + 1;
+    /// The probes of the first search, or 0.
+    pub const FIRST_PROBES: usize = SEARCH + 2;
+    /// Total demand at the price, or 0.
+    pub const DEMAND: usize = SEARCH + 3;
+    /// Total supply at the price, or 0.
+    pub const SUPPLY: usize = SEARCH + 4;
+}
+
 extern "C" {
+    fn clockivy_version() -> u64;
     fn clockivy_open(
         n: u64,
         own: u64,
@@ -105,13 +143,13 @@ extern "C" {
         record: *const u64,
         record_len: usize,
         amount: u64,
-        hours: *mut u64,
+        tenths: *mut u64,
         remainder: *mut u64,
     ) -> u64;
     fn clockivy_settlement_write(
         price: u64,
-        entries: *const u64,
-        entries_len: usize,
+        amounts: *const u64,
+        amounts_len: usize,
         page: *mut u8,
         page_len: usize,
         written: *mut u64,
@@ -120,14 +158,20 @@ extern "C" {
         price: u64,
         page: *const u8,
         page_len: usize,
-        entries: *mut u64,
-        entries_len: usize,
+        amounts: *mut u64,
+        amounts_len: usize,
     ) -> u64;
+}
+
+/// The version of the library's calls and of the record's words, which is to be
+/// [`VERSION`](crate::VERSION).
+pub fn version() -> u64 {
+    // SAFETY: see the head of this module; so for each call below.
+    unsafe { clockivy_version() }
 }
 
 /// Zeroes `totals` and writes a new session's record. Refusals 1, 2.
 pub fn open(n: u64, own: u64, k: u64, totals: &mut [u64], record: &mut [u64]) -> u64 {
-    // SAFETY: see the head of this module; so for each call below.
     unsafe {
         clockivy_open(
             n,
@@ -265,18 +309,18 @@ pub fn answer(record: &[u64], index: &mut u64, probes: &mut u64) -> u64 {
 
 /// Writes what a buyer of this amount gets at the price, in tenths of an hour, and
 /// the remainder. Refusals 1, 2, 16, 6.
-pub fn fill(record: &[u64], amount: u64, hours: &mut u64, remainder: &mut u64) -> u64 {
-    unsafe { clockivy_fill(record.as_ptr(), record.len(), amount, hours, remainder) }
+pub fn fill(record: &[u64], amount: u64, tenths: &mut u64, remainder: &mut u64) -> u64 {
+    unsafe { clockivy_fill(record.as_ptr(), record.len(), amount, tenths, remainder) }
 }
 
-/// Writes the lines of the entries, and how many bytes they are; what `page` holds
-/// past them stays. Refusals 1, 2, 6, 17.
-pub fn settlement_write(price: u64, entries: &[u64], page: &mut [u8], written: &mut u64) -> u64 {
+/// Writes the lines of a settlement's amounts, and how many bytes they are; what `page`
+/// holds past them stays. Refusals 1, 2, 6, 17.
+pub fn settlement_write(price: u64, amounts: &[u64], page: &mut [u8], written: &mut u64) -> u64 {
     unsafe {
         clockivy_settlement_write(
             price,
-            entries.as_ptr(),
-            entries.len(),
+            amounts.as_ptr(),
+            amounts.len(),
             page.as_mut_ptr(),
             page.len(),
             written,
@@ -284,15 +328,15 @@ pub fn settlement_write(price: u64, entries: &[u64], page: &mut [u8], written: &
     }
 }
 
-/// Writes the entries that lay out to `page`. Refusals 1, 2, 13.
-pub fn settlement_read(price: u64, page: &[u8], entries: &mut [u64]) -> u64 {
+/// Writes the settlement's amounts that lay out to `page`. Refusals 1, 2, 13.
+pub fn settlement_read(price: u64, page: &[u8], amounts: &mut [u64]) -> u64 {
     unsafe {
         clockivy_settlement_read(
             price,
             page.as_ptr(),
             page.len(),
-            entries.as_mut_ptr(),
-            entries.len(),
+            amounts.as_mut_ptr(),
+            amounts.len(),
         )
     }
 }

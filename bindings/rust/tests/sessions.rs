@@ -1,8 +1,12 @@
 //! The two types of a session, and storing and resuming each.
 
+use clockivy::words::place;
 use clockivy::{
-    deal, deal_bytes_len, sheets_len, split, split_entry, words, Answer, Collecting, Refusal,
-    Speaking, PRIME, RECORD_LEN, ROLL_LEN, SHEET_LEN, STORED_LEN,
+    split, split_entry, stored_len, table_len, words, Cleared, Collecting, Outcome, Refusal,
+    Sheets, Speaking, MAX_PRICES, PRIME, RECORD_LEN, VERSION,
+};
+use clockivy_testing::{
+    from_all, panel, parts, record, reply, round, said, seat, sheets, stored, Plain, WAY,
 };
 
 const N: u64 = 3;
@@ -11,38 +15,28 @@ const K: u64 = 2;
 const TABLE: [u64; 4] = [5, 2, 1, 4];
 /// The number of the one who bids it.
 const BIDDER: u64 = 640;
-/// The place of `bids` in a record, of lo and hi, its probes, its round, its roll
-/// and the numbers of the searches.
-const BIDS: usize = 3;
-const LO: usize = 4;
-const HI: usize = 5;
-const PROBES: usize = 6;
-const ROUND: usize = 7;
-const ROLL: usize = 10;
-const SEARCH: usize = ROLL + ROLL_LEN;
 
 /// The record of party 1 before the first round, with these bidders on the roll.
 fn with_bids(bidders: &[u64]) -> [u64; RECORD_LEN] {
-    let mut record = [0; RECORD_LEN];
-    record[..ROLL].copy_from_slice(&[N, 1, K, 0, 0, K + 1, 0, 1, 0, 0]);
-    record[SEARCH..].copy_from_slice(&[1, 0, 0, 0, 0]);
-    record[BIDS] = bidders.len() as u64;
+    let mut record = record(&[
+        (place::N, N),
+        (place::OWN, 1),
+        (place::K, K),
+        (place::BIDS, bidders.len() as u64),
+        (place::HI, K + 1),
+        (place::ROUND, 1),
+        (place::SEARCH, 1),
+    ]);
     for bidder in bidders {
-        record[ROLL + *bidder as usize / 64] |= 1 << (bidder % 64);
+        record[place::ROLL + *bidder as usize / 64] |= 1 << (bidder % 64);
     }
     record
-}
-
-/// What one party keeps beside its session.
-struct Kept {
-    totals: [u64; 4],
-    sheets: Vec<u64>,
 }
 
 /// A party's shares of the table from these coins.
 fn split_from(own: u64, coins: [u64; 4]) -> [u64; 4] {
     let mut shares = [0; 4];
-    split(N, own, K, &TABLE, &coins, &mut shares).unwrap();
+    split(seat(N, own, K), &TABLE, &coins, &mut shares).unwrap();
     shares
 }
 
@@ -50,159 +44,187 @@ fn shares(own: u64) -> [u64; 4] {
     split_from(own, [11, 12, 13, 14])
 }
 
-fn sheets(own: u64) -> Vec<u64> {
-    let mut sheets = vec![0; sheets_len(K)];
-    for (probe, sheet) in (1..).zip(sheets.chunks_mut(SHEET_LEN)) {
-        let words = [1_000 * probe, 77 * probe];
-        let bytes: Vec<u8> = (0..deal_bytes_len(N))
-            .map(|place| (89 * place + probe as usize) as u8)
-            .collect();
-        deal(N, own, &words, &bytes, sheet).unwrap();
-    }
-    sheets
-}
-
-/// One party with a bid added.
-fn collected(own: u64) -> (Collecting, Kept) {
-    let mut totals = [9; 4];
-    let mut session = Collecting::open(N, own, K, &mut totals).unwrap();
-    session.add(&mut totals, BIDDER, &shares(own)).unwrap();
-    let sheets = sheets(own);
-    (session, Kept { totals, sheets })
-}
-
-fn messages(parties: &[Speaking]) -> Vec<u64> {
-    parties.iter().map(|party| party.say().unwrap()).collect()
-}
-
-/// The words of a session with this record.
-fn stored(phase: u64, record: [u64; RECORD_LEN]) -> [u64; STORED_LEN] {
-    let mut words = [phase; STORED_LEN];
-    words[1..].copy_from_slice(&record);
-    words
+/// One party with the bid added.
+fn collected(own: u64) -> Collecting {
+    clockivy_testing::collected(N, own, K, &[(BIDDER, &TABLE)])
 }
 
 #[test]
 fn bids_and_then_rounds() {
-    let mut totals = [9; 4];
-    let mut session = Collecting::open(N, 1, K, &mut totals).unwrap();
-    let opened = with_bids(&[]);
-    assert_eq!((session.store(), totals), (stored(0, opened), [0; 4]));
-    session.add(&mut totals, BIDDER, &shares(1)).unwrap();
+    let mut session = Collecting::open(seat(N, 1, K)).unwrap();
+    assert_eq!(session.store(), stored(0, &with_bids(&[]), &[0; 4]));
+    session.add(BIDDER, &shares(1)).unwrap();
     let one_bid = with_bids(&[BIDDER]);
-    assert_eq!((session.store(), totals), (stored(0, one_bid), shares(1)));
+    assert_eq!(session.store(), stored(0, &one_bid, &shares(1)));
 
-    let sheets = sheets(1);
-    let party = session.speak(&totals, &sheets);
-    assert_eq!(party.store(), stored(1, one_bid));
-    assert_eq!((party.is_over(), party.index()), (false, 1));
+    let party = session.speak(sheets(N, 1, K));
+    assert_eq!(party.store(), stored(1, &one_bid, &shares(1)));
+    assert_eq!((party.outcome(), party.index()), (Ok(None), 1));
     assert_eq!(party.say().unwrap(), party.say().unwrap());
 }
 
 #[test]
 fn the_fields_of_a_record_in_their_order() {
     let record: [u64; RECORD_LEN] = std::array::from_fn(|place| place as u64 + 10);
-    let words = stored(1, record);
-    let party = Speaking::resume(&words, &[], &[]).unwrap();
-    let record = party.record();
+    let words = stored(1, &record, &[7; table_len(12)]);
+    let party = Speaking::resume(&words, Sheets::blank(12, WAY)).unwrap();
+    let (left, record) = (party.store(), party.record());
+    // The sum and the carry are shown by the stored words alone.
+    let (left, _) = parts(&left);
     let numbers = [
-        record.n,
-        record.own,
-        record.k,
-        record.bids,
-        record.lo,
-        record.hi,
-        record.probes,
-        record.round,
-        record.sum,
-        record.carry,
+        (place::N, record.n),
+        (place::OWN, record.own),
+        (place::K, record.k),
+        (place::BIDS, record.bids),
+        (place::LO, record.lo),
+        (place::HI, record.hi),
+        (place::PROBES, record.probes),
+        (place::ROUND, record.round),
+        (place::SUM, left[8]),
+        (place::CARRY, left[9]),
     ];
-    assert_eq!(numbers, [10, 11, 12, 13, 14, 15, 16, 17, 18, 19]);
+    let expected = [10, 11, 12, 13, 14, 15, 16, 17, 18, 19];
+    assert_eq!(numbers.map(|(_, number)| number), expected);
+    assert_eq!(numbers.map(|(place, _)| left[place]), expected);
     assert_eq!(record.roll, std::array::from_fn(|place| place as u64 + 20));
-    let searches = [record.search, record.first, record.first_probes];
-    assert_eq!(searches, [36, 37, 38]);
-    assert_eq!([record.demand, record.supply], [39, 40]);
+    assert_eq!(left[place::ROLL..place::SEARCH], record.roll);
+    let others = [
+        (place::SEARCH, record.search),
+        (place::FIRST, record.first),
+        (place::FIRST_PROBES, record.first_probes),
+        (place::DEMAND, record.demand),
+        (place::SUPPLY, record.supply),
+    ];
+    assert_eq!(others.map(|(_, number)| number), [36, 37, 38, 39, 40]);
+    assert_eq!(others.map(|(place, _)| left[place]), [36, 37, 38, 39, 40]);
     assert_eq!(party.store(), words);
 }
 
 #[test]
 fn a_refused_call_leaves_the_session() {
-    let (mut session, mut kept) = collected(1);
-    let (before, totals) = (session.store(), kept.totals);
+    let mut session = collected(1);
+    let before = session.store();
     for (bidder, shares, refusal) in [
         (0, &[1; 4][..], Refusal::OutOfRange),
         (1, &[1; 3], Refusal::WrongLength),
         (BIDDER, &[1; 4], Refusal::AlreadyEntered),
         (1, &[PRIME; 4], Refusal::ShareOutOfRange),
     ] {
-        assert_eq!(session.add(&mut kept.totals, bidder, shares), Err(refusal));
-        assert_eq!((session.store(), kept.totals), (before, totals));
+        assert_eq!(session.add(bidder, shares), Err(refusal));
+        assert_eq!(session.store(), before);
     }
 
-    let mut party = session.speak(&kept.totals, &kept.sheets);
-    let (before, own) = (party.store(), party.say().unwrap());
+    let mut party = session.speak(sheets(N, 1, K));
+    let (before, message) = (party.store(), party.say().unwrap());
+    let own = message[0];
     for (messages, refusal) in [
         (&[own, own][..], Refusal::WrongLength),
         (&[own + 1, own, own], Refusal::OwnMessageDiffers),
         (&[own, own, PRIME], Refusal::Inconsistent),
         (&[own, own, own + 1], Refusal::Inconsistent),
     ] {
-        assert_eq!(party.hear(messages, &[1; 3]), Err(refusal));
-        assert_eq!((party.store(), party.say()), (before, Ok(own)));
+        assert_eq!(party.hear(&from_all(messages)), Err(refusal));
+        assert_eq!((party.store(), party.say()), (before.clone(), Ok(message)));
     }
+}
+
+/// A message of another length is refused in any place, also where all words together
+/// are as many as they should be.
+#[test]
+fn a_message_of_another_length() {
+    let mut parties = panel(N, K, &[(BIDDER, &TABLE)]);
+    let good: Vec<Vec<u64>> = parties.iter().map(|it| it.say().unwrap().to_vec()).collect();
+    let before = parties[0].store();
+    let mut hear = |round: &[Vec<u64>]| {
+        let round: Vec<_> = round.iter().map(|said| Some(&said[..])).collect();
+        parties[0].hear(&round)
+    };
+    for place in 0..3 {
+        for other in [vec![], vec![good[place][0], 0], vec![good[place][0]; 4]] {
+            let mut round = good.clone();
+            round[place] = other;
+            assert_eq!(hear(&round), Err(Refusal::WrongLength));
+            round[(place + 1) % 3] = vec![];
+            assert_eq!(hear(&round), Err(Refusal::WrongLength));
+        }
+    }
+    assert_eq!(hear(&good), Ok(()));
+    assert_ne!(parties[0].store(), before);
 }
 
 #[test]
 fn a_session_resumed_after_every_call_comes_to_its_answer() {
-    let (sessions, kept): (Vec<_>, Vec<_>) = (1..=N).map(collected).unzip();
-    let mut parties: Vec<Speaking> = sessions
-        .iter()
-        .zip(&kept)
-        .map(|(session, Kept { totals, sheets })| {
-            let session = Collecting::resume(&session.store()).unwrap();
-            session.speak(totals, sheets)
+    let mut parties: Vec<Speaking> = (1..=N)
+        .map(|own| {
+            let session = Collecting::resume(&collected(own).store()).unwrap();
+            session.speak(sheets(N, own, K))
         })
         .collect();
-    while !parties[0].is_over() {
-        let messages = messages(&parties);
-        for (party, Kept { totals, sheets }) in parties.iter_mut().zip(&kept) {
-            party.hear(&messages, &[1; 3]).unwrap();
-            let resumed = Speaking::resume(&party.store(), totals, sheets).unwrap();
-            assert_eq!(resumed, *party);
+    while parties[0].outcome() == Ok(None) {
+        let messages = said(&parties);
+        for (own, party) in (1..).zip(&mut parties) {
+            party.hear(&messages).unwrap();
+            let resumed = Speaking::resume(&party.store(), sheets(N, own, K)).unwrap();
+            assert_eq!(resumed.store(), party.store());
+            assert_eq!(resumed.say(), party.say());
             *party = resumed;
         }
     }
-    let answer = Answer {
-        index: 1,
+    let outcome = Outcome::Price {
+        index: 1.try_into().unwrap(),
         probes: 3,
+        cleared: Cleared::new(5, 1).unwrap(),
     };
     for party in &parties {
-        assert_eq!(party.answer(), Ok(answer));
+        assert_eq!(party.outcome(), Ok(Some(outcome)));
         assert_eq!(party.say(), Err(Refusal::OutOfTurn));
     }
 }
 
+/// What either type replies to these words.
+fn resume(stored: &[u64]) -> [Option<Refusal>; 2] {
+    [
+        Collecting::resume(stored).err(),
+        Speaking::resume(stored, Sheets::blank(K, WAY)).err(),
+    ]
+}
+
 #[test]
 fn what_is_not_resumed() {
-    let resume = |stored: &[u64]| {
-        [
-            Collecting::resume(stored).err(),
-            Speaking::resume(stored, &[], &[]).err(),
-        ]
-    };
     let out_of_turn = Some(Refusal::OutOfTurn);
     let opened = with_bids(&[]);
-    assert_eq!(resume(&stored(0, opened)), [None, out_of_turn]);
-    assert_eq!(resume(&stored(1, opened)), [out_of_turn, None]);
-    for first in [2, u64::MAX] {
-        let out_of_range = [Some(Refusal::OutOfRange); 2];
-        assert_eq!(resume(&stored(first, opened)), out_of_range);
+    assert_eq!(resume(&stored(0, &opened, &[0; 4])), [None, out_of_turn]);
+    assert_eq!(resume(&stored(1, &opened, &[0; 4])), [out_of_turn, None]);
+    let out_of_range = [Some(Refusal::OutOfRange); 2];
+    for phase in [2, u64::MAX] {
+        assert_eq!(resume(&stored(phase, &opened, &[0; 4])), out_of_range);
     }
-    // Eleven words were a session before there was a roll, 27 before there was a
-    // second search, and 30 before there were totals.
-    for length in [0, 11, 27, 30, RECORD_LEN, STORED_LEN + 1] {
-        let wrong_length = [Some(Refusal::WrongLength); 2];
-        assert_eq!(resume(&vec![7; length]), wrong_length);
+    for phase in [0, 1] {
+        let good = stored(phase, &opened, &[0; 4]);
+        assert_eq!(good.len(), stored_len(K));
+        let mut longer = good.clone();
+        longer.resize(stored_len(K) + 40, 0);
+        for length in (0..longer.len()).filter(|&length| length != good.len()) {
+            assert_eq!(resume(&longer[..length]), [Some(Refusal::WrongLength); 2]);
+        }
+        for version in [0, VERSION + 1, 33, u64::MAX] {
+            let mut other = good.clone();
+            other[0] = version;
+            assert_eq!(resume(&other), out_of_range);
+            assert_eq!(resume(&other[..2]), out_of_range);
+        }
+        for k in [0, MAX_PRICES + 1, 1 << 63, (1 << 63) + K, u64::MAX] {
+            let mut record = opened;
+            record[place::K] = k;
+            assert_eq!(resume(&stored(phase, &record, &[0; 4])), out_of_range);
+            assert_eq!(resume(&stored(phase, &record, &[])), out_of_range);
+        }
+        // Eleven words were a session before there was a roll, 27 before there was a
+        // second search, 30 before there were totals, and 32 before there was a version.
+        let unversioned = [&[phase], &opened[..]].concat();
+        for length in [11, 27, 30, 32] {
+            assert_eq!(resume(&unversioned[..length]), out_of_range);
+        }
     }
 }
 

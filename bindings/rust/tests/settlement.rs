@@ -2,8 +2,8 @@
 //! bytes before the newline."
 
 use clockivy::{
-    words, Cleared, Line, Refusal, Settlement, Side, ENTRIES_LEN, HIGHEST_PRICE, LINE_LEN,
-    MAX_AMOUNT, MAX_BIDS, MAX_PAGE_LEN,
+    words, Cleared, Line, Refusal, Settlement, Side, HIGHEST_PRICE, LINE_LEN, MAX_AMOUNT, MAX_BIDS,
+    MAX_PAGE_LEN, SETTLEMENT_LEN,
 };
 
 const SAMPLE: &str = "   1   buy        30.0        12.5                    1375 0\n";
@@ -38,29 +38,29 @@ fn page(price: u64, lines: &[Line]) -> String {
     String::from_utf8(page).unwrap()
 }
 
-/// The entries of a settlement, for the calls on words.
-fn entries(lines: &[Line]) -> Vec<u64> {
-    let mut entries = vec![0; ENTRIES_LEN];
+/// The amounts of a settlement, for the calls on words.
+fn amounts(lines: &[Line]) -> Vec<u64> {
+    let mut amounts = vec![0; SETTLEMENT_LEN];
     for line in lines {
         let place = 4 * (line.bidder as usize - 1) + 2 * line.side as usize;
-        entries[place..place + 2].copy_from_slice(&[line.wanted, line.got]);
+        amounts[place..place + 2].copy_from_slice(&[line.wanted, line.got]);
     }
-    entries
+    amounts
 }
 
 /// What writing on words replies, with so much room. A refusal changes nothing.
-fn write(price: u64, entries: &[u64], room: usize) -> u64 {
+fn write(price: u64, amounts: &[u64], room: usize) -> u64 {
     let (mut page, mut written) = (vec![b'?'; room], 77);
-    let reply = words::settlement_write(price, entries, &mut page, &mut written);
+    let reply = words::settlement_write(price, amounts, &mut page, &mut written);
     assert!(reply == 0 || (written == 77 && page.iter().all(|&byte| byte == b'?')));
     reply
 }
 
-/// What reading on words replies, with room for so many entries.
+/// What reading on words replies, with room for so many amounts.
 fn read(price: u64, page: &[u8], length: usize) -> u64 {
-    let mut entries = vec![99; length];
-    let reply = words::settlement_read(price, page, &mut entries);
-    assert!(reply == 0 || entries.iter().all(|&entry| entry == 99));
+    let mut amounts = vec![99; length];
+    let reply = words::settlement_read(price, page, &mut amounts);
+    assert!(reply == 0 || amounts.iter().all(|&amount| amount == 99));
     reply
 }
 
@@ -164,7 +164,7 @@ fn got_above_wanted_is_6() {
         bought(500, MAX_AMOUNT + 1, 0),
         bought(500, u64::MAX, u64::MAX),
     ] {
-        assert_eq!(write(110, &entries(&[line]), LINE_LEN), 6);
+        assert_eq!(write(110, &amounts(&[line]), LINE_LEN), 6);
     }
 }
 
@@ -210,7 +210,7 @@ fn reading_at_the_same_price_gives_the_same_back() {
 }
 
 #[test]
-fn a_page_that_no_entries_lay_out_to_is_13() {
+fn a_page_that_no_amounts_lay_out_to_is_13() {
     let torn = |page: &str| Settlement::read(110, page.as_bytes()) == Err(Refusal::Malformed);
     assert!(!torn(SAMPLE) && !torn(""));
     for (shown, other) in [
@@ -276,24 +276,31 @@ fn a_page_too_short_is_17_judged_last() {
         assert_eq!(refused, Err(Refusal::PageTooShort));
         assert!(page.iter().all(|&byte| byte == b'?'));
     }
-    let good = entries(&[bought(1, 300, 125), sold(9, 125, 125)]);
-    let above = entries(&[bought(1, 300, 301)]);
+    let good = amounts(&[bought(1, 300, 125), sold(9, 125, 125)]);
+    let above = amounts(&[bought(1, 300, 301)]);
     assert_eq!(write(110, &good, 121), 17);
     assert_eq!(write(110, &above, 0), 6);
-    assert_eq!(write(110, &above[..ENTRIES_LEN - 1], 0), 2);
-    assert_eq!(write(0, &above[..ENTRIES_LEN - 1], 0), 1);
+    assert_eq!(write(110, &above[..SETTLEMENT_LEN - 1], 0), 2);
+    assert_eq!(write(0, &above[..SETTLEMENT_LEN - 1], 0), 1);
 }
 
 #[test]
-fn entries_are_4_000() {
-    for length in [0, 1, ENTRIES_LEN - 4, ENTRIES_LEN - 1, ENTRIES_LEN + 1] {
+fn amounts_are_4_000() {
+    assert_eq!(SETTLEMENT_LEN, 4_000);
+    for length in [
+        0,
+        1,
+        SETTLEMENT_LEN - 4,
+        SETTLEMENT_LEN - 1,
+        SETTLEMENT_LEN + 1,
+    ] {
         assert_eq!(write(110, &vec![0; length], LINE_LEN), 2);
         assert_eq!(read(110, SAMPLE.as_bytes(), length), 2);
         assert_eq!(read(110, b"?", length), 2);
         assert_eq!(read(0, b"?", length), 1);
     }
-    assert_eq!(read(110, SAMPLE.as_bytes(), ENTRIES_LEN), 0);
-    assert_eq!(read(110, b"?", ENTRIES_LEN), 13);
+    assert_eq!(read(110, SAMPLE.as_bytes(), SETTLEMENT_LEN), 0);
+    assert_eq!(read(110, b"?", SETTLEMENT_LEN), 13);
 }
 
 /// From the totals of an auction to its page: what each buyer works out for itself, told
@@ -303,7 +310,7 @@ fn the_hours_of_an_auction() {
     let cleared = Cleared::new(20, 15).unwrap();
     let mut settlement = settlement(&[sold(1_000, 15, 15)]);
     for (bidder, wanted) in [(17, 13), (4, 7)] {
-        let got = cleared.fill(wanted).unwrap().hours;
+        let got = cleared.fill(wanted).unwrap().tenths;
         settlement.set(bought(bidder, wanted, got)).unwrap();
     }
     assert_eq!(

@@ -4,7 +4,8 @@
 use std::fmt;
 use std::ops::{Deref, DerefMut};
 
-use clockivy_reference::{LINE, MAX_BIDS, MAX_PRICES, RECORD};
+use clockivy::{LINE_LEN, RECORD_LEN};
+use clockivy_reference::{MAX_BIDS, MAX_PRICES};
 
 use crate::engine::Engine;
 
@@ -28,11 +29,11 @@ pub enum Kind {
     Hear,
     /// Asks for the answer. Words: record, the index, the probes.
     Answer,
-    /// Asks for what a buyer gets. Words: record, the hours, the remainder.
+    /// Asks for what a buyer gets. Words: record, the tenths, the remainder.
     Fill,
-    /// Writes a settlement page. Words: entries, the bytes written. Bytes: the page.
+    /// Writes a settlement page. Words: amounts, the bytes written. Bytes: the page.
     SettlementWrite,
-    /// Reads a settlement page. Words: entries. Bytes: the page.
+    /// Reads a settlement page. Words: amounts. Bytes: the page.
     SettlementRead,
 }
 
@@ -287,30 +288,30 @@ impl Call {
         Call::new(Kind::Answer, [0; 3], &[record, &[index], &[probes]])
     }
 
-    /// Asks for what a buyer gets, into words that hold `hours` and `remainder`.
-    pub fn fill(record: &[u64], amount: u64, hours: u64, remainder: u64) -> Call {
+    /// Asks for what a buyer gets, into words that hold `tenths` and `remainder`.
+    pub fn fill(record: &[u64], amount: u64, tenths: u64, remainder: u64) -> Call {
         Call {
             amount,
-            ..Call::new(Kind::Fill, [0; 3], &[record, &[hours], &[remainder]])
+            ..Call::new(Kind::Fill, [0; 3], &[record, &[tenths], &[remainder]])
         }
     }
 
     /// Writes a settlement page into bytes that hold `page`, and their number into a
     /// word that holds `written`.
-    pub fn settlement_write(price: u64, entries: &[u64], page: &[u8], written: u64) -> Call {
+    pub fn settlement_write(price: u64, amounts: &[u64], page: &[u8], written: u64) -> Call {
         Call {
             price,
             bytes: Lent::new(page),
-            ..Call::new(Kind::SettlementWrite, [0; 3], &[entries, &[written]])
+            ..Call::new(Kind::SettlementWrite, [0; 3], &[amounts, &[written]])
         }
     }
 
-    /// Reads a settlement page, into words that hold `entries`.
-    pub fn settlement_read(price: u64, page: &[u8], entries: &[u64]) -> Call {
+    /// Reads a settlement page, into words that hold `amounts`.
+    pub fn settlement_read(price: u64, page: &[u8], amounts: &[u64]) -> Call {
         Call {
             price,
             bytes: Lent::new(page),
-            ..Call::new(Kind::SettlementRead, [0; 3], &[entries])
+            ..Call::new(Kind::SettlementRead, [0; 3], &[amounts])
         }
     }
 
@@ -318,13 +319,13 @@ impl Call {
     pub fn judged_record(&self) -> Option<&[u64]> {
         let place = self.kind.record()?;
         let record = &self.words[place];
-        (Kind::ON_RECORDS.contains(&self.kind) && record.len() == RECORD).then_some(record)
+        (Kind::ON_RECORDS.contains(&self.kind) && record.len() == RECORD_LEN).then_some(record)
     }
 
     /// Whether the call is lent a record that has not the length of one.
     pub fn lacks_record(&self) -> bool {
         let place = self.kind.record();
-        place.is_some_and(|place| self.words[place].len() != RECORD)
+        place.is_some_and(|place| self.words[place].len() != RECORD_LEN)
     }
 
     /// Whether what the call judges without a record is within its range: the numbers
@@ -361,14 +362,14 @@ impl Call {
             (Kind::Answer, [record, index, probes]) => {
                 E::answer(record, &mut index[0], &mut probes[0])
             }
-            (Kind::Fill, [record, hours, remainder]) => {
-                E::fill(record, self.amount, &mut hours[0], &mut remainder[0])
+            (Kind::Fill, [record, tenths, remainder]) => {
+                E::fill(record, self.amount, &mut tenths[0], &mut remainder[0])
             }
-            (Kind::SettlementWrite, [entries, written]) => {
-                E::settlement_write(self.price, entries, &mut self.bytes, &mut written[0])
+            (Kind::SettlementWrite, [amounts, written]) => {
+                E::settlement_write(self.price, amounts, &mut self.bytes, &mut written[0])
             }
-            (Kind::SettlementRead, [entries]) => {
-                E::settlement_read(self.price, &self.bytes, entries)
+            (Kind::SettlementRead, [amounts]) => {
+                E::settlement_read(self.price, &self.bytes, amounts)
             }
             _ => unreachable!("each kind of call is made with its own buffers"),
         }
@@ -393,11 +394,11 @@ impl fmt::Display for Call {
         for (place, words) in self.words.iter().enumerate() {
             // A record is shown whole.
             let is_record = self.kind.record() == Some(place);
-            let most = if is_record { RECORD } else { SHOWN };
+            let most = if is_record { RECORD_LEN } else { SHOWN };
             write!(f, "\n  {} words: {}", words.len(), start(words, most))?;
         }
         if self.kind.has_page() {
-            let lines = &self.bytes[..self.bytes.len().min(SHOWN * LINE)];
+            let lines = &self.bytes[..self.bytes.len().min(SHOWN * LINE_LEN)];
             let text = lines.escape_ascii();
             write!(f, "\n  {} bytes, as text: {text}", self.bytes.len())?;
         } else if self.kind.has_bytes() {

@@ -4,18 +4,21 @@
 //! order or some bytes. Some damage leaves the call acceptable; that is for the
 //! comparison to find out.
 
+use clockivy::words::place::{
+    BIDS, CARRY, DEMAND, FIRST, FIRST_PROBES, HI, K, LO, N, OWN, PROBES, ROLL, ROUND, SEARCH, SUM,
+    SUPPLY,
+};
+use clockivy::{LINE_LEN, RECORD_LEN};
 use clockivy_reference::field::amount::P;
 use clockivy_reference::{
-    probe_limit, FIRST_SEARCH, HIGHEST_PRICE, LAST_ROUND, LINE, MASK_LIMIT, MAX_AMOUNT, MAX_BIDS,
-    MAX_PRICES, NO_MORE_ROUNDS, RECORD, SECOND_SEARCH, SHEET, SUM_LIMIT, TOTAL_LIMIT,
+    probe_limit, FIRST_SEARCH, HIGHEST_PRICE, LAST_ROUND, MASK_LIMIT, MAX_AMOUNT, MAX_BIDS,
+    MAX_PRICES, NO_MORE_ROUNDS, SECOND_SEARCH, SUM_LIMIT, TOTAL_LIMIT,
 };
+use clockivy_testing::WAY;
 
 use crate::call::{Call, Kind, Lent};
 use crate::page::{reply, FAULTS};
-use crate::record::{
-    has_bid, index, mark, marks, unmark, BIDS, CARRY, DEMAND, FIRST, FIRST_PROBES, HI, K, LO, N,
-    NOBODY, OWN, PROBES, ROLL, ROUND, SEARCH, SUM, SUPPLY,
-};
+use crate::record::{has_bid, index, mark, marks, unmark, NOBODY};
 use crate::rng::Rng;
 use crate::soundness::CLAUSES;
 
@@ -105,21 +108,21 @@ fn price(rng: &mut Rng, call: &mut Call) {
 
 /// Changes what a bidder wants or gets.
 fn pair(rng: &mut Rng, call: &mut Call) {
-    let entries = &mut call.words[0];
-    let pairs = entries.len() / 2;
+    let amounts = &mut call.words[0];
+    let pairs = amounts.len() / 2;
     if pairs == 0 {
         return;
     }
     // A pair that has a line, if there is one from here on.
     let any = rng.place(pairs);
-    let pair = (any..pairs).find(|pair| entries[2 * pair] > 0);
+    let pair = (any..pairs).find(|pair| amounts[2 * pair] > 0);
     let place = 2 * pair.unwrap_or(any);
-    let (wanted, got) = (entries[place], entries[place + 1]);
+    let (wanted, got) = (amounts[place], amounts[place + 1]);
     let near = [wanted.wrapping_add(1), got.wrapping_sub(1), MAX_AMOUNT + 1];
     match rng.below(4) {
-        0 => entries[place] = value(rng, wanted, &near),
-        1..=2 => entries[place + 1] = value(rng, got, &near),
-        _ => entries[place..place + 2].fill(rng.pick(&[0, MAX_AMOUNT, MAX_AMOUNT + 1])),
+        0 => amounts[place] = value(rng, wanted, &near),
+        1..=2 => amounts[place + 1] = value(rng, got, &near),
+        _ => amounts[place..place + 2].fill(rng.pick(&[0, MAX_AMOUNT, MAX_AMOUNT + 1])),
     }
 }
 
@@ -127,7 +130,7 @@ fn pair(rng: &mut Rng, call: &mut Call) {
 /// mostly leaves faults.
 fn page(rng: &mut Rng, call: &mut Call) {
     let mut page = call.bytes.to_vec();
-    let lines = page.len() / LINE;
+    let lines = page.len() / LINE_LEN;
     if lines > 0 && rng.once_in(2) && reply(call) == 0 {
         FAULTS[rng.place(FAULTS.len())].make(rng, call.price, &mut page);
     } else if lines > 0 && rng.once_in(2) {
@@ -140,14 +143,14 @@ fn page(rng: &mut Rng, call: &mut Call) {
 
 /// Takes a line out of a page, puts it in at some other place, or does both.
 fn move_line(rng: &mut Rng, page: &mut Vec<u8>, lines: usize) {
-    let start = LINE * rng.place(lines);
-    let line = page[start..start + LINE].to_vec();
+    let start = LINE_LEN * rng.place(lines);
+    let line = page[start..start + LINE_LEN].to_vec();
     let way = rng.below(4);
     if way > 0 {
-        page.drain(start..start + LINE);
+        page.drain(start..start + LINE_LEN);
     }
     if way < 3 {
-        let place = LINE * rng.place(page.len() / LINE + 1);
+        let place = LINE_LEN * rng.place(page.len() / LINE_LEN + 1);
         page.splice(place..place, line);
     }
 }
@@ -189,7 +192,7 @@ fn other_length(rng: &mut Rng, length: usize) -> usize {
         0 => 0,
         1 => 2 * length,
         2 => length / 2,
-        3 => length + SHEET,
+        3 => length + WAY.sheet_len(),
         4 => rng.place(length + 20),
         5..=6 => length + 1,
         _ => length.saturating_sub(1),
@@ -199,7 +202,7 @@ fn other_length(rng: &mut Rng, length: usize) -> usize {
 /// Changes the record.
 fn record(rng: &mut Rng, call: &mut Call) {
     let record = match call.kind.record() {
-        Some(place) if call.words[place].len() == RECORD => &mut call.words[place],
+        Some(place) if call.words[place].len() == RECORD_LEN => &mut call.words[place],
         _ => return,
     };
     match rng.below(5) {
@@ -259,48 +262,9 @@ const FIELDS: [usize; 15] = [
 /// Changes a field of the record beside the roll.
 fn field(rng: &mut Rng, record: &mut [u64]) {
     let field = rng.pick(&FIELDS);
-    let [n, own, k, bids, lo, hi, probes, ..] = record[..] else {
-        unreachable!("it has the words of a record");
-    };
-    let [search, first, first_probes] = [SEARCH, FIRST, FIRST_PROBES].map(|place| record[place]);
-    let [demand, supply] = [DEMAND, SUPPLY].map(|place| record[place]);
-    // The last index that the search may give, and the most probes by its end.
-    let (last, most) = match search {
-        SECOND_SEARCH => (first, first_probes.wrapping_add(probe_limit(first))),
-        _ => (k, probe_limit(k)),
-    };
     let near = match field {
-        N => [2, 3, 9, 10, own],
-        OWN => [0, 1, n, n.wrapping_add(1), own ^ 1],
-        K => [0, MAX_PRICES, MAX_PRICES + 1, hi.wrapping_sub(1), first],
-        BIDS => [
-            0,
-            bids.wrapping_sub(1),
-            bids.wrapping_add(1),
-            MAX_BIDS,
-            MAX_BIDS + 1,
-        ],
-        LO => [
-            0,
-            hi.wrapping_sub(2),
-            hi.wrapping_sub(1),
-            hi,
-            hi.wrapping_add(1),
-        ],
-        HI => [
-            0,
-            lo,
-            lo.wrapping_add(1),
-            last.wrapping_add(1),
-            last.wrapping_add(2),
-        ],
-        PROBES => [
-            first_probes,
-            first_probes.wrapping_sub(1),
-            most.wrapping_sub(1),
-            most,
-            most.wrapping_add(1),
-        ],
+        N | OWN | K | BIDS => near_size(field, record),
+        LO | HI | PROBES | SEARCH | FIRST | FIRST_PROBES => near_search(rng, field, record),
         ROUND => [
             rng.below(3),
             LAST_ROUND,
@@ -309,38 +273,60 @@ fn field(rng: &mut Rng, record: &mut [u64]) {
             NO_MORE_ROUNDS + 1,
         ],
         SUM => [0, 1, SUM_LIMIT - 1, SUM_LIMIT, SUM_LIMIT + 1],
-        SEARCH => [0, FIRST_SEARCH, SECOND_SEARCH, 3, search ^ 3],
-        FIRST => [
-            0,
-            1,
-            k,
-            k.wrapping_add(1),
-            hi.wrapping_sub(rng.between(1, 2)),
-        ],
-        FIRST_PROBES => [
-            0,
-            1,
-            probe_limit(k).wrapping_add(rng.below(2)),
-            probes,
-            probes.wrapping_add(1),
-        ],
-        DEMAND => [
-            0,
-            supply.wrapping_sub(1),
-            supply,
-            TOTAL_LIMIT - 1,
-            TOTAL_LIMIT,
-        ],
-        SUPPLY => [
-            0,
-            demand,
-            demand.wrapping_add(1),
-            TOTAL_LIMIT - 1,
-            TOTAL_LIMIT,
-        ],
+        DEMAND => {
+            let supply = record[SUPPLY];
+            let below = supply.wrapping_sub(1);
+            [0, below, supply, TOTAL_LIMIT - 1, TOTAL_LIMIT]
+        }
+        SUPPLY => {
+            let demand = record[DEMAND];
+            let above = demand.wrapping_add(1);
+            [0, demand, above, TOTAL_LIMIT - 1, TOTAL_LIMIT]
+        }
         _ => [0, 1, 255, 256, 511],
     };
     record[field] = value(rng, record[field], &near);
+}
+
+/// What is at or next to a limit of the parties, the prices or the bids.
+fn near_size(field: usize, record: &[u64]) -> [u64; 5] {
+    let [n, own, bids, hi, first] = [N, OWN, BIDS, HI, FIRST].map(|place| record[place]);
+    match field {
+        N => [2, 3, 9, 10, own],
+        OWN => [0, 1, n, n.wrapping_add(1), own ^ 1],
+        K => [0, MAX_PRICES, MAX_PRICES + 1, hi.wrapping_sub(1), first],
+        _ => {
+            let (fewer, more) = (bids.wrapping_sub(1), bids.wrapping_add(1));
+            [0, fewer, more, MAX_BIDS, MAX_BIDS + 1]
+        }
+    }
+}
+
+/// What is at or next to a limit of the search that is on.
+fn near_search(rng: &mut Rng, field: usize, record: &[u64]) -> [u64; 5] {
+    let [k, lo, hi, probes] = [K, LO, HI, PROBES].map(|place| record[place]);
+    let [search, first, first_probes] = [SEARCH, FIRST, FIRST_PROBES].map(|place| record[place]);
+    // The last index that the search may give, and the most probes by its end.
+    let (last, most) = match search {
+        SECOND_SEARCH => (first, first_probes.wrapping_add(probe_limit(first))),
+        _ => (k, probe_limit(k)),
+    };
+    let below = |number: u64, step| number.wrapping_sub(step);
+    let above = |number: u64, step| number.wrapping_add(step);
+    match field {
+        LO => [0, below(hi, 2), below(hi, 1), hi, above(hi, 1)],
+        HI => [0, lo, above(lo, 1), above(last, 1), above(last, 2)],
+        PROBES => {
+            let before = below(first_probes, 1);
+            [first_probes, before, below(most, 1), most, above(most, 1)]
+        }
+        SEARCH => [0, FIRST_SEARCH, SECOND_SEARCH, 3, search ^ 3],
+        FIRST => [0, 1, k, above(k, 1), below(hi, rng.between(1, 2))],
+        _ => {
+            let limit = above(probe_limit(k), rng.below(2));
+            [0, 1, limit, probes, above(probes, 1)]
+        }
+    }
 }
 
 /// Changes one word of a slice: the first, the last, one that the call uses,
@@ -367,7 +353,7 @@ fn word(rng: &mut Rng, call: &mut Call) {
 
 /// A place that a saying or hearing uses.
 fn used(rng: &mut Rng, call: &Call, slice: usize) -> Option<usize> {
-    if !matches!(call.kind, Kind::Say | Kind::Hear) || call.words[0].len() != RECORD {
+    if !matches!(call.kind, Kind::Say | Kind::Hear) || call.words[0].len() != RECORD_LEN {
         return None;
     }
     let [n, own, k, _, lo, hi, probes, ..] = call.words[0][..] else {
@@ -379,7 +365,7 @@ fn used(rng: &mut Rng, call: &Call, slice: usize) -> Option<usize> {
     let index = index(&call.words[0]) as u64;
     let place = match slice {
         1 => index.saturating_sub(1).saturating_add(rng.pick(&[0, k])),
-        2 => probes * SHEET as u64 + rng.pick(&[0, 1, 33, 34, 64, 126]),
+        2 => probes * WAY.sheet_len() as u64 + rng.pick(&[0, 1, 33, 34, 64, 126]),
         _ => own.saturating_sub(1),
     };
     Some(place as usize)

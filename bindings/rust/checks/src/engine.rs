@@ -38,11 +38,11 @@ pub trait Engine {
     /// Asks for the answer.
     fn answer(record: &[u64], index: &mut u64, probes: &mut u64) -> u64;
     /// Asks for what a buyer gets.
-    fn fill(record: &[u64], amount: u64, hours: &mut u64, remainder: &mut u64) -> u64;
+    fn fill(record: &[u64], amount: u64, tenths: &mut u64, remainder: &mut u64) -> u64;
     /// Writes a settlement page.
-    fn settlement_write(price: u64, entries: &[u64], page: &mut [u8], written: &mut u64) -> u64;
+    fn settlement_write(price: u64, amounts: &[u64], page: &mut [u8], written: &mut u64) -> u64;
     /// Reads a settlement page.
-    fn settlement_read(price: u64, page: &[u8], entries: &mut [u64]) -> u64;
+    fn settlement_read(price: u64, page: &[u8], amounts: &mut [u64]) -> u64;
 }
 
 macro_rules! engine {
@@ -106,21 +106,21 @@ macro_rules! engine {
                 $library::answer(record, index, probes)
             }
 
-            fn fill(record: &[u64], amount: u64, hours: &mut u64, remainder: &mut u64) -> u64 {
-                $library::fill(record, amount, hours, remainder)
+            fn fill(record: &[u64], amount: u64, tenths: &mut u64, remainder: &mut u64) -> u64 {
+                $library::fill(record, amount, tenths, remainder)
             }
 
             fn settlement_write(
                 price: u64,
-                entries: &[u64],
+                amounts: &[u64],
                 page: &mut [u8],
                 written: &mut u64,
             ) -> u64 {
-                $library::settlement_write(price, entries, page, written)
+                $library::settlement_write(price, amounts, page, written)
             }
 
-            fn settlement_read(price: u64, page: &[u8], entries: &mut [u64]) -> u64 {
-                $library::settlement_read(price, page, entries)
+            fn settlement_read(price: u64, page: &[u8], amounts: &mut [u64]) -> u64 {
+                $library::settlement_read(price, page, amounts)
             }
         }
     };

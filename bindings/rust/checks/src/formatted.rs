@@ -4,9 +4,10 @@
 
 use std::fmt::Write;
 
-use clockivy_reference::{ENTRIES, LINE, MAX_AMOUNT};
+use clockivy::{LINE_LEN, SETTLEMENT_LEN};
+use clockivy_reference::MAX_AMOUNT;
 
-/// The sides, in the order of the entries.
+/// The sides, in the order of the amounts.
 pub const SIDES: [&str; 2] = ["buy", "sell"];
 
 /// What stands on a line.
@@ -24,16 +25,16 @@ pub struct Row {
     pub due: u64,
 }
 
-/// The rows of entries at a price: what wants 0 has none. Amounts are in range.
-pub fn rows(price: u64, entries: &[u64]) -> impl Iterator<Item = Row> + '_ {
-    let pairs = entries.chunks_exact(2).enumerate();
-    let wanting = pairs.filter(|(_, amounts)| amounts[0] > 0);
-    wanting.map(move |(pair, amounts)| Row {
+/// The rows of amounts at a price: what wants 0 has none. All are in range.
+pub fn rows(price: u64, amounts: &[u64]) -> impl Iterator<Item = Row> + '_ {
+    let pairs = amounts.chunks_exact(2).enumerate();
+    let wanting = pairs.filter(|(_, words)| words[0] > 0);
+    wanting.map(move |(pair, words)| Row {
         bidder: pair as u64 / 2 + 1,
         side: pair % 2,
-        wanted: amounts[0],
-        got: amounts[1],
-        due: amounts[1] * price,
+        wanted: words[0],
+        got: words[1],
+        due: words[1] * price,
     })
 }
 
@@ -70,27 +71,27 @@ pub fn write(rows: impl Iterator<Item = Row>, page: &mut String) {
     }
 }
 
-/// The entries that lay out to a page, where there are any: what stands on it is taken
+/// The amounts that lay out to a page, where there are any: what stands on it is taken
 /// for granted, and laid out anew.
 pub fn read(price: u64, page: &[u8]) -> Option<Vec<u64>> {
     let text = std::str::from_utf8(page).ok()?;
-    let mut entries = vec![0; ENTRIES];
+    let mut amounts = vec![0; SETTLEMENT_LEN];
     for line in text.lines() {
         let mut words = line.split_whitespace();
         let bidder: u16 = words.next()?.parse().ok()?;
         let name = words.next()?;
         let side = SIDES.iter().position(|&side| side == name)?;
         let place = 4 * usize::from(bidder.checked_sub(1)?) + 2 * side;
-        *entries.get_mut(place)? = tenths(words.next()?)?;
-        *entries.get_mut(place + 1)? = tenths(words.next()?)?;
+        *amounts.get_mut(place)? = tenths(words.next()?)?;
+        *amounts.get_mut(place + 1)? = tenths(words.next()?)?;
     }
     let in_range = |pair: &[u64]| pair[0] <= MAX_AMOUNT && pair[1] <= pair[0];
-    if !entries.chunks_exact(2).all(in_range) {
+    if !amounts.chunks_exact(2).all(in_range) {
         return None;
     }
-    let mut anew = String::with_capacity(page.len() + LINE);
-    write(rows(price, &entries), &mut anew);
-    (anew.as_bytes() == page).then_some(entries)
+    let mut anew = String::with_capacity(page.len() + LINE_LEN);
+    write(rows(price, &amounts), &mut anew);
+    (anew.as_bytes() == page).then_some(amounts)
 }
 
 /// The tenths of hours that are shown with one decimal.

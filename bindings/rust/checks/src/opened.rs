@@ -1,11 +1,11 @@
 //! Why what was opened is refused with 11: a statement beside those of the two
 //! implementations, by which such hearings are counted.
 
+use clockivy::words::place::{DEMAND, N, ROUND, SUPPLY};
 use clockivy_reference::field::amount;
 use clockivy_reference::{threshold, DEMAND_ROUND, SUM_LIMIT, SUM_LOW, SUPPLY_ROUND, TOTAL_LIMIT};
 
 use crate::call::Call;
-use crate::record::{DEMAND, N, ROUND, SUPPLY};
 
 /// A reason, by the record of the hearing and what its messages open to.
 struct Reason {

@@ -6,14 +6,15 @@ use std::iter;
 use std::ops::Range;
 use std::str;
 
-use clockivy_reference::{ENTRIES, HIGHEST_PRICE, LINE, MAX_AMOUNT, MAX_BIDS};
+use clockivy::{LINE_LEN, SETTLEMENT_LEN};
+use clockivy_reference::{HIGHEST_PRICE, MAX_AMOUNT, MAX_BIDS};
 
 use crate::call::{Call, Kind};
 use crate::formatted::{self, Row, SIDES};
 use crate::rng::Rng;
 
-/// The pairs of entries: two for each bidder.
-const PAIRS: usize = ENTRIES / 2;
+/// The pairs of amounts: two for each bidder.
+const PAIRS: usize = SETTLEMENT_LEN / 2;
 
 /// The columns of a line.
 const BIDDER: Range<usize> = 0..4;
@@ -26,7 +27,7 @@ const END: usize = 60;
 /// What a line shows, and where it stands. What its columns do not show is none.
 struct Shown {
     price: u128,
-    /// The first pair of entries that it may be of.
+    /// The first pair of amounts that it may be of.
     next: usize,
     whole: bool,
     ended: bool,
@@ -45,7 +46,7 @@ impl Shown {
         Shown {
             price: price.into(),
             next,
-            whole: line.len() == LINE,
+            whole: line.len() == LINE_LEN,
             ended: line.get(END) == Some(&b'\n'),
             bidder: text(BIDDER).and_then(number),
             side: SIDES.iter().position(side),
@@ -55,7 +56,7 @@ impl Shown {
         }
     }
 
-    /// The number of its pair of entries, where the bidder and the side are some.
+    /// The number of its pair of amounts, where the bidder and the side are some.
     fn pair(&self) -> Option<usize> {
         let bidder = self.bidder?.checked_sub(1)? as usize;
         Some(2 * bidder + self.side?)
@@ -88,7 +89,7 @@ impl Fault {
     /// Makes the fault in some line of a page that is laid out at this price and has
     /// any: it is the first that is found.
     pub fn make(&self, rng: &mut Rng, price: u64, page: &mut Vec<u8>) {
-        let line = rng.place(page.len() / LINE);
+        let line = rng.place(page.len() / LINE_LEN);
         (self.make)(rng, &mut Torn { price, page, line });
     }
 }
@@ -106,7 +107,7 @@ pub const FAULTS: [Fault; 14] = [
     Fault {
         name: "no newline at the end of a line",
         found: |line| !line.ended,
-        make: |rng, torn| torn.columns(END..LINE)[0] = rng.pick(b" \r\0.0\x0B\xFF"),
+        make: |rng, torn| torn.columns(END..LINE_LEN)[0] = rng.pick(b" \r\0.0\x0B\xFF"),
     },
     Fault {
         name: "the bidder is no number",
@@ -237,12 +238,12 @@ struct Torn<'a> {
 
 impl Torn<'_> {
     fn columns(&mut self, columns: Range<usize>) -> &mut [u8] {
-        &mut self.page[self.line * LINE..][columns]
+        &mut self.page[self.line * LINE_LEN..][columns]
     }
 
     /// What the line shows.
     fn row(&self) -> Row {
-        let line = &self.page[self.line * LINE..][..LINE];
+        let line = &self.page[self.line * LINE_LEN..][..LINE_LEN];
         let shown = Shown::of(self.price, 0, line);
         let known = |amount: Option<u128>| amount.expect("it is laid out") as u64;
         Row {
@@ -257,13 +258,13 @@ impl Torn<'_> {
     /// Has the line show something else.
     fn put(&mut self, row: Row) {
         let line = formatted::page(iter::once(row));
-        self.columns(0..LINE).copy_from_slice(line.as_bytes());
+        self.columns(0..LINE_LEN).copy_from_slice(line.as_bytes());
     }
 
     /// Puts a line in.
     fn insert(&mut self, line: usize, row: Row) {
         let inserted = formatted::page(iter::once(row)).into_bytes();
-        self.page.splice(line * LINE..line * LINE, inserted);
+        self.page.splice(line * LINE_LEN..line * LINE_LEN, inserted);
     }
 }
 
@@ -306,7 +307,7 @@ fn no_tenths(rng: &mut Rng, columns: &mut [u8]) {
 /// The first fault of the first line that has any.
 pub fn fault(price: u64, page: &[u8]) -> Option<usize> {
     let mut next = 0;
-    page.chunks(LINE).find_map(|line| {
+    page.chunks(LINE_LEN).find_map(|line| {
         let shown = Shown::of(price, next, line);
         next = shown.pair().map_or(next, |pair| pair + 1);
         FAULTS.iter().position(|fault| (fault.found)(&shown))
@@ -332,7 +333,7 @@ const CASES: [Case; 11] = [
         name: "written: every line there can be",
         kind: Kind::SettlementWrite,
         reply: 0,
-        holds: |call| length(&call.words[0]) == PAIRS * LINE,
+        holds: |call| length(&call.words[0]) == PAIRS * LINE_LEN,
     },
     Case {
         name: "written: to the end of the page",
@@ -380,13 +381,13 @@ const CASES: [Case; 11] = [
         name: "read: some lines",
         kind: Kind::SettlementRead,
         reply: 0,
-        holds: |call| !call.bytes.is_empty() && call.bytes.len() < PAIRS * LINE,
+        holds: |call| !call.bytes.is_empty() && call.bytes.len() < PAIRS * LINE_LEN,
     },
     Case {
         name: "read: every line there can be",
         kind: Kind::SettlementRead,
         reply: 0,
-        holds: |call| call.bytes.len() == PAIRS * LINE,
+        holds: |call| call.bytes.len() == PAIRS * LINE_LEN,
     },
 ];
 
@@ -416,31 +417,31 @@ pub fn conditions(call: &Call, reply: u64) -> impl Iterator<Item = usize> + '_ {
         .chain(fault.map(|fault| CASES.len() + fault))
 }
 
-/// The bytes of the lines of entries.
-pub fn length(entries: &[u64]) -> usize {
-    let wanted = entries.iter().step_by(2);
-    LINE * wanted.filter(|&&wanted| wanted > 0).count()
+/// The bytes of the lines of amounts.
+pub fn length(amounts: &[u64]) -> usize {
+    let wanted = amounts.iter().step_by(2);
+    LINE_LEN * wanted.filter(|&&wanted| wanted > 0).count()
 }
 
 /// What a call on a page has to reply.
 pub fn reply(call: &Call) -> u64 {
-    let (entries, page) = (&call.words[0], &call.bytes);
+    let (amounts, page) = (&call.words[0], &call.bytes);
     let too_large = |pair: &[u64]| pair[0] > MAX_AMOUNT || pair[1] > pair[0];
     match call.kind {
         _ if !(1..=HIGHEST_PRICE).contains(&call.price) => 1,
-        _ if entries.len() != ENTRIES => 2,
+        _ if amounts.len() != SETTLEMENT_LEN => 2,
         Kind::SettlementRead if fault(call.price, page).is_some() => 13,
         Kind::SettlementRead => 0,
-        _ if entries.chunks(2).any(too_large) => 6,
-        _ if page.len() < length(entries) => 17,
+        _ if amounts.chunks(2).any(too_large) => 6,
+        _ if page.len() < length(amounts) => 17,
         _ => 0,
     }
 }
 
 /// Whether a call on a page that is accepted has left what it has to leave.
 pub fn settled(call: &Call, left: &Call) -> bool {
-    let entries = &left.words[0];
-    let page = formatted::page(formatted::rows(call.price, entries)).into_bytes();
+    let amounts = &left.words[0];
+    let page = formatted::page(formatted::rows(call.price, amounts)).into_bytes();
     match call.kind {
         Kind::SettlementRead => page == call.bytes[..],
         _ => {

@@ -1,10 +1,9 @@
 //! Who was present at a hearing, and what it can then reply: a statement beside
 //! those of the two implementations, by which the hearings are counted.
 
-use clockivy_hearings::count;
+use clockivy::words::place::{N, OWN, ROUND};
 use clockivy_reference::{threshold, DEMAND_ROUND, LAST_ROUND, SUPPLY_ROUND};
-
-use crate::record::{N, OWN, ROUND};
+use clockivy_testing::count;
 
 /// The replies for which it counts who was present. A hearing of an unsound
 /// record, one that is lent a wrong length and one when over are refused before.

@@ -1,39 +1,7 @@
-//! The places of a record's fields, and its roll by bidders.
+//! A record's roll by bidders, the index that it is about, and how far it has come.
 
+use clockivy::words::place::{FIRST, HI, LO, ROLL, ROUND, SEARCH};
 use clockivy_reference::{LAST_ROUND, MAX_BIDS, NO_MORE_ROUNDS, SECOND_SEARCH};
-
-/// The number of parties.
-pub const N: usize = 0;
-/// The party's number.
-pub const OWN: usize = 1;
-/// The number of listed prices.
-pub const K: usize = 2;
-/// Bids added.
-pub const BIDS: usize = 3;
-/// The lower end of the search that is on.
-pub const LO: usize = 4;
-/// The upper end of the search that is on.
-pub const HI: usize = 5;
-/// Probes done, of both searches.
-pub const PROBES: usize = 6;
-/// The current round.
-pub const ROUND: usize = 7;
-/// The opened sum of round 1.
-pub const SUM: usize = 8;
-/// The share of the carry.
-pub const CARRY: usize = 9;
-/// The first word of the roll.
-pub const ROLL: usize = 10;
-/// Which search is on.
-pub const SEARCH: usize = ROLL + clockivy_reference::ROLL;
-/// What the first search gave, or 0.
-pub const FIRST: usize = SEARCH + 1;
-/// The probes of the first search, or 0.
-pub const FIRST_PROBES: usize = SEARCH + 2;
-/// Total demand at the price, or 0.
-pub const DEMAND: usize = SEARCH + 3;
-/// Total supply at the price, or 0.
-pub const SUPPLY: usize = SEARCH + 4;
 
 /// The numbers that have a place on the roll and are no bidder's: 0, and those
 /// past the last bidder's.

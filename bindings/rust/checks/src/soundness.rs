@@ -2,16 +2,17 @@
 //! implementations, by which the records of all calls are counted. Each clause
 //! can be broken by itself in a record that is otherwise sound.
 
+use clockivy::words::place::{
+    BIDS, CARRY, DEMAND, FIRST, FIRST_PROBES, HI, K, LO, N, OWN, PROBES, ROUND, SEARCH, SUM, SUPPLY,
+};
+use clockivy::RECORD_LEN;
 use clockivy_reference::{
-    probe_limit, DEMAND_ROUND, FIRST_SEARCH, LAST_ROUND, MAX_PRICES, NO_MORE_ROUNDS, RECORD,
-    SECOND_SEARCH, SUM_LIMIT, SUPPLY_ROUND, TOTAL_LIMIT,
+    probe_limit, DEMAND_ROUND, FIRST_SEARCH, LAST_ROUND, MAX_PRICES, NO_MORE_ROUNDS, SECOND_SEARCH,
+    SUM_LIMIT, SUPPLY_ROUND, TOTAL_LIMIT,
 };
 
 use crate::generate::{any_search, first_search, fit_round, second_search};
-use crate::record::{
-    has_bid, mark, marks, BIDS, CARRY, DEMAND, FIRST, FIRST_PROBES, HI, K, LO, N, NOBODY, OWN,
-    PROBES, ROUND, SEARCH, SUM, SUPPLY,
-};
+use crate::record::{has_bid, mark, marks, NOBODY};
 use crate::rng::Rng;
 
 /// A record's numbers, wide enough to be added and taken from each other.
@@ -477,7 +478,7 @@ pub enum Found {
 
 /// Judges the words of a record.
 pub fn found(record: &[u64]) -> Found {
-    assert_eq!(record.len(), RECORD);
+    assert_eq!(record.len(), RECORD_LEN);
     let numbers = Numbers::of(record);
     let mut broken = (0..CLAUSES.len()).filter(|&clause| (CLAUSES[clause].broken)(&numbers));
     match (broken.next(), broken.next()) {

@@ -63,8 +63,8 @@ pub const NO_MORE_ROUNDS: u64 = 36;
 pub const TOTAL_LIMIT: u64 = 1 << 32;
 /// The highest price of an hour, in pence; the lowest is 1.
 pub const HIGHEST_PRICE: u64 = 1_000_000;
-/// The entries of a settlement: what each bidder wanted and got, buying and selling.
-pub const ENTRIES: usize = 4 * MAX_BIDS as usize;
+/// The amounts of a settlement: what each bidder wanted and got, buying and selling.
+pub const SETTLEMENT: usize = 4 * MAX_BIDS as usize;
 /// The bytes of a line of a settlement page, with its newline.
 pub const LINE: usize = 60 + 1;
 /// The search for the highest index with demand at least supply.
@@ -146,19 +146,20 @@ pub fn answer(record: &[u64], index: &mut u64, probes: &mut u64) -> u64 {
     reply(try_answer(record, index, probes))
 }
 
-/// Writes what a buyer of this amount gets at the price, and the remainder.
-pub fn fill(record: &[u64], amount: u64, hours: &mut u64, remainder: &mut u64) -> u64 {
-    reply(try_fill(record, amount, hours, remainder))
+/// Writes what a buyer of this amount gets at the price, in tenths of an hour, and the
+/// remainder.
+pub fn fill(record: &[u64], amount: u64, tenths: &mut u64, remainder: &mut u64) -> u64 {
+    reply(try_fill(record, amount, tenths, remainder))
 }
 
-/// Writes the page of these entries at this price, and how many bytes it has.
-pub fn settlement_write(price: u64, entries: &[u64], page: &mut [u8], written: &mut u64) -> u64 {
-    reply(settlement::write(price, entries, page, written))
+/// Writes the page of these amounts at this price, and how many bytes it has.
+pub fn settlement_write(price: u64, amounts: &[u64], page: &mut [u8], written: &mut u64) -> u64 {
+    reply(settlement::write(price, amounts, page, written))
 }
 
-/// Writes the entries whose page at this price is the one lent.
-pub fn settlement_read(price: u64, page: &[u8], entries: &mut [u64]) -> u64 {
-    reply(settlement::read(price, page, entries))
+/// Writes the amounts whose page at this price is the one lent.
+pub fn settlement_read(price: u64, page: &[u8], amounts: &mut [u64]) -> u64 {
+    reply(settlement::read(price, page, amounts))
 }
 
 fn reply(outcome: Result<(), u64>) -> u64 {
@@ -402,13 +403,13 @@ fn try_answer(record: &[u64], index: &mut u64, probes: &mut u64) -> Result<(), u
     Ok(())
 }
 
-fn try_fill(record: &[u64], amount: u64, hours: &mut u64, remainder: &mut u64) -> Result<(), u64> {
+fn try_fill(record: &[u64], amount: u64, tenths: &mut u64, remainder: &mut u64) -> Result<(), u64> {
     let party = Record::read(record)?;
     need(party.has_cleared() && party.is_over(), NOT_CLEARED)?;
     need(amount <= MAX_AMOUNT, AMOUNT_TOO_LARGE)?;
     // Without demand nobody buys.
     let (product, demand) = (amount * party.supply, party.demand);
-    *hours = product.checked_div(demand).unwrap_or(0);
+    *tenths = product.checked_div(demand).unwrap_or(0);
     *remainder = product.checked_rem(demand).unwrap_or(0);
     Ok(())
 }

@@ -2,8 +2,8 @@
 //! a line for each bidder and side.
 
 use crate::{
-    need, AMOUNT_TOO_LARGE, ENTRIES, HIGHEST_PRICE, LINE, MALFORMED, MAX_AMOUNT, MAX_BIDS,
-    OUT_OF_RANGE, PAGE_TOO_SHORT, WRONG_LENGTH,
+    need, AMOUNT_TOO_LARGE, HIGHEST_PRICE, LINE, MALFORMED, MAX_AMOUNT, MAX_BIDS, OUT_OF_RANGE,
+    PAGE_TOO_SHORT, SETTLEMENT, WRONG_LENGTH,
 };
 
 /// The sides as they stand in their columns.
@@ -11,7 +11,7 @@ const SIDES: [&[u8; 6]; 2] = [b"   buy", b"  sell"];
 
 /// What stands on one line.
 struct Line {
-    /// The number of the pair of entries, from 0: two to a bidder, buy before sell.
+    /// The number of the pair of amounts, from 0: two to a bidder, buy before sell.
     pair: usize,
     wanted: u64,
     got: u64,
@@ -19,26 +19,26 @@ struct Line {
 
 pub(crate) fn write(
     price: u64,
-    entries: &[u64],
+    amounts: &[u64],
     page: &mut [u8],
     written: &mut u64,
 ) -> Result<(), u64> {
-    judge(price, entries)?;
+    judge(price, amounts)?;
     let in_range = |pair: &[u64]| pair[0] <= MAX_AMOUNT && pair[1] <= pair[0];
-    need(entries.chunks_exact(2).all(in_range), AMOUNT_TOO_LARGE)?;
-    let length = LINE * lines(entries).count();
+    need(amounts.chunks_exact(2).all(in_range), AMOUNT_TOO_LARGE)?;
+    let length = LINE * lines(amounts).count();
     need(length <= page.len(), PAGE_TOO_SHORT)?;
-    for (columns, line) in page.chunks_exact_mut(LINE).zip(lines(entries)) {
+    for (columns, line) in page.chunks_exact_mut(LINE).zip(lines(amounts)) {
         line.put(price, columns);
     }
     *written = length as u64;
     Ok(())
 }
 
-pub(crate) fn read(price: u64, page: &[u8], entries: &mut [u64]) -> Result<(), u64> {
-    judge(price, entries)?;
+pub(crate) fn read(price: u64, page: &[u8], amounts: &mut [u64]) -> Result<(), u64> {
+    judge(price, amounts)?;
     need(page.len() % LINE == 0, MALFORMED)?;
-    let mut found = [0; ENTRIES];
+    let mut found = [0; SETTLEMENT];
     // The first pair that a line may still be of.
     let mut next = 0;
     for columns in page.chunks_exact(LINE) {
@@ -48,24 +48,24 @@ pub(crate) fn read(price: u64, page: &[u8], entries: &mut [u64]) -> Result<(), u
         found[2 * line.pair] = line.wanted;
         found[2 * line.pair + 1] = line.got;
     }
-    entries.copy_from_slice(&found);
+    amounts.copy_from_slice(&found);
     Ok(())
 }
 
 /// Judges what both calls are given.
-fn judge(price: u64, entries: &[u64]) -> Result<(), u64> {
+fn judge(price: u64, amounts: &[u64]) -> Result<(), u64> {
     need((1..=HIGHEST_PRICE).contains(&price), OUT_OF_RANGE)?;
-    need(entries.len() == ENTRIES, WRONG_LENGTH)
+    need(amounts.len() == SETTLEMENT, WRONG_LENGTH)
 }
 
-/// The lines of these entries: what wants 0 has none.
-fn lines(entries: &[u64]) -> impl Iterator<Item = Line> + '_ {
-    let pairs = entries.chunks_exact(2).enumerate();
-    let wanting = pairs.filter(|(_, amounts)| amounts[0] > 0);
-    wanting.map(|(pair, amounts)| Line {
+/// The lines of these amounts: what wants 0 has none.
+fn lines(amounts: &[u64]) -> impl Iterator<Item = Line> + '_ {
+    let pairs = amounts.chunks_exact(2).enumerate();
+    let wanting = pairs.filter(|(_, words)| words[0] > 0);
+    wanting.map(|(pair, words)| Line {
         pair,
-        wanted: amounts[0],
-        got: amounts[1],
+        wanted: words[0],
+        got: words[1],
     })
 }
 

@@ -8,17 +8,7 @@ use clockivy_reference::{
     DEMAND_ROUND, FIRST_SEARCH, LAST_ROUND, MAX_AMOUNT, NO_MORE_ROUNDS, RECORD, SECOND_SEARCH,
     SHEET, SUPPLY_ROUND,
 };
-
-/// The places of a record's fields.
-const LO: usize = 4;
-const HI: usize = 5;
-const PROBES: usize = 6;
-const ROUND: usize = 7;
-const SEARCH: usize = 26;
-const FIRST: usize = 27;
-const FIRST_PROBES: usize = 28;
-const DEMAND: usize = 29;
-const SUPPLY: usize = 30;
+use clockivy_testing::place::{DEMAND, FIRST, FIRST_PROBES, HI, LO, PROBES, ROUND, SEARCH, SUPPLY};
 
 /// Total demand and total supply at each price.
 struct Totals {
@@ -137,47 +127,131 @@ fn seats(n: u64, k: u64, bids: &[Vec<u64>], coins: &mut Coins) -> Vec<Seat> {
     seats
 }
 
-/// One probe. Its sheet is the only one of a party that has heard all before.
-fn probe(seats: &mut [Seat], rounds: &mut Vec<Round>, away: Away, coins: &mut Coins) {
-    let n = seats.len() as u64;
-    let t = threshold(n);
-    let words = coins.words(1 + t);
-    let bytes: Vec<u8> = (0..126 * t + 62).map(|_| coins.word() as u8).collect();
-    let start = SHEET * front(seats, rounds).record[PROBES] as usize;
-    for (own, seat) in (1..).zip(seats.iter_mut()) {
-        let sheet = &mut seat.sheets[start..start + SHEET];
-        assert_eq!(deal(n, own, &words, &bytes, sheet), 0);
-    }
-    for _ in 1..=LAST_ROUND {
-        one_round(seats, rounds, away, coins);
-    }
+/// An auction under way.
+struct Auction<'a> {
+    bids: &'a [Vec<u64>],
+    /// What it has to come to.
+    totals: Totals,
+    away: Away,
+    coins: Coins,
+    seats: Vec<Seat>,
+    rounds: Vec<Round>,
 }
 
-/// One round, of a probe or of the totals.
-fn one_round(seats: &mut [Seat], rounds: &mut Vec<Round>, away: Away, coins: &mut Coins) {
-    let n = seats.len() as u64;
-    let when = When {
-        count: rounds.len(),
-        round: front(seats, rounds).record[ROUND],
-    };
-    let mut round = Round {
-        messages: coins.words(seats.len()),
-        present: vec![0; seats.len()],
-    };
-    for (place, seat) in seats.iter_mut().enumerate() {
-        if !away(n, place as u64 + 1, when) {
-            // A party that comes back hears what it has missed, in order.
-            catch_up(seat, rounds);
-            round.present[place] = 1;
-            let message = &mut round.messages[place];
-            assert_eq!(say(&seat.record, &seat.totals, &seat.sheets, message), 0);
+impl Auction<'_> {
+    fn open(away: Away, n: u64, k: u64, bids: &[Vec<u64>]) -> Auction<'_> {
+        let mut coins = Coins(k + 1);
+        Auction {
+            bids,
+            totals: Totals::of(k, bids),
+            away,
+            seats: seats(n, k, bids, &mut coins),
+            coins,
+            rounds: Vec::new(),
         }
     }
-    rounds.push(round);
-    for (own, seat) in (1..).zip(seats.iter_mut()) {
-        if !away(n, own, when) {
-            catch_up(seat, rounds);
+
+    /// A party that has heard all rounds.
+    fn front(&self) -> &Seat {
+        let heard_all = |seat: &&Seat| seat.heard == self.rounds.len();
+        self.seats.iter().find(heard_all).unwrap()
+    }
+
+    /// A search over the indices 1 to `last`, by its number and what the first one
+    /// gave, checked at every probe against the totals. Gives lo, hi and its probes.
+    fn search(&mut self, [number, first, first_probes]: [u64; 3], last: u64) -> [u64; 3] {
+        let (mut lo, mut hi, mut probes) = (0, last + 1, 0);
+        while hi - lo > 1 {
+            let record = &self.front().record;
+            assert_eq!(search(record), [number, lo, hi, first, first_probes]);
+            assert_going_on(record);
+            let index = (lo + hi) / 2;
+            let (demand, supply) = self.totals.at(index);
+            self.probe();
+            probes += 1;
+            let end = match number {
+                FIRST_SEARCH if demand >= supply => &mut lo,
+                FIRST_SEARCH => &mut hi,
+                _ if supply >= demand => &mut hi,
+                _ => &mut lo,
+            };
+            *end = index;
         }
+        [lo, hi, probes]
+    }
+
+    /// One probe. Its sheet is the only one of a party that has heard all before.
+    fn probe(&mut self) {
+        let n = self.seats.len() as u64;
+        let t = threshold(n);
+        let words = self.coins.words(1 + t);
+        let bytes: Vec<u8> = (0..126 * t + 62).map(|_| self.coins.word() as u8).collect();
+        let start = SHEET * self.front().record[PROBES] as usize;
+        for (own, seat) in (1..).zip(&mut self.seats) {
+            let sheet = &mut seat.sheets[start..start + SHEET];
+            assert_eq!(deal(n, own, &words, &bytes, sheet), 0);
+        }
+        for _ in 1..=LAST_ROUND {
+            self.round();
+        }
+    }
+
+    /// One round, of a probe or of the totals.
+    fn round(&mut self) {
+        let n = self.seats.len() as u64;
+        let when = When {
+            count: self.rounds.len(),
+            round: self.front().record[ROUND],
+        };
+        let mut round = Round {
+            messages: self.coins.words(self.seats.len()),
+            present: vec![0; self.seats.len()],
+        };
+        for (place, seat) in self.seats.iter_mut().enumerate() {
+            if !(self.away)(n, place as u64 + 1, when) {
+                // A party that comes back hears what it has missed, in order.
+                catch_up(seat, &self.rounds);
+                round.present[place] = 1;
+                let message = &mut round.messages[place];
+                assert_eq!(say(&seat.record, &seat.totals, &seat.sheets, message), 0);
+            }
+        }
+        self.rounds.push(round);
+        for (own, seat) in (1..).zip(&mut self.seats) {
+            if !(self.away)(n, own, when) {
+                catch_up(seat, &self.rounds);
+            }
+        }
+    }
+
+    /// The two rounds of the totals, where there is a price.
+    fn open_totals(&mut self) {
+        if self.totals.price() > 0 {
+            for round in [DEMAND_ROUND, SUPPLY_ROUND] {
+                let record = &self.front().record;
+                assert_eq!(record[ROUND], round);
+                assert_going_on(record);
+                self.round();
+            }
+        }
+    }
+
+    /// Asks every party. Gives how many have answered, after so many probes.
+    fn ask(&self, probes: u64) -> u64 {
+        let mut answered = 0;
+        for seat in &self.seats {
+            if seat.heard < self.rounds.len() {
+                assert_going_on(&seat.record);
+                continue;
+            }
+            let (mut index, mut made) = (0, 0);
+            let reply = answer(&seat.record, &mut index, &mut made);
+            assert_eq!((reply, index, made), (0, self.totals.price(), probes));
+            assert_silent(seat, self.seats.len());
+            assert_filled(&seat.record, &self.totals, self.bids);
+            answered += 1;
+        }
+        answered
     }
 }
 
@@ -197,12 +271,6 @@ fn catch_up(seat: &mut Seat, rounds: &[Round]) {
     *heard = rounds.len();
 }
 
-/// A party that has heard all rounds.
-fn front<'a>(seats: &'a [Seat], rounds: &[Round]) -> &'a Seat {
-    let heard_all = |seat: &&Seat| seat.heard == rounds.len();
-    seats.iter().find(heard_all).unwrap()
-}
-
 /// The search's numbers in a record: search, lo, hi, first, first probes.
 fn search(record: &[u64; RECORD]) -> [u64; 5] {
     [SEARCH, LO, HI, FIRST, FIRST_PROBES].map(|place| record[place])
@@ -217,70 +285,16 @@ fn run(n: u64, k: u64, bids: &[Vec<u64>]) {
 /// The same with some of the parties away at times. Gives how many have answered:
 /// those that were there in the last round.
 fn run_without(away: Away, n: u64, k: u64, bids: &[Vec<u64>]) -> u64 {
-    let totals = Totals::of(k, bids);
-    let mut coins = Coins(k + 1);
-    let mut seats = seats(n, k, bids, &mut coins);
-    let mut rounds = Vec::new();
-    let (mut lo, mut hi, mut probes) = (0, k + 1, 0);
-    while hi - lo > 1 {
-        let record = &front(&seats, &rounds).record;
-        assert_eq!(search(record), [FIRST_SEARCH, lo, hi, 0, 0]);
-        assert_going_on(record);
-        let index = (lo + hi) / 2;
-        let (demand, supply) = totals.at(index);
-        probe(&mut seats, &mut rounds, away, &mut coins);
-        probes += 1;
-        if demand >= supply {
-            lo = index;
-        } else {
-            hi = index;
-        }
-    }
-    let (first, first_probes) = (lo, probes);
-    assert_eq!(first, totals.highest());
-    (lo, hi) = (0, first + 1);
-    loop {
-        let record = &front(&seats, &rounds).record;
-        let expected = [SECOND_SEARCH, lo, hi, first, first_probes];
-        assert_eq!(search(record), expected);
-        if hi - lo == 1 {
-            break;
-        }
-        assert_going_on(record);
-        let index = (lo + hi) / 2;
-        let (demand, supply) = totals.at(index);
-        probe(&mut seats, &mut rounds, away, &mut coins);
-        probes += 1;
-        if supply >= demand {
-            hi = index;
-        } else {
-            lo = index;
-        }
-    }
+    let mut auction = Auction::open(away, n, k, bids);
+    let [first, _, first_probes] = auction.search([FIRST_SEARCH, 0, 0], k);
+    assert_eq!(first, auction.totals.highest());
     assert!(first_probes <= probe_limit(k));
-    assert!(probes - first_probes <= probe_limit(first));
-    if totals.price() > 0 {
-        for round in [DEMAND_ROUND, SUPPLY_ROUND] {
-            let record = &front(&seats, &rounds).record;
-            assert_eq!(record[ROUND], round);
-            assert_going_on(record);
-            one_round(&mut seats, &mut rounds, away, &mut coins);
-        }
-    }
-    let mut answered = 0;
-    for seat in &seats {
-        if seat.heard < rounds.len() {
-            assert_going_on(&seat.record);
-            continue;
-        }
-        let (mut index, mut made) = (0, 0);
-        let reply = answer(&seat.record, &mut index, &mut made);
-        assert_eq!((reply, index, made), (0, totals.price(), probes));
-        assert_silent(seat, n as usize);
-        assert_filled(&seat.record, &totals, bids);
-        answered += 1;
-    }
-    answered
+    let [lo, hi, probes] = auction.search([SECOND_SEARCH, first, first_probes], first);
+    let ended = [SECOND_SEARCH, lo, hi, first, first_probes];
+    assert_eq!(search(&auction.front().record), ended);
+    assert!(probes <= probe_limit(first));
+    auction.open_totals();
+    auction.ask(first_probes + probes)
 }
 
 /// Before the auction is over, there is no answer and no fill.
@@ -307,11 +321,11 @@ fn assert_filled(record: &[u64; RECORD], totals: &Totals, bids: &[Vec<u64>]) {
     let (mut sold, mut remainders, mut buyers) = (0, 0, 0);
     for table in bids {
         let amount = table[price as usize - 1];
-        let (mut hours, mut remainder) = (7, 8);
-        assert_eq!(fill(record, amount, &mut hours, &mut remainder), 0);
-        assert_eq!(hours * demand + remainder, amount * supply);
-        assert!(hours <= amount && remainder < demand.max(1));
-        sold += hours;
+        let (mut tenths, mut remainder) = (7, 8);
+        assert_eq!(fill(record, amount, &mut tenths, &mut remainder), 0);
+        assert_eq!(tenths * demand + remainder, amount * supply);
+        assert!(tenths <= amount && remainder < demand.max(1));
+        sold += tenths;
         remainders += remainder;
         buyers += u64::from(amount > 0);
     }

@@ -1,54 +1,62 @@
 //! Hearing by marks: which words count, and in what order a hearing is judged.
 
-use clockivy_hearings::{choices, count, refused, Hearing};
 use clockivy_reference::field::amount::P;
 use clockivy_reference::field::{amount, byte};
 use clockivy_reference::{
     hear, say, sheet_count, threshold, DEMAND_ROUND, LAST_ROUND, RECORD, SHEET, SUPPLY_ROUND,
     TOTAL_LIMIT,
 };
+use clockivy_testing::place::{
+    DEMAND, FIRST, FIRST_PROBES, HI, K, LO, N, OWN, PROBES, ROUND, SEARCH, SUM, SUPPLY,
+};
+use clockivy_testing::{choices, count, refused, Hearing};
 
-/// The places of a record's fields.
-const ROUND: usize = 7;
-const SUM: usize = 8;
-const SEARCH: usize = 26;
-const DEMAND: usize = 29;
-const SUPPLY: usize = 30;
-
-/// A hearing of this round over two prices. The messages open to these, the two
-/// bytes apart in rounds 2 to 32; all are present. The totals are those of the
-/// second price, and then every sheet has been used.
-fn hearing(n: u64, own: u64, round: u64, opened: u64) -> Hearing {
+/// The record of a party in this round, over two prices: of the first probe, or of the
+/// totals at the second price, and then every sheet has been used.
+fn record(n: u64, own: u64, round: u64) -> Vec<u64> {
     let mut record = vec![0; RECORD];
-    if round > LAST_ROUND {
-        record[..ROUND].copy_from_slice(&[n, own, 2, 0, 1, 2, 4]);
-        record[SEARCH..DEMAND].copy_from_slice(&[2, 2, 2]);
-        if round == SUPPLY_ROUND {
-            record[DEMAND] = TOTAL_LIMIT - 1;
-        }
+    let demand = if round == SUPPLY_ROUND {
+        TOTAL_LIMIT - 1
     } else {
-        record[..ROUND].copy_from_slice(&[n, own, 2, 0, 0, 3, 0]);
-        record[SEARCH] = 1;
+        0
+    };
+    let places = [LO, HI, PROBES, SEARCH, FIRST, FIRST_PROBES, DEMAND];
+    let words = if round > LAST_ROUND {
+        [1, 2, 4, 2, 2, 2, demand]
+    } else {
+        [0, 3, 0, 1, 0, 0, 0]
+    };
+    for (place, word) in places.into_iter().zip(words) {
+        record[place] = word;
     }
-    record[ROUND] = round;
+    [record[N], record[OWN], record[K], record[ROUND]] = [n, own, 2, round];
+    record
+}
+
+/// The messages of n parties in this round that open to these, the two bytes apart in
+/// rounds 2 to 32.
+fn messages(n: u64, round: u64, opened: u64) -> Vec<u64> {
     let t = threshold(n);
-    let messages = (1..=n)
-        .map(|point| {
-            let bytes: Vec<u8> = (0..t).map(|i| 0x35 + 7 * i as u8).collect();
-            let share = |secret: u64| byte::share(secret as u8, &bytes, point as u8);
-            let low = u64::from(share(opened % 256));
-            match round {
-                1 | DEMAND_ROUND | SUPPLY_ROUND => amount::share(opened, &vec![P / 3; t], point),
-                LAST_ROUND => low,
-                _ => low + 256 * u64::from(share(opened / 256)),
-            }
-        })
-        .collect();
+    let bytes: Vec<u8> = (0..t).map(|i| 0x35 + 7 * i as u8).collect();
+    let message = |point: u64| {
+        let share = |secret: u64| byte::share(secret as u8, &bytes, point as u8);
+        let low = u64::from(share(opened % 256));
+        match round {
+            1 | DEMAND_ROUND | SUPPLY_ROUND => amount::share(opened, &vec![P / 3; t], point),
+            LAST_ROUND => low,
+            _ => low + 256 * u64::from(share(opened / 256)),
+        }
+    };
+    (1..=n).map(message).collect()
+}
+
+/// A hearing of this round whose messages open to these. All are present.
+fn hearing(n: u64, own: u64, round: u64, opened: u64) -> Hearing {
     let mut hearing = Hearing {
-        record,
+        record: record(n, own, round),
         totals: vec![0; 4],
         sheets: vec![0; SHEET * sheet_count(2) as usize],
-        messages,
+        messages: messages(n, round, opened),
         present: vec![1; n as usize],
     };
     // The own word is what the party says, by its sheet or its totals.

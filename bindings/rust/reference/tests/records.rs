@@ -2,6 +2,9 @@
 //! number by number; and what a buyer gets by such a record.
 
 use clockivy_reference::{answer, fill, probe_limit, sheet_count, MAX_AMOUNT, RECORD};
+use clockivy_testing::place::{
+    DEMAND, FIRST, FIRST_PROBES, HI, K, LO, N, OWN, PROBES, ROUND, SEARCH, SUPPLY,
+};
 
 /// A record among three parties over five prices, which take at most three
 /// probes: lo, hi, probes, then search, first and its probes.
@@ -10,8 +13,20 @@ fn record([lo, hi, probes, search, first, first_probes]: [u64; 6]) -> [u64; RECO
     // Where the searches have ended with a price, the totals are opened too.
     let ended = search == 2 && hi.wrapping_sub(lo) == 1;
     let round = if ended && first > 0 { 36 } else { 1 };
-    record[..10].copy_from_slice(&[3, 1, 5, 0, lo, hi, probes, round, 0, 0]);
-    record[26..29].copy_from_slice(&[search, first, first_probes]);
+    for (place, word) in [
+        (N, 3),
+        (OWN, 1),
+        (K, 5),
+        (LO, lo),
+        (HI, hi),
+        (PROBES, probes),
+        (ROUND, round),
+        (SEARCH, search),
+        (FIRST, first),
+        (FIRST_PROBES, first_probes),
+    ] {
+        record[place] = word;
+    }
     record
 }
 
@@ -28,9 +43,9 @@ fn asked_of(record: &[u64; RECORD]) -> (u64, u64, u64) {
 
 /// What asking for a fill replies, and the fill.
 fn filled(record: &[u64; RECORD], amount: u64) -> (u64, u64, u64) {
-    let (mut hours, mut remainder) = (77, 88);
-    let reply = fill(record, amount, &mut hours, &mut remainder);
-    (reply, hours, remainder)
+    let (mut tenths, mut remainder) = (77, 88);
+    let reply = fill(record, amount, &mut tenths, &mut remainder);
+    (reply, tenths, remainder)
 }
 
 const SOUND: u64 = 3;
@@ -107,6 +122,10 @@ fn the_second_search() {
     ] {
         assert_eq!(asked(numbers), (0, index, numbers[2]), "{numbers:?}");
     }
+}
+
+#[test]
+fn a_second_search_out_of_range() {
     for numbers in [
         // The first gave more than there is.
         [0, 6, 3, 2, 6, 3],
@@ -150,11 +169,10 @@ fn no_other_search() {
     }
 }
 
-/// The round and the totals of a record: its words 7, 29 and 30.
+/// The same record in another round, and with totals.
 fn totalled(numbers: [u64; 6], [round, demand, supply]: [u64; 3]) -> [u64; RECORD] {
     let mut record = record(numbers);
-    record[7] = round;
-    record[29..].copy_from_slice(&[demand, supply]);
+    [record[ROUND], record[DEMAND], record[SUPPLY]] = [round, demand, supply];
     record
 }
 
@@ -264,9 +282,9 @@ fn a_fill_is_judged_in_its_order() {
     assert_eq!(filled(&early, large), NOT_CLEARED);
     assert_eq!(filled(&record(NO_PRICE), large), NOT_CLEARED);
     for length in [0, 29, RECORD - 1, RECORD + 1] {
-        let (mut hours, mut remainder) = (77, 88);
+        let (mut tenths, mut remainder) = (77, 88);
         let words = vec![u64::MAX; length];
-        assert_eq!(fill(&words, large, &mut hours, &mut remainder), 2);
-        assert_eq!((hours, remainder), (77, 88));
+        assert_eq!(fill(&words, large, &mut tenths, &mut remainder), 2);
+        assert_eq!((tenths, remainder), (77, 88));
     }
 }

@@ -2,42 +2,42 @@
 //! what both calls refuse, in their order.
 
 use clockivy_reference::{
-    settlement_read, settlement_write, ENTRIES, HIGHEST_PRICE, LINE, MAX_AMOUNT,
+    settlement_read, settlement_write, HIGHEST_PRICE, LINE, MAX_AMOUNT, SETTLEMENT,
 };
 
-/// Entries of some bidders and sides: bidder, side from 0, wanted and got.
-fn entries(lines: &[[u64; 4]]) -> Vec<u64> {
-    let mut entries = vec![0; ENTRIES];
+/// The amounts of some bidders and sides: bidder, side from 0, wanted and got.
+fn amounts(lines: &[[u64; 4]]) -> Vec<u64> {
+    let mut amounts = vec![0; SETTLEMENT];
     for &[bidder, side, wanted, got] in lines {
         let place = (4 * (bidder - 1) + 2 * side) as usize;
-        entries[place..place + 2].copy_from_slice(&[wanted, got]);
+        amounts[place..place + 2].copy_from_slice(&[wanted, got]);
     }
-    entries
+    amounts
 }
 
-/// The page of these entries, which is then read back.
-fn page(price: u64, entries: &[u64]) -> String {
-    let (mut page, mut written) = (vec![0; LINE * ENTRIES / 2], 77);
-    assert_eq!(settlement_write(price, entries, &mut page, &mut written), 0);
+/// The page of these amounts, which is then read back.
+fn page(price: u64, amounts: &[u64]) -> String {
+    let (mut page, mut written) = (vec![0; LINE * SETTLEMENT / 2], 77);
+    assert_eq!(settlement_write(price, amounts, &mut page, &mut written), 0);
     page.truncate(written as usize);
-    let mut read = vec![99; ENTRIES];
+    let mut read = vec![99; SETTLEMENT];
     assert_eq!(settlement_read(price, &page, &mut read), 0);
-    assert_eq!(read, entries);
+    assert_eq!(read, amounts);
     String::from_utf8(page).unwrap()
 }
 
 /// What reading replies. A refusal changes nothing.
 fn read(price: u64, page: impl AsRef<[u8]>) -> u64 {
-    let mut entries = vec![99; ENTRIES];
-    let reply = settlement_read(price, page.as_ref(), &mut entries);
-    assert!(reply == 0 || entries == [99; ENTRIES]);
+    let mut amounts = vec![99; SETTLEMENT];
+    let reply = settlement_read(price, page.as_ref(), &mut amounts);
+    assert!(reply == 0 || amounts == [99; SETTLEMENT]);
     reply
 }
 
 /// What writing replies, with so much room. A refusal changes nothing.
-fn write(price: u64, entries: &[u64], room: usize) -> u64 {
+fn write(price: u64, amounts: &[u64], room: usize) -> u64 {
     let (mut page, mut written) = (vec![b'?'; room], 77);
-    let reply = settlement_write(price, entries, &mut page, &mut written);
+    let reply = settlement_write(price, amounts, &mut page, &mut written);
     assert!(reply == 0 || (written == 77 && page.iter().all(|&byte| byte == b'?')));
     reply
 }
@@ -46,11 +46,11 @@ const SAMPLE: &str = "   1   buy        30.0        12.5                    1375
 
 #[test]
 fn lines() {
-    assert_eq!(page(110, &entries(&[[1, 0, 300, 125]])), SAMPLE);
+    assert_eq!(page(110, &amounts(&[[1, 0, 300, 125]])), SAMPLE);
     assert_eq!(
         page(
             33,
-            &entries(&[
+            &amounts(&[
                 [1_000, 1, 9, 9],
                 [1_000, 0, 1, 0],
                 [17, 1, 4_000, 4_000],
@@ -67,19 +67,19 @@ fn lines() {
     assert_eq!(
         page(
             HIGHEST_PRICE,
-            &entries(&[[500, 1, MAX_AMOUNT, MAX_AMOUNT], [500, 0, MAX_AMOUNT, 0]])
+            &amounts(&[[500, 1, MAX_AMOUNT, MAX_AMOUNT], [500, 0, MAX_AMOUNT, 0]])
         ),
         concat!(
             " 500   buy    419430.3         0.0                       0 0\n",
             " 500  sell    419430.3    419430.3            419430300000 0\n",
         )
     );
-    assert_eq!(page(1, &entries(&[])), "");
+    assert_eq!(page(1, &amounts(&[])), "");
 }
 
 #[test]
 fn everybody() {
-    let all: Vec<u64> = (0..ENTRIES as u64)
+    let all: Vec<u64> = (0..SETTLEMENT as u64)
         .map(|place| match place % 2 {
             0 => 100 + 1_043 * place,
             _ => 17 * place,
@@ -144,13 +144,13 @@ fn a_line_in_any_other_way_is_no_page() {
 }
 
 #[test]
-fn any_other_byte_is_no_page_or_that_of_other_entries() {
+fn any_other_byte_is_no_page_or_that_of_other_amounts() {
     let mut pages = 0;
     for (place, held) in SAMPLE.bytes().enumerate() {
         for byte in (0..=u8::MAX).filter(|&byte| byte != held) {
             let mut other = SAMPLE.as_bytes().to_vec();
             other[place] = byte;
-            let mut found = vec![99; ENTRIES];
+            let mut found = vec![99; SETTLEMENT];
             if settlement_read(110, &other, &mut found) == 0 {
                 assert_eq!(page(110, &found).as_bytes(), other);
                 pages += 1;
@@ -166,7 +166,7 @@ fn any_other_byte_is_no_page_or_that_of_other_entries() {
 fn lines_have_one_order() {
     let lines = page(
         50,
-        &entries(&[[7, 0, 20, 10], [7, 1, 20, 10], [8, 0, 20, 10]]),
+        &amounts(&[[7, 0, 20, 10], [7, 1, 20, 10], [8, 0, 20, 10]]),
     );
     let [first, second, third] = [0, 1, 2].map(|line| &lines[LINE * line..LINE * (line + 1)]);
     for kept in [[first, second], [first, third], [second, third]] {
@@ -188,7 +188,7 @@ fn a_page_has_one_price() {
         assert_eq!(read(price, SAMPLE), 13);
     }
     // Where nobody gets anything, nothing is due at any.
-    let page = page(110, &entries(&[[1, 0, 300, 0], [640, 1, 5, 0]]));
+    let page = page(110, &amounts(&[[1, 0, 300, 0], [640, 1, 5, 0]]));
     for price in [1, 110, HIGHEST_PRICE] {
         assert_eq!(read(price, &page), 0);
     }
@@ -198,25 +198,25 @@ fn a_page_has_one_price() {
 
 #[test]
 fn writing_is_refused_in_order() {
-    let good = entries(&[[1, 0, 300, 125], [2, 1, 5, 5]]);
-    let above = entries(&[[1, 0, 300, 125], [2, 1, 5, 6]]);
-    let large = entries(&[[1_000, 1, MAX_AMOUNT + 1, 0]]);
-    let huge = entries(&[[1, 0, u64::MAX, u64::MAX]]);
+    let good = amounts(&[[1, 0, 300, 125], [2, 1, 5, 5]]);
+    let above = amounts(&[[1, 0, 300, 125], [2, 1, 5, 6]]);
+    let large = amounts(&[[1_000, 1, MAX_AMOUNT + 1, 0]]);
+    let huge = amounts(&[[1, 0, u64::MAX, u64::MAX]]);
     for price in [0, HIGHEST_PRICE + 1, u64::MAX] {
         assert_eq!(write(price, &good, 2 * LINE), 1);
         assert_eq!(write(price, &[], 0), 1);
         assert_eq!(write(price, &above, 0), 1);
     }
-    for length in [0, 2, ENTRIES - 2, ENTRIES - 1, ENTRIES + 1] {
+    for length in [0, 2, SETTLEMENT - 2, SETTLEMENT - 1, SETTLEMENT + 1] {
         let mut other = above.clone();
         other.resize(length, 9);
         assert_eq!(write(110, &other, 0), 2);
         assert_eq!(settlement_read(110, b"?", &mut other), 2);
         assert_eq!(settlement_read(0, b"?", &mut other), 1);
     }
-    for entries in [&above, &large, &huge] {
-        assert_eq!(write(110, entries, 0), 6);
-        assert_eq!(write(110, entries, 3 * LINE), 6);
+    for amounts in [&above, &large, &huge] {
+        assert_eq!(write(110, amounts, 0), 6);
+        assert_eq!(write(110, amounts, 3 * LINE), 6);
     }
     for room in [0, LINE, 2 * LINE - 1] {
         assert_eq!(write(110, &good, room), 17);
@@ -224,14 +224,14 @@ fn writing_is_refused_in_order() {
     for room in [2 * LINE, 2 * LINE + 1, 9 * LINE] {
         assert_eq!(write(110, &good, room), 0);
     }
-    assert_eq!(write(110, &entries(&[]), 0), 0);
+    assert_eq!(write(110, &amounts(&[]), 0), 0);
 }
 
 #[test]
 fn what_is_past_the_lines_stays() {
     let (mut page, mut written) = (vec![b'?'; LINE + 3], 0);
-    let entries = entries(&[[1, 0, 300, 125]]);
-    assert_eq!(settlement_write(110, &entries, &mut page, &mut written), 0);
+    let amounts = amounts(&[[1, 0, 300, 125]]);
+    assert_eq!(settlement_write(110, &amounts, &mut page, &mut written), 0);
     assert_eq!(written, 61);
     assert_eq!(page, [SAMPLE, "???"].concat().as_bytes());
 }

@@ -1,25 +1,17 @@
-//! For the checks and the tests of the other crates: every choice of who was
-//! present, and the ways in which a hearing is refused.
-
-#![forbid(unsafe_code)]
+//! Every choice of who was present, and the ways in which a hearing is refused.
 
 use std::iter;
 use std::ops::RangeInclusive;
 
-const PRIME: u64 = (1 << 61) - 1;
+use clockivy::words::place::{
+    CARRY, DEMAND, FIRST, FIRST_PROBES, HI, LO, PROBES, ROUND, SEARCH, SUPPLY,
+};
+use clockivy::PRIME;
+
+use crate::panel::WAY;
+
 /// The words of a sheet.
-const SHEET: usize = 127;
-/// The places of a record's fields.
-const LO: usize = 4;
-const HI: usize = 5;
-const PROBES: usize = 6;
-const ROUND: usize = 7;
-const CARRY: usize = 9;
-const SEARCH: usize = 26;
-const FIRST: usize = 27;
-const FIRST_PROBES: usize = 28;
-const DEMAND: usize = 29;
-const SUPPLY: usize = 30;
+const SHEET: usize = WAY.sheet_len();
 
 /// Every choice of who was present among so many.
 pub fn choices(n: u64) -> impl Iterator<Item = Vec<u8>> {
