@@ -511,7 +511,7 @@ CLOCKIVY_INLINE const char *clockivy_refusal_text(uint64_t reply)
         "refusal 10: the messages lie on no polynomial of the degree",
         "refusal 11: the opened sum or total is out of range",
         "refusal 12: the opened verdict is not a bit",
-        "refusal 13: no entries lay out to the page at this price",
+        "refusal 13: no amounts lay out to the page at this price",
         "refusal 14: a bid of this bidder has been added already",
         "refusal 15: too few parties were present",
         "refusal 16: no totals are open, or there is no price",

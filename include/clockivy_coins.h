@@ -2,7 +2,8 @@
  * clockivy_coins.h - coins from the system, for a bidder that splits its bid and for
  * a dealer. For Linux: it draws by getrandom of <sys/random.h>. Elsewhere, or with
  * another generator, lend a source of your own to the same calls. All of it is inline
- * over clockivy.h, whose Terms, Buffers and Replies hold here too.
+ * over clockivy.h, whose Terms, Buffers and Replies hold here too, but that a refusal
+ * after the first draw leaves blanks where it says so.
  *
  * Coins are uniform over their range, independent, and used once. Whoever knows or
  * guesses them reads the amounts that they hide, and nothing tells: see

@@ -2,11 +2,7 @@
  * Tries clockivy_split_entry: that its refusals change nothing, and that entries
  * in another order come to what clockivy_split writes.
  */
-#include <stdio.h>
-#include <stdlib.h>
-#include <string.h>
-
-#include "clockivy.h"
+#include "check.h"
 
 /* Five parties and three prices: six entries, each with two coins. */
 enum { N = 5, OWN = 4, K = 3, TABLE = 2 * K, T = CLOCKIVY_THRESHOLD(N) };
@@ -60,36 +56,32 @@ static const struct {
 
 enum { REFUSED = sizeof refused / sizeof refused[0] };
 
-/* What stands in a place that is not written, which is no share. */
-static const uint64_t before = UINT64_MAX;
-
 static int wrong;
 
 static void try_refusals(void)
 {
+    uint64_t before[TABLE + 1];
     size_t i;
-    size_t j;
 
+    clockivy_blank(before, TABLE + 1);
     for (i = 0; i < REFUSED; i++) {
         uint64_t shares[TABLE + 1];
         uint64_t reply;
 
-        for (j = 0; j <= TABLE; j++)
-            shares[j] = before;
+        clockivy_blank(shares, TABLE + 1);
         reply = clockivy_split_entry(refused[i].n, refused[i].own, refused[i].k,
                                      refused[i].entry, refused[i].table,
                                      refused[i].table_len, refused[i].coins,
                                      refused[i].coins_len, shares, refused[i].shares_len);
         if (reply != refused[i].reply) {
-            fprintf(stderr, "refusal %d: %d, not %d\n",
-                    (int)i + 1, (int)reply, (int)refused[i].reply);
+            fprintf(stderr, "case %d: %s, and not %s\n", (int)i + 1,
+                    clockivy_refusal_text(reply), clockivy_refusal_text(refused[i].reply));
             wrong = 1;
         }
-        for (j = 0; j <= TABLE; j++)
-            if (shares[j] != before) {
-                fprintf(stderr, "refusal %d has changed place %d\n", (int)i + 1, (int)j);
-                wrong = 1;
-            }
+        if (memcmp(shares, before, sizeof shares) != 0) {
+            fprintf(stderr, "case %d has changed the shares\n", (int)i + 1);
+            wrong = 1;
+        }
     }
 }
 
@@ -106,11 +98,10 @@ static void try_another_order(void)
 
     for (i = 0; i < CLOCKIVY_COINS_LEN(N, K); i++)
         coins[i] = CLOCKIVY_PRIME - 1 - i * i;
-    if (clockivy_split(N, OWN, K, table, TABLE, coins, CLOCKIVY_COINS_LEN(N, K),
-                       whole, TABLE) != CLOCKIVY_DONE)
-        wrong = 1;
-    for (i = 0; i < TABLE; i++)
-        expected[i] = shares[i] = before;
+    done(clockivy_split(N, OWN, K, table, TABLE, coins, CLOCKIVY_COINS_LEN(N, K),
+                        whole, TABLE), "split");
+    clockivy_blank(expected, TABLE);
+    clockivy_blank(shares, TABLE);
     for (i = 0; i < TABLE; i++) {
         const size_t place = order[i] - 1;
 

@@ -1,26 +1,31 @@
 /*
  * What buyers get at the price. Runs whole auctions of three parties and four
  * prices: the paper's bids, buyers who get a part each, no bids, no demand at the
- * price, and no price. Each fill is held against the tables, and before the end
- * there is none. Then tries every refusal of clockivy_fill, in its order, and what
- * comes before the length of a record that clockivy_add and clockivy_hear are lent.
+ * price, and no price. Each fill is held against the tables, by a record and by the
+ * totals alone, and before the end there is none. Then tries every refusal of
+ * clockivy_fill and clockivy_cleared_fill, in their order, and what comes before the
+ * length of a record that clockivy_add and clockivy_hear are lent.
  */
-#include <stdio.h>
-#include <stdlib.h>
-#include <string.h>
+#include "check.h"
+#include "clockivy_coins.h"
 
-#include "clockivy.h"
-
-enum { N = 3, K = 4, SHEETS = 6, TABLE = 2 * K, MOST = 4 };
-
-/* What one party keeps. */
-struct seat {
-    clockivy_party party;
-    uint64_t totals[TABLE];
-    uint64_t sheets[SHEETS * CLOCKIVY_SHEET_LEN];
+enum {
+    N = 3,
+    K = 4,
+    WAY = CLOCKIVY_ROUNDS_33,
+    TABLE = CLOCKIVY_TABLE_LEN(K),
+    SHEETS_LEN = 6 * CLOCKIVY_SHEET_LEN(WAY),
+    MOST = 4
 };
 
-static struct seat seats[N];
+/* What one party keeps. */
+struct kept {
+    clockivy_session session;
+    uint64_t totals[TABLE];
+    uint64_t sheets[SHEETS_LEN];
+};
+
+static struct kept parties[N];
 
 /* An auction, and what it comes to. */
 static const struct {
@@ -29,7 +34,7 @@ static const struct {
     uint64_t index;
     uint64_t demand;
     uint64_t supply;
-    uint64_t hours[MOST];
+    uint64_t tenths[MOST];
     uint64_t remainders[MOST];
 } cases[] = {
     /* the paper's */
@@ -68,60 +73,35 @@ enum { CASES = sizeof cases / sizeof cases[0] };
 static int fills;
 static int refusals;
 
-/* Stops where something that has to hold does not. */
-static void check(int holds, const char *otherwise)
-{
-    if (!holds) {
-        fprintf(stderr, "%s\n", otherwise);
-        exit(EXIT_FAILURE);
-    }
-}
-
-/* Words that differ from call to call. */
-static uint64_t draw(void)
-{
-    static uint64_t state = 1;
-
-    state = state * 747796405 + 2891336453u;
-    return state >> 24;
-}
-
 /* All parties with the bids added and the sheets dealt. */
 static void open_all(size_t number)
 {
-    uint64_t coins[CLOCKIVY_COINS_LEN(N, K)];
-    uint64_t shares[TABLE];
-    uint64_t words[CLOCKIVY_DEAL_WORDS_LEN(N)];
-    uint8_t bytes[CLOCKIVY_DEAL_BYTES_LEN(N)];
+    static uint64_t shares[N * TABLE];
+    static uint64_t sheets[N * SHEETS_LEN];
+    clockivy_seat seat;
     size_t i;
     size_t j;
-    size_t place;
 
-    check(clockivy_sheet_count(K) == SHEETS, "the sheets are too few");
-    for (i = 0; i < N; i++)
-        check(clockivy_party_open(&seats[i].party, N, i + 1, K, seats[i].totals, TABLE) == 0,
-              "open was refused");
-    for (j = 0; j < cases[number].bids; j++) {
-        for (place = 0; place < CLOCKIVY_COINS_LEN(N, K); place++)
-            coins[place] = draw();
-        for (i = 0; i < N; i++) {
-            check(clockivy_split(N, i + 1, K, cases[number].tables[j], TABLE,
-                                 coins, CLOCKIVY_COINS_LEN(N, K), shares, TABLE) == 0,
-                  "split was refused");
-            check(clockivy_party_add(&seats[i].party, seats[i].totals, TABLE, j + 1,
-                                     shares, TABLE) == 0, "add was refused");
-        }
+    seat.n = N;
+    seat.k = K;
+    seat.way = WAY;
+    done(clockivy_draw_sheets(N, K, WAY, sheets, N * SHEETS_LEN,
+                              clockivy_system_source, NULL), "draw_sheets");
+    for (i = 0; i < N; i++) {
+        struct kept *const kept = &parties[i];
+
+        seat.own = i + 1;
+        done(clockivy_session_open(&kept->session, &seat, kept->totals, TABLE,
+                                   kept->sheets, SHEETS_LEN), "open");
+        done(clockivy_session_receive(&kept->session, sheets + i * SHEETS_LEN, SHEETS_LEN),
+             "receive");
     }
-    for (j = 0; j < SHEETS; j++) {
-        for (place = 0; place < CLOCKIVY_DEAL_WORDS_LEN(N); place++)
-            words[place] = draw();
-        for (place = 0; place < CLOCKIVY_DEAL_BYTES_LEN(N); place++)
-            bytes[place] = (uint8_t)(draw() % 256);
+    for (j = 0; j < cases[number].bids; j++) {
+        done(clockivy_draw_bid(N, K, cases[number].tables[j], TABLE, shares, N * TABLE,
+                               clockivy_system_source, NULL), "draw_bid");
         for (i = 0; i < N; i++)
-            check(clockivy_deal(N, i + 1, words, CLOCKIVY_DEAL_WORDS_LEN(N),
-                                bytes, CLOCKIVY_DEAL_BYTES_LEN(N),
-                                seats[i].sheets + j * CLOCKIVY_SHEET_LEN,
-                                CLOCKIVY_SHEET_LEN) == 0, "deal was refused");
+            done(clockivy_session_add(&parties[i].session, j + 1, shares + i * TABLE, TABLE),
+                 "add");
     }
 }
 
@@ -133,25 +113,26 @@ static void exchange_round(void)
     size_t i;
 
     for (i = 0; i < N; i++)
-        check(clockivy_party_say(&seats[i].party, seats[i].totals, TABLE, seats[i].sheets,
-                                 SHEETS * CLOCKIVY_SHEET_LEN, &messages[i]) == 0,
-              "say was refused");
+        done(clockivy_session_say(&parties[i].session, &messages[i], 1), "say");
     for (i = 0; i < N; i++)
-        check(clockivy_party_hear(&seats[i].party, seats[i].totals, TABLE, seats[i].sheets,
-                                  SHEETS * CLOCKIVY_SHEET_LEN, messages, N, present, N) == 0,
-              "hear was refused");
+        done(clockivy_session_hear(&parties[i].session, messages, N, present, N), "hear");
 }
 
-/* A fill that is refused with this number, and leaves both words as they were. */
+/* What was written by a call that is refused with this number: nothing. */
+static void not_filled(uint64_t reply, uint64_t number, uint64_t tenths, uint64_t remainder)
+{
+    check(reply == number, "a fill was not refused, or with another number");
+    check(tenths == 77 && remainder == 88, "a refused fill has written something");
+    refusals++;
+}
+
 static void refused(const uint64_t *record, size_t length, uint64_t amount, uint64_t number)
 {
-    uint64_t hours = 77;
+    uint64_t tenths = 77;
     uint64_t remainder = 88;
+    const uint64_t reply = clockivy_fill(record, length, amount, &tenths, &remainder);
 
-    check(clockivy_fill(record, length, amount, &hours, &remainder) == number,
-          "a fill was not refused, or with another number");
-    check(hours == 77 && remainder == 88, "a refused fill has written something");
-    refusals++;
+    not_filled(reply, number, tenths, remainder);
 }
 
 static void refused_by(const clockivy_party *party, uint64_t amount, uint64_t number)
@@ -162,77 +143,105 @@ static void refused_by(const clockivy_party *party, uint64_t amount, uint64_t nu
     refused(words, CLOCKIVY_RECORD_LEN, amount, number);
 }
 
-/* A fill that is given. */
+static void refused_by_totals(uint64_t demand, uint64_t supply, uint64_t amount,
+                              uint64_t number)
+{
+    uint64_t tenths = 77;
+    uint64_t remainder = 88;
+    const uint64_t reply = clockivy_cleared_fill(demand, supply, amount, &tenths, &remainder);
+
+    not_filled(reply, number, tenths, remainder);
+}
+
+/* A fill that is given, by a record. */
 static void filled(const clockivy_party *party, uint64_t amount,
                    uint64_t expected, uint64_t left)
 {
-    uint64_t hours = 77;
+    uint64_t words[CLOCKIVY_RECORD_LEN];
+    uint64_t tenths = 77;
     uint64_t remainder = 88;
 
-    check(clockivy_party_fill(party, amount, &hours, &remainder) == 0, "a fill was refused");
-    check(hours == expected && remainder == left, "a fill is wrong");
+    memcpy(words, party, sizeof words);
+    done(clockivy_fill(words, CLOCKIVY_RECORD_LEN, amount, &tenths, &remainder), "fill");
+    check(tenths == expected && remainder == left, "a fill is wrong");
     fills++;
+}
+
+/* One that is given by D and S alone. */
+static void filled_by_totals(uint64_t demand, uint64_t supply, uint64_t amount,
+                             uint64_t expected, uint64_t left)
+{
+    uint64_t tenths = 77;
+    uint64_t remainder = 88;
+
+    done(clockivy_cleared_fill(demand, supply, amount, &tenths, &remainder), "cleared_fill");
+    check(tenths == expected && remainder == left, "a fill by the totals is wrong");
+    fills++;
+}
+
+/* Every bid of an auction that has a price is filled, by a record and by D and S. */
+static void fill_all(size_t number, const clockivy_party *party)
+{
+    const uint64_t demand = cases[number].demand;
+    const uint64_t supply = cases[number].supply;
+    uint64_t bought = 0;
+    uint64_t remainders = 0;
+    uint64_t buyers = 0;
+    size_t j;
+
+    for (j = 0; j < cases[number].bids; j++) {
+        const uint64_t wants = cases[number].tables[j][cases[number].index - 1];
+        const uint64_t tenths = cases[number].tenths[j];
+        const uint64_t remainder = cases[number].remainders[j];
+
+        filled(party, wants, tenths, remainder);
+        filled_by_totals(demand, supply, wants, tenths, remainder);
+        bought += tenths;
+        remainders += remainder;
+        buyers += wants > 0;
+    }
+    check(bought * demand + remainders == demand * supply,
+          "something is left that is in no remainder");
+    check(demand == 0 || supply - bought < buyers, "too much is left over");
+    refused_by(party, CLOCKIVY_MAX_AMOUNT + 1, CLOCKIVY_AMOUNT_TOO_LARGE);
 }
 
 /* One of the auctions, to its end. */
 static void run(size_t number)
 {
     const uint64_t index = cases[number].index;
-    const uint64_t demand = cases[number].demand;
-    const uint64_t supply = cases[number].supply;
-    const clockivy_party *party = &seats[0].party;
-    uint64_t found = 0;
-    uint64_t probes = 0;
+    clockivy_outcome outcome;
     uint64_t rounds = 0;
     size_t i;
-    size_t j;
 
     open_all(number);
-    while (clockivy_party_answer(party, &found, &probes) == CLOCKIVY_OUT_OF_TURN) {
-        refused_by(party, 0, CLOCKIVY_NOT_CLEARED);
+    while (clockivy_session_outcome(&parties[0].session, &outcome) == CLOCKIVY_OUT_OF_TURN) {
+        refused_by(&parties[0].session.party, 0, CLOCKIVY_NOT_CLEARED);
         exchange_round();
         rounds++;
     }
-    check(found == index, "the answer is wrong");
-    check(rounds == CLOCKIVY_ROUNDS * probes + (index == 0 ? 0 : 2),
-          "the number of rounds is wrong");
     for (i = 0; i < N; i++) {
-        uint64_t bought = 0;
-        uint64_t remainders = 0;
-        uint64_t buyers = 0;
-        clockivy_party cleared;
+        const clockivy_party *const party = &parties[i].session.party;
 
-        party = &seats[i].party;
-        check(party->demand == demand && party->supply == supply, "the totals are wrong");
+        done(clockivy_session_outcome(&parties[i].session, &outcome), "outcome");
+        check(outcome.index == index, "the answer is wrong");
+        check(rounds == WAY * outcome.probes + (index == 0 ? 0 : 2),
+              "the number of rounds is wrong");
+        check(outcome.demand == cases[number].demand && outcome.supply == cases[number].supply,
+              "the totals are wrong");
         check(party->sum == 0 && party->carry == 0, "a record that is over holds a share");
         if (index == 0) {
             check(party->round == 1, "there are totals without a price");
             refused_by(party, 0, CLOCKIVY_NOT_CLEARED);
             refused_by(party, CLOCKIVY_MAX_AMOUNT + 1, CLOCKIVY_NOT_CLEARED);
-            continue;
+        } else {
+            check(party->round == CLOCKIVY_ROUND_OVER, "it is not over");
+            fill_all(number, party);
         }
-        check(party->round == CLOCKIVY_ROUND_OVER, "it is not over");
-        /* By a record, and by D and S alone. */
-        clockivy_party_cleared(&cleared, demand, supply);
-        for (j = 0; j < cases[number].bids; j++) {
-            const uint64_t wants = cases[number].tables[j][index - 1];
-            const uint64_t hours = cases[number].hours[j];
-            const uint64_t remainder = cases[number].remainders[j];
-
-            filled(party, wants, hours, remainder);
-            filled(&cleared, wants, hours, remainder);
-            bought += hours;
-            remainders += remainder;
-            buyers += wants > 0;
-        }
-        check(bought * demand + remainders == demand * supply,
-              "something is left that is in no remainder");
-        check(demand == 0 || supply - bought < buyers, "too much is left over");
-        refused_by(party, CLOCKIVY_MAX_AMOUNT + 1, CLOCKIVY_AMOUNT_TOO_LARGE);
     }
 }
 
-/* Every refusal, and which comes first. */
+/* Every refusal by a record, and which comes first. */
 static void try_refusals(void)
 {
     static const size_t lengths[] = {0, 10, 26, 29, 30, 32};
@@ -245,7 +254,9 @@ static void try_refusals(void)
     for (i = 0; i < sizeof lengths / sizeof lengths[0]; i++)
         refused(words, lengths[i], large, CLOCKIVY_WRONG_LENGTH);
 
-    clockivy_party_cleared(&party, 20, 15);
+    /* The paper's auction, in which 20 are wanted and 15 for sale. */
+    run(0);
+    party = parties[0].session.party;
     filled(&party, 20, 15, 0);
     filled(&party, 7, 5, 5);
     filled(&party, CLOCKIVY_MAX_AMOUNT, 3145727, 5);
@@ -255,22 +266,38 @@ static void try_refusals(void)
     refused_by(&party, large, CLOCKIVY_NOT_CLEARED);
     party.round = CLOCKIVY_ROUND_SUPPLY;
     refused_by(&party, large, CLOCKIVY_NOT_CLEARED);
-    party.round = CLOCKIVY_ROUNDS;
+    party.round = WAY;
     refused_by(&party, large, CLOCKIVY_OUT_OF_RANGE);
     party.round = CLOCKIVY_ROUND_OVER + 1;
     refused_by(&party, large, CLOCKIVY_OUT_OF_RANGE);
+    party.round = CLOCKIVY_ROUND_OVER;
+    party.demand = 14;
+    refused_by(&party, 0, CLOCKIVY_OUT_OF_RANGE);
+}
 
-    /* Where D and S are no totals. */
-    clockivy_party_cleared(&party, 14, 15);
-    refused_by(&party, 0, CLOCKIVY_OUT_OF_RANGE);
-    clockivy_party_cleared(&party, CLOCKIVY_TOTAL_LIMIT, 0);
-    refused_by(&party, 0, CLOCKIVY_OUT_OF_RANGE);
-    clockivy_party_cleared(&party, UINT64_MAX, UINT64_MAX);
-    refused_by(&party, 0, CLOCKIVY_OUT_OF_RANGE);
-    clockivy_party_cleared(&party, CLOCKIVY_TOTAL_LIMIT - 1, CLOCKIVY_TOTAL_LIMIT - 1);
-    filled(&party, CLOCKIVY_MAX_AMOUNT, CLOCKIVY_MAX_AMOUNT, 0);
-    clockivy_party_cleared(&party, 0, 0);
-    filled(&party, CLOCKIVY_MAX_AMOUNT, 0, 0);
+/* The same by D and S: where they are no totals, that comes first. */
+static void try_totals(void)
+{
+    static const uint64_t none[][2] = {
+        {14, 15}, {0, 1}, {CLOCKIVY_TOTAL_LIMIT, 0}, {CLOCKIVY_TOTAL_LIMIT, CLOCKIVY_TOTAL_LIMIT},
+        {0, UINT64_MAX}, {UINT64_MAX, 0}, {UINT64_MAX, UINT64_MAX}
+    };
+    const uint64_t large = CLOCKIVY_MAX_AMOUNT + 1;
+    const uint64_t most = CLOCKIVY_TOTAL_LIMIT - 1;
+    size_t i;
+
+    for (i = 0; i < sizeof none / sizeof none[0]; i++) {
+        refused_by_totals(none[i][0], none[i][1], 0, CLOCKIVY_OUT_OF_RANGE);
+        refused_by_totals(none[i][0], none[i][1], large, CLOCKIVY_OUT_OF_RANGE);
+    }
+    refused_by_totals(20, 15, large, CLOCKIVY_AMOUNT_TOO_LARGE);
+    refused_by_totals(0, 0, UINT64_MAX, CLOCKIVY_AMOUNT_TOO_LARGE);
+    filled_by_totals(20, 15, 20, 15, 0);
+    filled_by_totals(20, 15, 7, 5, 5);
+    filled_by_totals(20, 15, CLOCKIVY_MAX_AMOUNT, 3145727, 5);
+    filled_by_totals(most, most, CLOCKIVY_MAX_AMOUNT, CLOCKIVY_MAX_AMOUNT, 0);
+    filled_by_totals(most, 0, CLOCKIVY_MAX_AMOUNT, 0, 0);
+    filled_by_totals(0, 0, CLOCKIVY_MAX_AMOUNT, 0, 0);
 }
 
 /* A bidder's number and marks need no record: 1 where they are none, and then 2. */
@@ -308,6 +335,7 @@ int main(void)
     for (number = 0; number < CASES; number++)
         run(number);
     try_refusals();
+    try_totals();
     try_lengths();
     printf("%d auctions, %d fills, %d refusals\n", (int)CASES, fills, refusals);
     return EXIT_SUCCESS;

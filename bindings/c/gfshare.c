@@ -23,19 +23,18 @@
  */
 #define _POSIX_C_SOURCE 199309L /* for clock_gettime */
 
-#include <stdio.h>
-#include <stdlib.h>
-#include <string.h>
 #include <time.h>
 
 #include <libgfshare.h>
 
-#include "clockivy.h"
+#include "check.h"
 
 enum {
     OWN = 2, /* the party whose shares are timed */
     MAX_N = CLOCKIVY_MAX_PARTIES,
-    BYTES = CLOCKIVY_SHEET_LEN - 1, /* shared in a sheet, after the mask */
+    WAY = CLOCKIVY_ROUNDS_33,
+    SHEET = CLOCKIVY_SHEET_LEN(WAY),
+    BYTES = SHEET - 1, /* shared in a sheet, after the mask */
     REPEATS = 31,
     BATCHES = 25 /* of each side in a repeat */
 };
@@ -48,20 +47,11 @@ static const long most_calls = 1L << 20;
 struct inputs {
     uint64_t n;
     uint64_t words[CLOCKIVY_DEAL_WORDS_LEN(MAX_N)];
-    uint8_t bytes[CLOCKIVY_DEAL_BYTES_LEN(MAX_N)];
-    uint64_t sheet[CLOCKIVY_SHEET_LEN];
+    uint8_t bytes[CLOCKIVY_DEAL_BYTES_LEN(MAX_N, WAY)];
+    uint64_t sheet[SHEET];
     gfshare_ctx *sharing;
     unsigned char share[BYTES];
 };
-
-/* Stops where something that has to hold does not. */
-static void check(int holds, const char *otherwise)
-{
-    if (!holds) {
-        fprintf(stderr, "%s\n", otherwise);
-        exit(EXIT_FAILURE);
-    }
-}
 
 /* Marsaglia's xorshift64, with a fixed seed: the times do not ask for more. */
 static uint64_t draw(void)
@@ -88,10 +78,9 @@ static void deal(struct inputs *inputs)
 {
     const uint64_t n = inputs->n;
 
-    check(clockivy_deal(n, OWN, inputs->words, CLOCKIVY_DEAL_WORDS_LEN(n),
-                        inputs->bytes, CLOCKIVY_DEAL_BYTES_LEN(n),
-                        inputs->sheet, CLOCKIVY_SHEET_LEN) == CLOCKIVY_DONE,
-          "clockivy_deal was refused");
+    done(clockivy_deal(n, OWN, inputs->words, CLOCKIVY_DEAL_WORDS_LEN(n),
+                       inputs->bytes, CLOCKIVY_DEAL_BYTES_LEN(n, WAY),
+                       inputs->sheet, SHEET), "clockivy_deal");
 }
 
 static void share(struct inputs *inputs)
@@ -110,7 +99,7 @@ static void draw_inputs(struct inputs *inputs, uint64_t n, unsigned char *points
     inputs->words[0] = draw() % CLOCKIVY_MASK_LIMIT;
     for (i = 1; i <= t; i++)
         inputs->words[i] = draw() % CLOCKIVY_PRIME;
-    draw_bytes(inputs->bytes, (unsigned int)CLOCKIVY_DEAL_BYTES_LEN(n));
+    draw_bytes(inputs->bytes, (unsigned int)CLOCKIVY_DEAL_BYTES_LEN(n, WAY));
 
     draw_bytes(secret, BYTES);
     inputs->sharing = gfshare_ctx_init_enc(points, (unsigned int)n, (unsigned char)(t + 1),
@@ -124,10 +113,10 @@ static void check_deal(struct inputs *inputs)
 {
     size_t i;
 
-    memset(inputs->sheet, 0xFF, sizeof inputs->sheet);
+    clockivy_blank(inputs->sheet, SHEET);
     deal(inputs);
     check(inputs->sheet[0] < CLOCKIVY_PRIME, "no share of the mask was dealt");
-    for (i = 1; i < CLOCKIVY_SHEET_LEN; i++)
+    for (i = 1; i < SHEET; i++)
         check(inputs->sheet[i] <= 255, "a share of a byte was not dealt");
 }
 

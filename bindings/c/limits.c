@@ -1,14 +1,12 @@
 /*
  * Tries clockivy_probe_limit, and the count and length of the sheets, on numbers
  * around powers of two; clockivy_party_has_bid on every place of the roll and on
- * numbers past it, up to the largest there is; where the fields of a record stand;
- * and that clockivy_party_cleared writes all of them and nothing else.
+ * numbers past it, up to the largest there is; the lengths that go by the way; where
+ * the fields of a record stand; and that no session is opened or resumed with a
+ * library of another version, for which two calls here stand in. It is not linked with
+ * the library.
  */
-#include <stdio.h>
-#include <stdlib.h>
-#include <string.h>
-
-#include "clockivy.h"
+#include "check.h"
 
 #define POWER(exponent) ((uint64_t)1 << (exponent))
 
@@ -56,7 +54,8 @@ static void try_limits(void)
             wrong = 1;
         }
         if (clockivy_sheet_count(cases[i].k) != 2 * cases[i].limit
-            || clockivy_sheets_len(cases[i].k) != 254 * cases[i].limit) {
+            || clockivy_sheets_len(cases[i].k, CLOCKIVY_ROUNDS_33) != 254 * cases[i].limit
+            || clockivy_sheets_len(cases[i].k, CLOCKIVY_ROUNDS_33 + 1) != 0) {
             fprintf(stderr, "case %d: not the sheets of two searches\n", (int)i + 1);
             wrong = 1;
         }
@@ -84,33 +83,67 @@ static void try_fields(void)
     }
 }
 
-/* A record made from any totals is whole, whatever stood there before. */
-static void try_cleared(void)
+/* Lengths that go by the way are constant, and 0 for a way that there is not. */
+static void try_ways(void)
 {
-    static const uint64_t totals[] = {0, 7, POWER(32) - 1, POWER(32), UINT64_MAX};
-    const uint64_t expected[] = {3, 1, 1, 0, 0, 1, 2, 36, 0, 0};
-    uint64_t words[CLOCKIVY_RECORD_LEN];
-    size_t i;
-    int j;
+    static const uint64_t sheet[CLOCKIVY_SHEET_LEN(CLOCKIVY_ROUNDS_33)] = {0};
+    static const uint8_t bytes[CLOCKIVY_DEAL_BYTES_LEN(9, CLOCKIVY_ROUNDS_33)] = {0};
 
-    for (i = 0; i < sizeof totals / sizeof totals[0]; i++) {
-        memset(&kept, 0xA5, sizeof kept);
-        clockivy_party_cleared(&kept.party, totals[i], ~totals[i]);
-        memcpy(words, &kept.party, sizeof words);
-        for (j = 0; j < 26; j++)
-            if (words[j] != (j < 10 ? expected[j] : 0))
-                wrong = 1;
-        if (words[26] != 2 || words[27] != 1 || words[28] != 1
-            || words[29] != totals[i] || words[30] != ~totals[i])
-            wrong = 1;
-        for (j = 0; j < 4; j++)
-            if (kept.after[j] / 256 % 256 != 0xA5)
-                wrong = 1;
-        if (wrong) {
-            fprintf(stderr, "a record made from totals is wrong\n");
-            return;
-        }
+    if (sizeof sheet != 127 * sizeof sheet[0] || sizeof bytes != 566
+        || CLOCKIVY_DEAL_BYTES_LEN(3, CLOCKIVY_ROUNDS_33) != 188
+        || CLOCKIVY_SHEET_LEN(0) != 0 || CLOCKIVY_SHEET_LEN(7) != 0
+        || CLOCKIVY_DEAL_BYTES_LEN(9, 0) != 0 || CLOCKIVY_DEAL_BYTES_LEN(9, 7) != 0) {
+        fprintf(stderr, "a length of a way is another\n");
+        wrong = 1;
     }
+}
+
+/* A library of the next version, of which no other call may be made. */
+
+uint64_t clockivy_version(void)
+{
+    return CLOCKIVY_VERSION + 1;
+}
+
+uint64_t clockivy_open(uint64_t n, uint64_t own, uint64_t k, uint64_t *totals,
+                       size_t totals_len, uint64_t *record, size_t record_len)
+{
+    (void)n, (void)own, (void)k, (void)totals, (void)totals_len, (void)record;
+    check(record_len == 0, "a library of another version was called");
+    return CLOCKIVY_DONE;
+}
+
+/* It is 2, after 1, and nothing is written. */
+static void try_version(void)
+{
+    static const clockivy_seat right = {3, 1, 1, CLOCKIVY_ROUNDS_33};
+    static const clockivy_seat no_seat = {2, 1, 1, CLOCKIVY_ROUNDS_33};
+    static uint64_t words[CLOCKIVY_STORED_HEAD + CLOCKIVY_RECORD_LEN + 2];
+    static uint64_t sheets[2 * CLOCKIVY_SHEET_LEN(CLOCKIVY_ROUNDS_33)];
+    const size_t words_len = sizeof words / sizeof words[0];
+    const size_t sheets_len = sizeof sheets / sizeof sheets[0];
+    uint64_t totals[2] = {77, 88};
+    clockivy_session session;
+    clockivy_session before;
+
+    memset(&session, 0xA5, sizeof session);
+    before = session;
+    words[CLOCKIVY_STORED_HEAD + CLOCKIVY_PLACE_K] = 1;
+    if (clockivy_session_open(&session, &right, totals, 2, sheets, sheets_len)
+            != CLOCKIVY_WRONG_LENGTH
+        || clockivy_session_open(&session, &no_seat, totals, 2, sheets, sheets_len)
+            != CLOCKIVY_OUT_OF_RANGE
+        || clockivy_session_resume(&session, words, words_len, totals, 2, sheets, sheets_len)
+            != CLOCKIVY_OUT_OF_RANGE)
+        wrong = 1;
+    words[0] = CLOCKIVY_VERSION;
+    if (clockivy_session_resume(&session, words, words_len, totals, 2, sheets, sheets_len)
+            != CLOCKIVY_WRONG_LENGTH
+        || memcmp(&session, &before, sizeof before) != 0
+        || totals[0] != 77 || totals[1] != 88 || sheets[0] != 0)
+        wrong = 1;
+    if (wrong)
+        fprintf(stderr, "a library of another version is not refused as it should be\n");
 }
 
 /* Asks about every number, where the one place alone is marked, or none is. */
@@ -147,8 +180,9 @@ static void try_marks(void)
 int main(void)
 {
     try_limits();
+    try_ways();
     try_fields();
-    try_cleared();
+    try_version();
     try_marks();
     if (wrong)
         return EXIT_FAILURE;

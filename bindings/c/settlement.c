@@ -1,18 +1,14 @@
 /*
- * The settlement page. Writes pages of some entries, holds each against its text and
+ * The settlement page. Writes pages of some amounts, holds each against its text and
  * reads it back; changes every byte of one, which leaves another page or none; and
  * tries every refusal of clockivy_settlement_write and clockivy_settlement_read, in
  * their order. What a call may not write is looked at after each.
  */
-#include <stdio.h>
-#include <stdlib.h>
-#include <string.h>
-
-#include "clockivy.h"
+#include "check.h"
 
 enum { BUY = 0, SELL = 2, MOST = 3, PRICE = 111, LINE = CLOCKIVY_LINE_LEN };
 
-/* The entries of a bidder and side: what it wanted, and next to that what it got. */
+/* The amounts of a bidder and side: what it wanted, and next to that what it got. */
 #define PLACE(bidder, side) (4 * ((bidder) - 1) + (side))
 
 /* A page, and what it is laid out from. */
@@ -23,7 +19,7 @@ static const struct {
         size_t place;
         uint64_t wanted;
         uint64_t got;
-    } amounts[MOST];
+    } pairs[MOST];
     const char *text;
 } cases[] = {
     /* nobody wants anything */
@@ -45,60 +41,51 @@ static const struct {
 
 enum { CASES = sizeof cases / sizeof cases[0] };
 
-static uint64_t entries[CLOCKIVY_ENTRIES_LEN + 1];
+static uint64_t amounts[CLOCKIVY_SETTLEMENT_LEN + 1];
 static uint8_t page[CLOCKIVY_MAX_PAGE_LEN + 1];
 
 static int written_pages;
 static int read_pages;
 static int refusals;
 
-/* Stops where something that has to hold does not. */
-static void check(int holds, const char *otherwise)
-{
-    if (!holds) {
-        fprintf(stderr, "%s\n", otherwise);
-        exit(EXIT_FAILURE);
-    }
-}
-
-static void set_entries(size_t number)
+static void set_amounts(size_t number)
 {
     size_t i;
 
-    memset(entries, 0, sizeof entries);
+    memset(amounts, 0, sizeof amounts);
     for (i = 0; i < cases[number].lines; i++) {
-        entries[cases[number].amounts[i].place] = cases[number].amounts[i].wanted;
-        entries[cases[number].amounts[i].place + 1] = cases[number].amounts[i].got;
+        amounts[cases[number].pairs[i].place] = cases[number].pairs[i].wanted;
+        amounts[cases[number].pairs[i].place + 1] = cases[number].pairs[i].got;
     }
 }
 
-/* Reads a page. What is refused leaves the entries as they were. */
+/* Reads a page. What is refused leaves the amounts as they were. */
 static uint64_t read_page(uint64_t price, const uint8_t *bytes, size_t length,
                           uint64_t *into, size_t into_len)
 {
-    static uint64_t before[CLOCKIVY_ENTRIES_LEN + 1];
+    static uint64_t before[CLOCKIVY_SETTLEMENT_LEN + 1];
     uint64_t reply;
 
     memset(before, 0xA5, sizeof before);
     memset(into, 0xA5, sizeof before);
     reply = clockivy_settlement_read(price, bytes, length, into, into_len);
     if (reply != CLOCKIVY_DONE)
-        check(memcmp(into, before, sizeof before) == 0, "a refused reading wrote entries");
+        check(memcmp(into, before, sizeof before) == 0, "a refused reading wrote amounts");
     check(memcmp(into + into_len, before + into_len,
                  sizeof before - into_len * sizeof before[0]) == 0,
-          "reading wrote past the entries");
+          "reading wrote past the amounts");
     return reply;
 }
 
 /* Writes a page, where it has so much room. What is not written stays. */
-static uint64_t write_page(uint64_t price, size_t entries_len, size_t room, uint64_t *written)
+static uint64_t write_page(uint64_t price, size_t amounts_len, size_t room, uint64_t *written)
 {
     uint64_t reply;
     size_t past;
 
     memset(page, '?', sizeof page);
     *written = 77;
-    reply = clockivy_settlement_write(price, entries, entries_len, page, room, written);
+    reply = clockivy_settlement_write(price, amounts, amounts_len, page, room, written);
     if (reply != CLOCKIVY_DONE)
         check(*written == 77, "a refused writing wrote a count");
     past = reply == CLOCKIVY_DONE ? (size_t)*written : 0;
@@ -107,57 +94,57 @@ static uint64_t write_page(uint64_t price, size_t entries_len, size_t room, uint
     return reply;
 }
 
-/* A page is its text, in just enough room or more, and gives the entries back. */
+/* A page is its text, in just enough room or more, and gives the amounts back. */
 static void lay_out(size_t number)
 {
-    static uint64_t found[CLOCKIVY_ENTRIES_LEN + 1];
+    static uint64_t found[CLOCKIVY_SETTLEMENT_LEN + 1];
     const uint64_t price = cases[number].price;
     const size_t length = strlen(cases[number].text);
     uint64_t written;
     size_t room;
 
-    set_entries(number);
+    set_amounts(number);
     check(length == LINE * cases[number].lines, "a text has other lines");
     for (room = length; room <= length + 2; room++) {
-        check(write_page(price, CLOCKIVY_ENTRIES_LEN, room, &written) == 0,
+        check(write_page(price, CLOCKIVY_SETTLEMENT_LEN, room, &written) == 0,
               "writing was refused");
         check(written == length, "the reply does not count the bytes");
         check(memcmp(page, cases[number].text, length) == 0, "a page is not its text");
         written_pages++;
     }
     for (room = 0; room < length; room++) {
-        check(write_page(price, CLOCKIVY_ENTRIES_LEN, room, &written)
+        check(write_page(price, CLOCKIVY_SETTLEMENT_LEN, room, &written)
               == CLOCKIVY_PAGE_TOO_SHORT, "a page that is too short was not refused");
         refusals++;
     }
     check(read_page(price, (const uint8_t *)cases[number].text, length,
-                    found, CLOCKIVY_ENTRIES_LEN) == 0, "reading was refused");
-    check(memcmp(found, entries, sizeof found - sizeof found[0]) == 0,
-          "a page gives other entries");
+                    found, CLOCKIVY_SETTLEMENT_LEN) == 0, "reading was refused");
+    check(memcmp(found, amounts, sizeof found - sizeof found[0]) == 0,
+          "a page gives other amounts");
     read_pages++;
 }
 
 /* Every line that there can be. */
 static void fill_page(void)
 {
-    static uint64_t found[CLOCKIVY_ENTRIES_LEN + 1];
+    static uint64_t found[CLOCKIVY_SETTLEMENT_LEN + 1];
     uint64_t written;
     size_t i;
 
-    memset(entries, 0, sizeof entries);
-    for (i = 0; i < CLOCKIVY_ENTRIES_LEN; i += 2) {
-        entries[i] = 1000 * i + 1;
-        entries[i + 1] = 999 * i;
+    memset(amounts, 0, sizeof amounts);
+    for (i = 0; i < CLOCKIVY_SETTLEMENT_LEN; i += 2) {
+        amounts[i] = 1000 * i + 1;
+        amounts[i + 1] = 999 * i;
     }
-    check(write_page(PRICE, CLOCKIVY_ENTRIES_LEN, CLOCKIVY_MAX_PAGE_LEN, &written) == 0,
+    check(write_page(PRICE, CLOCKIVY_SETTLEMENT_LEN, CLOCKIVY_MAX_PAGE_LEN, &written) == 0,
           "the longest page was refused");
     check(written == CLOCKIVY_MAX_PAGE_LEN, "the longest page has another length");
     for (i = LINE - 1; i < CLOCKIVY_MAX_PAGE_LEN; i += LINE)
         check(page[i] == '\n', "a line does not end");
-    check(read_page(PRICE, page, CLOCKIVY_MAX_PAGE_LEN, found, CLOCKIVY_ENTRIES_LEN) == 0,
+    check(read_page(PRICE, page, CLOCKIVY_MAX_PAGE_LEN, found, CLOCKIVY_SETTLEMENT_LEN) == 0,
           "the longest page was not read");
-    check(memcmp(found, entries, sizeof found - sizeof found[0]) == 0,
-          "the longest page gives other entries");
+    check(memcmp(found, amounts, sizeof found - sizeof found[0]) == 0,
+          "the longest page gives other amounts");
     written_pages++;
     read_pages++;
 }
@@ -179,12 +166,12 @@ static void change_bytes(size_t number)
             memcpy(other, cases[number].text, length);
             other[place] = (uint8_t)byte;
             reply = read_page(cases[number].price, other, length,
-                              entries, CLOCKIVY_ENTRIES_LEN);
+                              amounts, CLOCKIVY_SETTLEMENT_LEN);
             if (reply == CLOCKIVY_DONE) {
-                check(write_page(cases[number].price, CLOCKIVY_ENTRIES_LEN, length, &written)
+                check(write_page(cases[number].price, CLOCKIVY_SETTLEMENT_LEN, length, &written)
                       == 0, "what was read is not written");
                 check(written == length && memcmp(page, other, length) == 0,
-                      "a page was read that its entries do not lay out to");
+                      "a page was read that its amounts do not lay out to");
                 read_pages++;
                 written_pages++;
             } else {
@@ -195,22 +182,22 @@ static void change_bytes(size_t number)
 }
 
 /* A reading that is refused with this number. */
-static void not_read(uint64_t price, const char *text, size_t length, size_t entries_len,
+static void not_read(uint64_t price, const char *text, size_t length, size_t amounts_len,
                      uint64_t number)
 {
-    static uint64_t found[CLOCKIVY_ENTRIES_LEN + 1];
+    static uint64_t found[CLOCKIVY_SETTLEMENT_LEN + 1];
 
-    check(read_page(price, (const uint8_t *)text, length, found, entries_len) == number,
+    check(read_page(price, (const uint8_t *)text, length, found, amounts_len) == number,
           "reading was not refused, or with another number");
     refusals++;
 }
 
 /* A writing that is refused with this number. */
-static void not_written(uint64_t price, size_t entries_len, size_t room, uint64_t number)
+static void not_written(uint64_t price, size_t amounts_len, size_t room, uint64_t number)
 {
     uint64_t written;
 
-    check(write_page(price, entries_len, room, &written) == number,
+    check(write_page(price, amounts_len, room, &written) == number,
           "writing was not refused, or with another number");
     refusals++;
 }
@@ -220,9 +207,10 @@ static void try_refusals(void)
 {
     static const uint64_t prices[] = {0, CLOCKIVY_HIGHEST_PRICE + 1, UINT64_MAX};
     static const size_t lengths[] = {
-        0, 1, CLOCKIVY_ENTRIES_LEN - 2, CLOCKIVY_ENTRIES_LEN - 1, CLOCKIVY_ENTRIES_LEN + 1
+        0, 1, CLOCKIVY_SETTLEMENT_LEN - 2, CLOCKIVY_SETTLEMENT_LEN - 1,
+        CLOCKIVY_SETTLEMENT_LEN + 1
     };
-    static const uint64_t amounts[][2] = {
+    static const uint64_t faults[][2] = {
         {0, 1}, {300, 301}, {CLOCKIVY_MAX_AMOUNT + 1, 0},
         {CLOCKIVY_MAX_AMOUNT + 1, CLOCKIVY_MAX_AMOUNT + 1}, {0, UINT64_MAX},
         {UINT64_MAX, UINT64_MAX}
@@ -231,36 +219,36 @@ static void try_refusals(void)
     size_t i;
 
     /* Got above wanted, so that 6 applies throughout. */
-    set_entries(1);
-    entries[1] = 301;
+    set_amounts(1);
+    amounts[1] = 301;
     for (i = 0; i < sizeof prices / sizeof prices[0]; i++) {
         not_written(prices[i], 0, 0, CLOCKIVY_OUT_OF_RANGE);
-        not_written(prices[i], CLOCKIVY_ENTRIES_LEN, 2 * LINE, CLOCKIVY_OUT_OF_RANGE);
+        not_written(prices[i], CLOCKIVY_SETTLEMENT_LEN, 2 * LINE, CLOCKIVY_OUT_OF_RANGE);
         not_read(prices[i], "?", 1, 0, CLOCKIVY_OUT_OF_RANGE);
-        not_read(prices[i], text, 2 * LINE, CLOCKIVY_ENTRIES_LEN, CLOCKIVY_OUT_OF_RANGE);
+        not_read(prices[i], text, 2 * LINE, CLOCKIVY_SETTLEMENT_LEN, CLOCKIVY_OUT_OF_RANGE);
     }
     for (i = 0; i < sizeof lengths / sizeof lengths[0]; i++) {
         not_written(PRICE, lengths[i], 0, CLOCKIVY_WRONG_LENGTH);
         not_read(PRICE, "?", 1, lengths[i], CLOCKIVY_WRONG_LENGTH);
         not_read(PRICE, text, 2 * LINE, lengths[i], CLOCKIVY_WRONG_LENGTH);
     }
-    for (i = 0; i < sizeof amounts / sizeof amounts[0]; i++) {
-        set_entries(1);
-        entries[PLACE(500, SELL)] = amounts[i][0];
-        entries[PLACE(500, SELL) + 1] = amounts[i][1];
-        not_written(PRICE, CLOCKIVY_ENTRIES_LEN, 0, CLOCKIVY_AMOUNT_TOO_LARGE);
-        not_written(PRICE, CLOCKIVY_ENTRIES_LEN, 3 * LINE, CLOCKIVY_AMOUNT_TOO_LARGE);
+    for (i = 0; i < sizeof faults / sizeof faults[0]; i++) {
+        set_amounts(1);
+        amounts[PLACE(500, SELL)] = faults[i][0];
+        amounts[PLACE(500, SELL) + 1] = faults[i][1];
+        not_written(PRICE, CLOCKIVY_SETTLEMENT_LEN, 0, CLOCKIVY_AMOUNT_TOO_LARGE);
+        not_written(PRICE, CLOCKIVY_SETTLEMENT_LEN, 3 * LINE, CLOCKIVY_AMOUNT_TOO_LARGE);
     }
 
     /* Another price, a page cut off or with more behind it, and its lines exchanged. */
-    not_read(PRICE - 1, text, 2 * LINE, CLOCKIVY_ENTRIES_LEN, CLOCKIVY_MALFORMED);
+    not_read(PRICE - 1, text, 2 * LINE, CLOCKIVY_SETTLEMENT_LEN, CLOCKIVY_MALFORMED);
     for (i = 0; i < 2 * LINE; i++)
         if (i % LINE != 0)
-            not_read(PRICE, text, i, CLOCKIVY_ENTRIES_LEN, CLOCKIVY_MALFORMED);
-    not_read(PRICE, text, 2 * LINE + 1, CLOCKIVY_ENTRIES_LEN, CLOCKIVY_MALFORMED);
+            not_read(PRICE, text, i, CLOCKIVY_SETTLEMENT_LEN, CLOCKIVY_MALFORMED);
+    not_read(PRICE, text, 2 * LINE + 1, CLOCKIVY_SETTLEMENT_LEN, CLOCKIVY_MALFORMED);
     memcpy(page, text + LINE, LINE);
     memcpy(page + LINE, text, LINE);
-    not_read(PRICE, (const char *)page, 2 * LINE, CLOCKIVY_ENTRIES_LEN, CLOCKIVY_MALFORMED);
+    not_read(PRICE, (const char *)page, 2 * LINE, CLOCKIVY_SETTLEMENT_LEN, CLOCKIVY_MALFORMED);
 }
 
 int main(void)

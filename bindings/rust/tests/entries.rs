@@ -4,13 +4,10 @@
 use std::cell::Cell;
 
 use clockivy::{
-    coins_len, split, split_entry, table_len, threshold, Collecting, Entries, Refusal, MAX_AMOUNT,
-    MAX_PRICES, PARTIES, PRIME,
+    coins_len, split, split_entry, table_len, threshold, Collecting, Entries, Refusal, BLANK,
+    MAX_AMOUNT, MAX_PRICES, PARTIES, PRIME,
 };
-
-/// What stands in a place before it is written. It is no share. The iterator
-/// puts it there.
-const BEFORE: u64 = u64::MAX;
+use clockivy_testing::seat;
 
 /// A table that a bidder may bid: demand from the largest amount down, and
 /// supply from 0 up.
@@ -39,8 +36,8 @@ fn coins_of(n: u64, entry: u64, coins: &[u64]) -> &[u64] {
 
 /// A party's shares, by one call.
 fn whole(n: u64, own: u64, k: u64, table: &[u64], coins: &[u64]) -> Vec<u64> {
-    let mut shares = vec![BEFORE; table_len(k)];
-    split(n, own, k, table, coins, &mut shares).unwrap();
+    let mut shares = vec![BLANK; table_len(k)];
+    split(seat(n, own, k), table, coins, &mut shares).unwrap();
     shares
 }
 
@@ -54,7 +51,7 @@ fn by_entries(
 ) -> Vec<u64> {
     for entry in entries {
         let coins = coins_of(n, entry, coins);
-        split_entry(n, own, k, entry, table, coins, &mut shares).unwrap();
+        split_entry(seat(n, own, k), entry, table, coins, &mut shares).unwrap();
     }
     shares
 }
@@ -73,7 +70,7 @@ fn entries_in_any_order_are_the_shares_split_at_once() {
             for own in 1..=n {
                 let expected = whole(n, own, k, &table, &coins);
                 for order in &orders {
-                    for before in [0, 1, PRIME, BEFORE] {
+                    for before in [0, 1, PRIME, BLANK] {
                         let held = vec![before; table_len(k)];
                         let order = order.iter().copied();
                         let left = by_entries((n, own, k), order, &table, &coins, held);
@@ -90,7 +87,7 @@ fn one_entry_changes_one_place() {
     for (n, own, k) in [(3, 1, 1), (4, 4, 5), (9, 9, MAX_PRICES)] {
         let (table, coins) = (table(k), coins(n, k));
         let whole = whole(n, own, k, &table, &coins);
-        let held: Vec<u64> = (0..2 * k).map(|place| BEFORE - place).collect();
+        let held: Vec<u64> = (0..2 * k).map(|place| BLANK - place).collect();
         for entry in [1, 2, k, k + 1, 2 * k] {
             let left = by_entries((n, own, k), [entry], &table, &coins, held.clone());
             let mut expected = held.clone();
@@ -105,7 +102,7 @@ fn one_entry_changes_one_place() {
 fn one_slice_serves_all_parties_in_turn() {
     let (n, k) = (5, 3);
     let (table, coins) = (table(k), coins(n, k));
-    let mut shares = vec![BEFORE; table_len(k)];
+    let mut shares = vec![BLANK; table_len(k)];
     for entry in 1..=2 * k {
         let place = entry as usize - 1;
         for own in 1..=n {
@@ -118,10 +115,10 @@ fn one_slice_serves_all_parties_in_turn() {
 /// Asks for one entry of a bid among five parties, who have two coins for each.
 /// A refusal has changed nothing.
 fn try_entry(entry: u64, table: &[u64], coins: &[u64], length: usize) -> Result<(), Refusal> {
-    let mut shares = vec![BEFORE; length];
-    let reply = split_entry(5, 2, 3, entry, table, coins, &mut shares);
+    let mut shares = vec![BLANK; length];
+    let reply = split_entry(seat(5, 2, 3), entry, table, coins, &mut shares);
     if reply.is_err() {
-        assert_eq!(shares, vec![BEFORE; length]);
+        assert_eq!(shares, vec![BLANK; length]);
     }
     reply
 }
@@ -174,10 +171,10 @@ fn numbers_of_no_auction() {
         (3, 1, (1 << 63) + 1, 1),
         (u64::MAX, u64::MAX, u64::MAX, u64::MAX),
     ] {
-        let mut shares = [BEFORE; 2];
-        let reply = split_entry(n, own, k, entry, &table, &coins, &mut shares);
+        let mut shares = [BLANK; 2];
+        let reply = split_entry(seat(n, own, k), entry, &table, &coins, &mut shares);
         assert_eq!(reply, Err(Refusal::OutOfRange));
-        assert_eq!(shares, [BEFORE; 2]);
+        assert_eq!(shares, [BLANK; 2]);
     }
 }
 
@@ -188,7 +185,7 @@ fn the_iterator_writes_what_is_split_at_once_from_the_words_it_drew() {
             let (table, coins) = (table(k), coins(n, k));
             let mut shares = vec![0; n as usize * table_len(k)];
             let mut drawn = coins.iter().copied();
-            let mut source = || drawn.next().unwrap();
+            let mut source = || drawn.next();
             let entries = Entries::new(n, k, &table, &mut shares, &mut source).unwrap();
             assert_eq!(entries.write_all(), Ok(()));
             assert_eq!(drawn.next(), None);
@@ -206,7 +203,7 @@ fn each_item_is_an_entry_with_its_own_t_words() {
         let drawn = Cell::new(0);
         let mut source = || {
             drawn.set(drawn.get() + 1);
-            7
+            Some(7)
         };
         let (table, mut shares) = (table(k), vec![0; n as usize * table_len(k)]);
         let mut entries = Entries::new(n, k, &table, &mut shares, &mut source).unwrap();
@@ -230,7 +227,7 @@ fn the_rest_is_written_all() {
     let (table, coins) = (table(k), coins(n, k));
     let mut shares = vec![0; n as usize * table_len(k)];
     let mut drawn = coins.iter().copied();
-    let mut source = || drawn.next().unwrap();
+    let mut source = || drawn.next();
     let mut entries = Entries::new(n, k, &table, &mut shares, &mut source).unwrap();
     assert_eq!(entries.nth(2), Some(Ok(3)));
     assert_eq!(entries.write_all(), Ok(()));
@@ -248,7 +245,7 @@ fn the_next_bid_goes_on_with_the_source_from_where_this_one_ended() {
     let mut drawn = 0;
     let mut source = move || {
         drawn += 1;
-        drawn
+        Some(drawn)
     };
     // It is `Copy`.
     let _copy = source;
@@ -271,7 +268,7 @@ fn a_place_that_the_iterator_did_not_come_to_is_no_share() {
     for before in [0, 7, PRIME - 1] {
         for written in 0..=table_len(k) {
             let mut shares = vec![before; n as usize * table_len(k)];
-            let mut source = || 31;
+            let mut source = || Some(31);
             let entries = Entries::new(n, k, &table, &mut shares, &mut source).unwrap();
             assert!(entries.take(written).all(|entry| entry.is_ok()));
             let expected = if written == table_len(k) {
@@ -280,26 +277,64 @@ fn a_place_that_the_iterator_did_not_come_to_is_no_share() {
                 Err(Refusal::ShareOutOfRange)
             };
             for (own, shares) in (1..).zip(shares.chunks(table_len(k))) {
-                let mut totals = vec![0; table_len(k)];
-                let mut session = Collecting::open(n, own, k, &mut totals).unwrap();
-                assert_eq!(session.add(&mut totals, 1, shares), expected);
+                let mut session = Collecting::open(seat(n, own, k)).unwrap();
+                assert_eq!(session.add(1, shares), expected);
             }
         }
     }
 }
 
-/// Each place of a bid's coins in turn holds a word that is none.
+/// How often a word of no use is drawn again, and then no more.
+const TRIES: usize = 64;
+
+/// Before each place of a bid's coins in turn stand words that are no coins. They are
+/// drawn again, and what is written is the same.
 #[test]
-fn a_word_that_is_no_coin_ends_it_and_no_party_has_that_entry() {
+fn a_word_that_is_no_coin_is_drawn_again() {
     let (n, k) = (7, 2);
     let (table, coins) = (table(k), coins(n, k));
     for (worn, word) in (0..coins.len()).flat_map(|place| [(place, PRIME), (place, u64::MAX)]) {
-        let refused = (worn / threshold(n)) as u64 + 1;
+        for times in [1, 2, TRIES - 1] {
+            let mut shares = vec![0; n as usize * table_len(k)];
+            let before = coins[..worn].iter().copied();
+            let again = std::iter::repeat_n(word, times);
+            let mut words = before.chain(again).chain(coins[worn..].iter().copied());
+            let mut source = || words.next();
+            let entries = Entries::new(n, k, &table, &mut shares, &mut source).unwrap();
+            assert_eq!(entries.write_all(), Ok(()));
+            assert_eq!(words.next(), None);
+            for (own, shares) in (1..).zip(shares.chunks(table_len(k))) {
+                assert_eq!(shares, whole(n, own, k, &table, &coins));
+            }
+        }
+    }
+}
+
+/// How a source fails at a place of a bid's coins: it has nothing there, or there and
+/// ever after, or from there on only words that are no coins.
+#[derive(Clone, Copy)]
+enum Worn {
+    Once,
+    Empty,
+    Stuck(u64),
+}
+
+/// A source fails at each place of a bid's coins in turn.
+#[test]
+fn a_source_that_has_no_coin_ends_it_and_no_party_has_that_entry() {
+    let (n, k) = (7, 2);
+    let (table, coins) = (table(k), coins(n, k));
+    let stuck = [PRIME, u64::MAX].map(Worn::Stuck);
+    let ways = [Worn::Once, Worn::Empty, stuck[0], stuck[1]];
+    for (failed, worn) in (0..coins.len()).flat_map(|place| ways.map(|worn| (place, worn))) {
+        let refused = (failed / threshold(n)) as u64 + 1;
         let mut shares = vec![0; n as usize * table_len(k)];
         let mut places = 0..;
-        let mut source = || match places.next().unwrap() {
-            place if place == worn => word,
-            place => coins[place],
+        let mut source = || match (places.next()?, worn) {
+            (place, _) if place < failed => Some(coins[place]),
+            (place, Worn::Once) if place > failed => Some(coins[place]),
+            (_, Worn::Once | Worn::Empty) => None,
+            (_, Worn::Stuck(word)) => Some(word),
         };
         let mut entries = Entries::new(n, k, &table, &mut shares, &mut source).unwrap();
         for entry in 1..refused {
@@ -314,9 +349,15 @@ fn a_word_that_is_no_coin_ends_it_and_no_party_has_that_entry() {
         // What is not whole is not called so.
         assert_eq!(entries.write_all(), Err(refusal));
         // Nothing more was drawn.
-        assert_eq!(places.start, refused as usize * threshold(n));
+        let tries = if matches!(worn, Worn::Stuck(_)) {
+            TRIES
+        } else {
+            1
+        };
+        let lacking = refused as usize * threshold(n) - failed;
+        assert_eq!(places.start, failed + lacking * tries);
         for (own, shares) in (1..).zip(shares.chunks(table_len(k))) {
-            let held = vec![BEFORE; table_len(k)];
+            let held = vec![BLANK; table_len(k)];
             let expected = by_entries((n, own, k), 1..refused, &table, &coins, held);
             assert_eq!(shares, expected);
         }
@@ -331,13 +372,13 @@ fn a_table_is_refused_before_any_party_has_an_entry() {
         ([5, 6, 1, 4], Refusal::NotMonotone),
         ([5, 2, 4, 1], Refusal::NotMonotone),
     ] {
-        let (mut shares, mut source) = ([0; 3 * 4], || 7);
+        let (mut shares, mut source) = ([0; 3 * 4], || Some(7));
         let entries = Entries::new(3, 2, &table, &mut shares, &mut source).unwrap();
         assert_eq!(entries.write_all(), Err(refusal));
         let mut entries = Entries::new(3, 2, &table, &mut shares, &mut source).unwrap();
         assert_eq!(entries.next(), Some(Err(refusal)));
         assert_eq!(entries.next(), None);
-        assert_eq!(shares, [BEFORE; 3 * 4]);
+        assert_eq!(shares, [BLANK; 3 * 4]);
     }
 }
 
@@ -345,9 +386,9 @@ fn a_table_is_refused_before_any_party_has_an_entry() {
 /// the shares as they were; else what they held is gone.
 fn refused_entries(n: u64, k: u64, table: usize, shares: usize) -> Option<Refusal> {
     let (table, mut shares) = (vec![0; table], vec![7; shares]);
-    let mut source = || -> u64 { panic!("nothing is drawn yet") };
+    let mut source = || -> Option<u64> { panic!("nothing is drawn yet") };
     let refusal = Entries::new(n, k, &table, &mut shares, &mut source).err();
-    let expected = if refusal.is_some() { 7 } else { BEFORE };
+    let expected = if refusal.is_some() { 7 } else { BLANK };
     assert!(shares.iter().all(|&share| share == expected));
     refusal
 }
@@ -396,8 +437,8 @@ fn what_no_iterator_is_made_of() {
 #[test]
 fn neither_table_nor_shares_are_shown() {
     let (table, mut shares) = ([5, 3], [0; 6]);
-    let mut coins = [7, PRIME].into_iter();
-    let mut source = || coins.next().unwrap();
+    let mut coins = [7].into_iter();
+    let mut source = || coins.next();
     let mut entries = Entries::new(3, 1, &table, &mut shares, &mut source).unwrap();
     entries.next();
     let shown = "Entries { n: 3, k: 1, written: 1, refused: None, .. }";
@@ -410,8 +451,8 @@ fn neither_table_nor_shares_are_shown() {
 /// Party `own`'s share of one entry of a bid among n, from these coins.
 fn share(n: u64, own: u64, entry: u64, table: &[u64], coins: &[u64]) -> u64 {
     let k = table.len() as u64 / 2;
-    let mut shares = vec![BEFORE; table.len()];
-    split_entry(n, own, k, entry, table, coins, &mut shares).unwrap();
+    let mut shares = vec![BLANK; table.len()];
+    split_entry(seat(n, own, k), entry, table, coins, &mut shares).unwrap();
     shares[entry as usize - 1]
 }
 
@@ -442,7 +483,7 @@ fn amounts_are_given_away_by_coins_used_again() {
 fn amounts_are_given_away_by_a_source_that_repeats_itself() {
     let (table, mut shares) = ([9_000, 8_200, 70, 950], [0; 5 * 4]);
     let mut coins = [31, 47].into_iter().cycle();
-    let mut source = || coins.next().unwrap();
+    let mut source = || coins.next();
     let entries = Entries::new(5, 2, &table, &mut shares, &mut source).unwrap();
     assert_eq!(entries.write_all(), Ok(()));
     for shares in shares.chunks(4) {
@@ -517,9 +558,9 @@ fn a_place_of_zeros_that_is_not_written_counts_as_0() {
 fn amounts_of_two_tables_make_a_bid_that_nothing_judges() {
     let coins = [31, 47, 59, 88];
     let (one, another, mixed) = ([2, 2, 0, 0], [5, 5, 0, 0], [2, 5, 0, 0]);
-    let mut shares = by_entries((3, 1, 2), [1, 3, 4], &one, &coins, vec![BEFORE; 4]);
+    let mut shares = by_entries((3, 1, 2), [1, 3, 4], &one, &coins, vec![BLANK; 4]);
     shares = by_entries((3, 1, 2), [2], &another, &coins, shares);
     assert_eq!(shares, [2 + 31, 5 + 47, 59, 88]);
-    let refused = split(3, 1, 2, &mixed, &coins, &mut shares);
+    let refused = split(seat(3, 1, 2), &mixed, &coins, &mut shares);
     assert_eq!(refused, Err(Refusal::NotMonotone));
 }

@@ -1,11 +1,17 @@
 //! The paper's checked lines and limits, through the typed calls.
 
+use clockivy::words::place;
 use clockivy::{
     coins_len, deal, deal_bytes_len, deal_words_len, probe_limit, sheet_count, sheets_len, split,
-    table_len, threshold, Answer, Collecting, Refusal, Speaking, DEMAND_ROUND, MASK_LIMIT,
-    MAX_AMOUNT, OVER_ROUND, PRIME, RECORD_LEN, ROLL_LEN, ROUNDS, SHEET_LEN, STORED_LEN,
-    SUPPLY_ROUND,
+    stored_len, table_len, threshold, words, Collecting, Outcome, Refusal, Sheets, Speaking,
+    DEMAND_ROUND, MASK_LIMIT, MAX_AMOUNT, OVER_ROUND, PRIME, RECORD_LEN, ROLL_LEN, SUPPLY_ROUND,
 };
+use clockivy_testing::{
+    from_all, from_marked, parts, plain_round, record, reply, seat, stored, Plain, WAY,
+};
+
+/// The words of a sheet.
+const SHEET: usize = WAY.sheet_len();
 
 /// All parties' shares of one amount, written as demand at the only price.
 fn shares_of(n: u64, secret: u64, coefficients: &[u64]) -> Vec<u64> {
@@ -14,7 +20,7 @@ fn shares_of(n: u64, secret: u64, coefficients: &[u64]) -> Vec<u64> {
     (1..=n)
         .map(|own| {
             let mut shares = [0; 2];
-            split(n, own, 1, &[secret, 0], &coins, &mut shares).unwrap();
+            split(seat(n, own, 1), &[secret, 0], &coins, &mut shares).unwrap();
             shares[0]
         })
         .collect()
@@ -31,12 +37,12 @@ fn shares_of_an_amount() {
 
 #[test]
 fn shares_of_a_bit() {
-    let mut bytes = vec![0; deal_bytes_len(3)];
+    let mut bytes = vec![0; deal_bytes_len(3, WAY)];
     bytes[0] = 0x80;
     let shares: Vec<u64> = (1..=3)
         .map(|own| {
-            let mut sheet = [0; SHEET_LEN];
-            deal(3, own, &[1, 0], &bytes, &mut sheet).unwrap();
+            let mut sheet = [0; SHEET];
+            deal(seat(3, own, 1), &[1, 0], &bytes, &mut sheet).unwrap();
             sheet[1]
         })
         .collect();
@@ -45,11 +51,11 @@ fn shares_of_a_bit() {
 
 /// The share of alpha times beta, none of them masked.
 fn product(alpha: u8, beta: u8) -> u64 {
-    let mut bytes = vec![0; deal_bytes_len(3)];
+    let mut bytes = vec![0; deal_bytes_len(3, WAY)];
     bytes[33] = alpha;
     bytes[34] = beta;
-    let mut sheet = [0; SHEET_LEN];
-    deal(3, 1, &[0, 0], &bytes, &mut sheet).unwrap();
+    let mut sheet = [0; SHEET];
+    deal(seat(3, 1, 1), &[0, 0], &bytes, &mut sheet).unwrap();
     assert_eq!(sheet[34..36], [alpha.into(), beta.into()]);
     sheet[36]
 }
@@ -74,67 +80,101 @@ fn shares_wrap_around_the_prime() {
 
 #[test]
 fn a_round_that_lies_on_no_polynomial() {
-    let mut totals = [0; 2];
-    let session = Collecting::open(5, 1, 1, &mut totals).unwrap();
-    let mut sheets = [0; sheets_len(1)];
-    sheets[0] = (1 << 59) + (1 << 32) - 12;
-    let mut party = session.speak(&totals, &sheets);
-    assert_eq!(party.say(), Ok(12));
+    let session = Collecting::open(seat(5, 1, 1)).unwrap();
+    // The second search's sheet is not come to, but may not be all zeros.
+    let mut sheets = [0; sheets_len(1, WAY)];
+    [sheets[0], sheets[SHEET]] = [(1 << 59) + (1 << 32) - 12, 1];
+    let mut plain = Plain::resume(&session.store(), &sheets);
+    let mut party = session.speak(Sheets::received(1, WAY, &sheets).unwrap());
+    let message = party.say();
+    assert_eq!(message.as_deref(), Ok(&[12][..]));
     let before = party.store();
-    let mut hear = |last, present: [u8; 5]| party.hear(&[12, 21, 34, 51, last], &present);
-    assert_eq!(hear(73, [1; 5]), Err(Refusal::Inconsistent));
+    let mut hear = |last| party.hear(&from_all(&[12, 21, 34, 51, last]));
+    assert_eq!(hear(73), Err(Refusal::Inconsistent));
     // These open to 7, which is consistent but no sum.
-    assert_eq!(hear(72, [1; 5]), Err(Refusal::SumOutOfRange));
-    // So they do without the last, whatever stands there, and by any three.
-    for last in [72, 73, u64::MAX] {
-        for present in [[1, 1, 1, 1, 0], [1, 0, 1, 1, 0], [0, 1, 1, 1, 0]] {
-            assert_eq!(hear(last, present), Err(Refusal::SumOutOfRange));
+    assert_eq!(hear(72), Err(Refusal::SumOutOfRange));
+    // So they do without the last, and by any three.
+    for present in [[1, 1, 1, 1, 0], [1, 0, 1, 1, 0], [0, 1, 1, 1, 0]] {
+        let round = from_marked(&[12, 21, 34, 51, 72], &present);
+        assert_eq!(party.hear(&round), Err(Refusal::SumOutOfRange));
+        // On plain words something stands in the place of the last, whatever it is.
+        for last in [72, 73, u64::MAX] {
+            let heard = plain.hear(&[12, 21, 34, 51, last], &present);
+            assert_eq!(heard, Err(Refusal::SumOutOfRange));
         }
     }
-    assert_eq!((party.store(), party.say()), (before, Ok(12)));
+    assert_eq!((party.store(), party.say()), (before.clone(), message));
+    assert_eq!(plain.record, parts(&before).0);
+}
+
+/// A party of three over one price, of nobody's bids, in the first search or in the
+/// second, which follows a verdict of 1. Its words are plain: totals can be larger than
+/// any one bid, so they are shared by hand, each with its own coefficient; and the other
+/// search's sheet is none.
+fn probing(search: u64, own: u64, [demand, supply]: [u64; 2], mask: u64) -> Plain {
+    let share = |secret: u64, coefficient: u64| secret + coefficient * own;
+    let words = [mask, 0x1234_5678];
+    let bytes: Vec<u8> = (0..deal_bytes_len(3, WAY))
+        .map(|i| (i * 89) as u8)
+        .collect();
+    // What the first search has left, 0 where it is on.
+    let left = search - 1;
+    let mut sheets = Sheets::blank(1, WAY).words().to_vec();
+    let sheet = &mut sheets[left as usize * SHEET..][..SHEET];
+    deal(seat(3, own, 1), &words, &bytes, sheet).unwrap();
+    Plain {
+        record: at(own, [0, 2, left, 1], [search, left, left], 0).to_vec(),
+        totals: vec![share(demand, 99), share(supply, 55)],
+        sheets,
+    }
+}
+
+/// The record of a party of three over one price, of nobody's bids: lo, hi, the probes
+/// and the round; search, first and its probes; and the carry.
+fn at(
+    own: u64,
+    [lo, hi, probes, round]: [u64; 4],
+    [search, first, first_probes]: [u64; 3],
+    carry: u64,
+) -> [u64; RECORD_LEN] {
+    record(&[
+        (place::N, 3),
+        (place::OWN, own),
+        (place::K, 1),
+        (place::LO, lo),
+        (place::HI, hi),
+        (place::PROBES, probes),
+        (place::ROUND, round),
+        (place::CARRY, carry),
+        (place::SEARCH, search),
+        (place::FIRST, first),
+        (place::FIRST_PROBES, first_probes),
+    ])
+}
+
+/// What a session with this record over one price says that the auction has come to.
+fn outcome(record: &[u64]) -> Result<Option<Outcome>, Refusal> {
+    let stored = stored(1, record, &[0; 2]);
+    Speaking::resume(&stored, Sheets::blank(1, WAY))
+        .unwrap()
+        .outcome()
 }
 
 /// One probe of three parties on the given totals and mask, in the first search
-/// over one price or in the second, which follows a verdict of 1: the opened sum
-/// and the verdict.
+/// over one price or in the second: the opened sum and the verdict.
 fn probe(search: u64, demand: u64, supply: u64, mask: u64) -> (u64, bool) {
-    let n = 3;
-    // Totals can be larger than any one bid, so they are shared by hand, each
-    // with its own coefficient.
-    let share = |secret: u64, coefficient: u64, own: u64| secret + coefficient * own;
-    let words = [mask, 0x1234_5678];
-    let bytes: Vec<u8> = (0..deal_bytes_len(n)).map(|i| (i * 89) as u8).collect();
-    // What the first search has left, 0 where it is on.
-    let left = search - 1;
-    let kept: Vec<_> = (1..=n)
-        .map(|own| {
-            let totals = [share(demand, 99, own), share(supply, 55, own)];
-            // The other search's sheet is none.
-            let mut sheets = [u64::MAX; sheets_len(1)];
-            let sheet = &mut sheets[left as usize * SHEET_LEN..][..SHEET_LEN];
-            deal(n, own, &words, &bytes, sheet).unwrap();
-            let numbers = [1, n, own, 1, 0, 0, 2, left, 1, 0, 0];
-            (stored(numbers, [search, left, left, 0, 0]), totals, sheets)
-        })
+    let mut parties: Vec<Plain> = (1..=3)
+        .map(|own| probing(search, own, [demand, supply], mask))
         .collect();
-    let mut parties: Vec<Speaking> = kept
-        .iter()
-        .map(|(stored, totals, sheets)| Speaking::resume(stored, totals, sheets).unwrap())
-        .collect();
-    let mut sum = 0;
-    for round in 1..=ROUNDS {
-        let messages: Vec<u64> = parties.iter().map(|party| party.say().unwrap()).collect();
-        for party in &mut parties {
-            party.hear(&messages, &[1; 3]).unwrap();
-            if round == 1 {
-                sum = party.record().sum;
-            }
-        }
+    plain_round(&mut parties);
+    let sum = parties[0].record[place::SUM];
+    assert!(parties.iter().all(|party| party.record[place::SUM] == sum));
+    for _ in 2..=WAY.rounds() {
+        plain_round(&mut parties);
     }
-    let record = parties[0].record();
     let verdict = match search {
-        1 => record.first == 1,
-        _ => record.hi == 1,
+        1 => parties[0].record[place::FIRST] == 1,
+        _ => parties[0].record[place::HI] == 1,
     };
     // The second search ends at lo 0 and hi 1, or at lo 1 and hi 2, and the totals
     // are next. The first ends with 0, and with that all, or the second begins over
@@ -145,9 +185,12 @@ fn probe(search: u64, demand: u64, supply: u64, mask: u64) -> (u64, bool) {
         (_, false) => (1, 2, DEMAND_ROUND, 1),
     };
     for (own, party) in (1..).zip(&parties) {
-        let numbers = [1, n, own, 1, 0, lo, hi, search, round, 0, 0];
-        assert_eq!(party.store(), stored(numbers, [2, first, 1, 0, 0]));
-        assert_eq!(party.is_over(), first == 0);
+        assert_eq!(
+            party.record,
+            at(own, [lo, hi, search, round], [2, first, 1], 0)
+        );
+        let over = (first == 0).then_some(Outcome::NoPrice { probes: search });
+        assert_eq!(outcome(&party.record), Ok(over));
     }
     (sum, verdict)
 }
@@ -177,7 +220,7 @@ fn limits_of_a_bid() {
         let k = table.len() as u64 / 2;
         let coins = vec![1; coins_len(3, k)];
         let mut shares = vec![5; table.len()];
-        let reply = split(3, 1, k, table, &coins, &mut shares);
+        let reply = split(seat(3, 1, k), table, &coins, &mut shares);
         if reply.is_err() {
             assert!(shares.iter().all(|&share| share == 5));
         }
@@ -201,110 +244,138 @@ fn limits_of_a_bid() {
 
 #[test]
 fn a_thousand_bids_and_no_more() {
-    let mut totals = [0; 2];
-    let mut session = Collecting::open(3, 2, 1, &mut totals).unwrap();
+    let mut session = Collecting::open(seat(3, 2, 1)).unwrap();
     for bidder in 1..=1_000 {
         assert!(!session.record().has_bid(bidder));
-        session.add(&mut totals, bidder, &[2, 3]).unwrap();
+        session.add(bidder, &[2, 3]).unwrap();
         assert_eq!(session.record().bids, bidder);
         assert!(session.record().has_bid(bidder));
     }
-    assert_eq!(totals, [2_000, 3_000]);
+    let before = session.store();
+    assert_eq!(parts(&before).1, [2_000, 3_000]);
     let mut full = [u64::MAX; ROLL_LEN];
     full[0] = u64::MAX - 1;
     full[ROLL_LEN - 1] = (1 << 41) - 1;
     assert_eq!(session.record().roll, full);
 
-    let before = session.store();
     for bidder in 0..=1_001 {
         let refusal = match bidder {
             0 | 1_001 => Refusal::OutOfRange,
             _ => Refusal::AlreadyEntered,
         };
-        assert_eq!(session.add(&mut totals, bidder, &[2, 3]), Err(refusal));
-        assert_eq!((session.store(), totals), (before, [2_000, 3_000]));
+        assert_eq!(session.add(bidder, &[2, 3]), Err(refusal));
+        assert_eq!(session.store(), before);
     }
 }
 
 #[test]
 fn bidders_are_numbered_from_1_to_1000() {
-    let mut totals = [7; 2];
-    let mut session = Collecting::open(3, 2, 1, &mut totals).unwrap();
+    let mut session = Collecting::open(seat(3, 2, 1)).unwrap();
     let before = session.store();
+    assert_eq!(parts(&before).1, [0; 2]);
     let near = [0, 1_001, 1_023, 1_024, 1_025];
     // Cut to fewer bits, these would be bidder 1.
     let far = [10, 16, 32, 63].map(|bits| (1 << bits) + 1);
     for bidder in near.into_iter().chain(far).chain([u64::MAX]) {
         // Also where a length or a share is wrong.
         for shares in [&[2, 3][..], &[2], &[PRIME; 2]] {
-            let refused = session.add(&mut totals, bidder, shares);
+            let refused = session.add(bidder, shares);
             assert_eq!(refused, Err(Refusal::OutOfRange));
-            assert_eq!((session.store(), totals), (before, [0; 2]));
+            assert_eq!(session.store(), before);
         }
     }
     for bidder in [1_000, 1] {
-        session.add(&mut totals, bidder, &[2, 3]).unwrap();
+        session.add(bidder, &[2, 3]).unwrap();
     }
-    assert_eq!((session.record().bids, totals), (2, [4, 6]));
+    assert_eq!(session.record().bids, 2);
+    assert_eq!(parts(&session.store()).1, [4, 6]);
 }
 
-/// A stored session of nobody's bids: its words before the roll, and those of
-/// the searches and the totals behind it.
-fn stored(numbers: [u64; 11], others: [u64; 5]) -> [u64; STORED_LEN] {
-    let mut words = [0; STORED_LEN];
-    words[..11].copy_from_slice(&numbers);
-    words[11 + ROLL_LEN..].copy_from_slice(&others);
-    words
+/// What opening replies on plain words: the session's words, with totals of this length
+/// that held something else. A refusal changes nothing.
+fn open_plain(n: u64, own: u64, k: u64, length: usize) -> Result<Vec<u64>, Refusal> {
+    let (mut totals, mut record) = (vec![9; length], [7; RECORD_LEN]);
+    let reply = reply(words::open(n, own, k, &mut totals, &mut record));
+    if reply.is_err() {
+        assert_eq!((totals, record), (vec![9; length], [7; RECORD_LEN]));
+        return reply.map(|()| vec![]);
+    }
+    Ok(stored(0, &record, &totals))
 }
 
 #[test]
 fn limits_of_a_session() {
     let open = |n, own, k: u64| {
-        let mut totals = vec![9; table_len(k)];
-        Collecting::open(n, own, k, &mut totals).map(|session| (session.store(), totals))
+        let opened = Collecting::open(seat(n, own, k)).map(|session| session.store());
+        // The session makes its own totals; on plain words those that are lent are zeroed.
+        let length = if k > 2_000 { 0 } else { table_len(k) };
+        assert_eq!(open_plain(n, own, k, length), opened);
+        opened
     };
     for n in 3..=9 {
-        let opened = stored([0, n, n, 1_024, 0, 0, 1_025, 0, 1, 0, 0], [1, 0, 0, 0, 0]);
-        assert_eq!(open(n, n, 1_024), Ok((opened, vec![0; 2_048])));
+        let record = record(&[
+            (place::N, n),
+            (place::OWN, n),
+            (place::K, 1_024),
+            (place::HI, 1_025),
+            (place::ROUND, 1),
+            (place::SEARCH, 1),
+        ]);
+        assert_eq!(open(n, n, 1_024), Ok(stored(0, &record, &[0; 2_048])));
         assert_eq!(open(n, n + 1, 1), Err(Refusal::OutOfRange));
         assert_eq!(open(n, 0, 1), Err(Refusal::OutOfRange));
     }
     assert_eq!(open(2, 1, 1), Err(Refusal::OutOfRange));
     assert_eq!(open(10, 1, 1), Err(Refusal::OutOfRange));
-    assert_eq!(open(3, 1, 0), Err(Refusal::OutOfRange));
-    assert_eq!(open(3, 1, 1_025), Err(Refusal::OutOfRange));
-    let mut short = [9; 3];
-    assert_eq!(
-        Collecting::open(3, 1, 2, &mut short),
-        Err(Refusal::WrongLength)
-    );
-    assert_eq!(short, [9; 3]);
+    // No room is made for totals that are not to be.
+    for k in [0, 1_025, 1 << 63, u64::MAX] {
+        assert_eq!(open(3, 1, k), Err(Refusal::OutOfRange));
+    }
+    for length in [0, 3, 5] {
+        assert_eq!(open_plain(3, 1, 2, length), Err(Refusal::WrongLength));
+    }
 }
 
 #[test]
 fn answers_wait_for_the_end() {
-    let answer = |[lo, hi, probes, round]: [u64; 4], [search, first, spent]: [u64; 3], carry| {
-        let numbers = [1, 3, 1, 1, 0, lo, hi, probes, round, 0, carry];
-        let stored = stored(numbers, [search, first, spent, 9, 7]);
-        let party = Speaking::resume(&stored, &[], &[]).unwrap();
-        let ended = search == 2 && hi - lo == 1;
-        assert_eq!(party.is_over(), ended && (first == 0 || round == 36));
-        party
-            .answer()
-            .map(|Answer { index, probes }| (index, probes))
+    let answer = |numbers: [u64; 4], searches: [u64; 3], carry| {
+        let mut record = at(1, numbers, searches, carry);
+        [record[place::DEMAND], record[place::SUPPLY]] = [9, 7];
+        let ([lo, hi, _, round], [search, first, _]) = (numbers, searches);
+        let over = search == 2 && hi - lo == 1 && (first == 0 || round == 36);
+        let outcome = outcome(&record);
+        if let Ok(outcome) = outcome {
+            assert_eq!(outcome.is_some(), over);
+        }
+        outcome.map(|outcome| {
+            outcome.map(|outcome| match outcome {
+                Outcome::Price {
+                    index,
+                    probes,
+                    cleared,
+                } => {
+                    assert_eq!((cleared.demand(), cleared.supply()), (9, 7));
+                    (index.get(), probes)
+                }
+                Outcome::NoPrice { probes } => (0, probes),
+                other => panic!("{other:?}"),
+            })
+        })
     };
-    let out_of_turn = Err(Refusal::OutOfTurn);
-    assert_eq!(answer([0, 2, 0, 1], [1, 0, 0], 0), out_of_turn);
-    assert_eq!(answer([0, 2, 1, 1], [2, 1, 1], 0), out_of_turn);
+    let not_yet = Ok(None);
+    assert_eq!(answer([0, 2, 0, 1], [1, 0, 0], 0), not_yet);
+    assert_eq!(answer([0, 2, 1, 1], [2, 1, 1], 0), not_yet);
     // No price; a balanced one; one that is not. With a price both totals are
     // opened first.
-    assert_eq!(answer([0, 1, 1, 1], [2, 0, 1], 0), Ok((0, 1)));
+    assert_eq!(answer([0, 1, 1, 1], [2, 0, 1], 0), Ok(Some((0, 1))));
     for round in [DEMAND_ROUND, SUPPLY_ROUND] {
-        assert_eq!(answer([0, 1, 2, round], [2, 1, 1], 0), out_of_turn);
-        assert_eq!(answer([1, 2, 2, round], [2, 1, 1], 0), out_of_turn);
+        assert_eq!(answer([0, 1, 2, round], [2, 1, 1], 0), not_yet);
+        assert_eq!(answer([1, 2, 2, round], [2, 1, 1], 0), not_yet);
     }
-    assert_eq!(answer([0, 1, 2, OVER_ROUND], [2, 1, 1], 0), Ok((1, 2)));
-    assert_eq!(answer([1, 2, 2, OVER_ROUND], [2, 1, 1], 0), Ok((1, 2)));
+    for [lo, hi] in [[0, 1], [1, 2]] {
+        let over = answer([lo, hi, 2, OVER_ROUND], [2, 1, 1], 0);
+        assert_eq!(over, Ok(Some((1, 2))));
+    }
     let out_of_range = Err(Refusal::OutOfRange);
     assert_eq!(answer([1, 2, 2, 36], [2, 1, 1], 256), out_of_range);
     // A first search that has ended has begun the second.
@@ -345,9 +416,14 @@ fn sizes() {
         [1, 2, 3, 4, 7, 8, 255, 256, 1_023, 1_024].map(sheet_count),
         [2, 4, 4, 6, 6, 8, 16, 18, 20, 22]
     );
-    assert_eq!((deal_words_len(9), deal_bytes_len(9)), (5, 566));
-    assert_eq!((coins_len(9, 1_024), sheets_len(1_024)), (8_192, 2_794));
-    assert_eq!((RECORD_LEN, STORED_LEN), (31, 32));
+    assert_eq!((deal_words_len(9), deal_bytes_len(9, WAY)), (5, 566));
+    assert_eq!(
+        (coins_len(9, 1_024), sheets_len(1_024, WAY)),
+        (8_192, 2_794)
+    );
+    assert_eq!((WAY.rounds(), WAY.sheet_len()), (33, 127));
+    assert_eq!((RECORD_LEN, ROLL_LEN), (31, 16));
+    assert_eq!([1, 2, 1_024].map(stored_len), [35, 37, 2_081]);
 }
 
 #[test]
@@ -361,12 +437,20 @@ fn sizes_of_any_number() {
         [0, usize::MAX - 1, usize::MAX, usize::MAX]
     );
     assert_eq!([0, MOST].map(deal_words_len), [1, 1 << 63]);
-    assert_eq!([0, MOST].map(deal_bytes_len), [62, usize::MAX]);
+    assert_eq!([0, MOST].map(|n| deal_bytes_len(n, WAY)), [62, usize::MAX]);
     assert_eq!(
         [0, HALF - 1, HALF, MOST].map(sheet_count),
         [0, 126, 128, 128]
     );
-    assert_eq!([0, HALF, MOST].map(sheets_len), [0, 127 * 128, 127 * 128]);
+    assert_eq!(
+        [0, HALF, MOST].map(|k| sheets_len(k, WAY)),
+        [0, 127 * 128, 127 * 128]
+    );
+    assert_eq!(
+        [0, HALF - 17, HALF - 16, MOST].map(stored_len),
+        [33, usize::MAX, usize::MAX, usize::MAX]
+    );
+    assert_eq!(stored_len(HALF - 18), usize::MAX - 2);
     for k in [HALF, MOST] {
         assert_eq!(
             [0, 3, MOST].map(|n| coins_len(n, k)),

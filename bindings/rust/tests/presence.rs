@@ -1,97 +1,71 @@
 //! Parties that drop off: hearing by marks of who was present, hearing late, and
 //! what goes wrong where the parties do not agree on the marks.
 
+use std::num::NonZeroU64;
+
+use clockivy::words::place::{CARRY, HI, LO, OWN, ROUND, SEARCH, SUM};
 use clockivy::{
-    coins_len, deal, deal_bytes_len, deal_words_len, sheets_len, split, table_len, threshold,
-    words, Answer, Cleared, Collecting, Record, Refusal, Speaking, DEMAND_ROUND, PARTIES, PRIME,
-    RECORD_LEN, ROUNDS, SHEET_LEN, STORED_LEN, SUPPLY_ROUND,
+    threshold, words, Cleared, Collecting, Message, Outcome, Record, Refusal, Sheets, Speaking,
+    DEMAND_ROUND, OVER_ROUND, PARTIES, PRIME, RECORD_LEN, SUPPLY_ROUND,
 };
-use clockivy_hearings::{choices, count, refused, Hearing};
+use clockivy_testing::{
+    choices, count, from_marked, go_on_until, panel, parts, refused, round, seat, sheets, stored,
+    Bid, Hearing, Plain, WAY,
+};
 
 const K: u64 = 2;
 /// Demand 5 and 2, supply 1 and 4: they clear at index 1, after three probes.
-const TABLE: [u64; 4] = [5, 2, 1, 4];
-const ANSWER: Answer = Answer {
-    index: 1,
-    probes: 3,
-};
-/// The rounds until then: those of the probes, and two of the totals.
+const BIDS: &[Bid] = &[(640, &[5, 2, 1, 4])];
+/// The rounds of a probe.
+const ROUNDS: u64 = WAY.rounds();
+/// The rounds until all is over: those of the probes, and two of the totals.
 const ALL_ROUNDS: usize = 3 * ROUNDS as usize + 2;
-
-/// The places of a record's fields.
-const LO: usize = 4;
-const HI: usize = 5;
-const ROUND: usize = 7;
-const SEARCH: usize = 26;
-
-/// A party that has come to the answer has the totals there too.
-fn assert_answered(party: &Speaking) {
-    assert_eq!(party.answer(), Ok(ANSWER));
-    assert_eq!(party.cleared(), Cleared::new(5, 1));
-}
-
-/// What one party keeps beside its session.
-struct Kept {
-    totals: Vec<u64>,
-    sheets: Vec<u64>,
-}
-
-/// Words that differ from place to place.
-fn coin(place: usize) -> u64 {
-    (place as u64 + 1).wrapping_mul(0x9E37_79B9_7F4A_7C15) % PRIME
-}
-
-/// One party with a bid added.
-fn collected(n: u64, own: u64) -> (Collecting, Kept) {
-    let mut totals = vec![9; table_len(K)];
-    let mut session = Collecting::open(n, own, K, &mut totals).unwrap();
-    let coins: Vec<u64> = (0..coins_len(n, K)).map(coin).collect();
-    let mut shares = vec![0; table_len(K)];
-    split(n, own, K, &TABLE, &coins, &mut shares).unwrap();
-    session.add(&mut totals, 640, &shares).unwrap();
-    let mut sheets = vec![0; sheets_len(K)];
-    for (probe, sheet) in (1..).zip(sheets.chunks_mut(SHEET_LEN)) {
-        let mut words: Vec<u64> = (0..deal_words_len(n))
-            .map(|i| coin(9 * i + probe))
-            .collect();
-        words[0] %= clockivy::MASK_LIMIT;
-        let bytes: Vec<u8> = (0..deal_bytes_len(n))
-            .map(|place| coin(place + 999 * probe) as u8)
-            .collect();
-        deal(n, own, &words, &bytes, sheet).unwrap();
-    }
-    (session, Kept { totals, sheets })
-}
+/// What a stored session says of itself where it speaks.
+const SPEAKING: u64 = 1;
 
 /// All parties, about to speak.
-fn parties<T>(n: u64, then: impl FnOnce(&mut [Speaking], &[Kept]) -> T) -> T {
-    let (sessions, kept): (Vec<_>, Vec<_>) = (1..=n).map(|own| collected(n, own)).unzip();
-    let mut parties: Vec<Speaking> = sessions
-        .into_iter()
-        .zip(&kept)
-        .map(|(session, kept)| session.speak(&kept.totals, &kept.sheets))
-        .collect();
-    then(&mut parties, &kept)
+fn parties(n: u64) -> Vec<Speaking> {
+    panel(n, K, BIDS)
 }
 
-/// A round as it is kept for those who come back.
-struct Round {
-    messages: Vec<u64>,
-    present: Vec<u8>,
-}
-
-/// The messages of those who are present, and what is none in the other places.
-fn said(parties: &[Speaking], present: Vec<u8>) -> Round {
-    let message = |(party, mark): (&Speaking, &u8)| match mark {
-        1 => party.say().unwrap(),
-        _ => u64::MAX,
+/// The party has come to the price, with the totals there.
+fn assert_answered(party: &Speaking) {
+    let outcome = Outcome::Price {
+        index: NonZeroU64::MIN,
+        probes: 3,
+        cleared: Cleared::new(5, 1).unwrap(),
     };
-    let messages = parties.iter().zip(&present).map(message).collect();
-    Round { messages, present }
+    assert_eq!(party.outcome(), Ok(Some(outcome)));
 }
 
-fn hear(party: &mut Speaking, round: &Round) -> Result<(), Refusal> {
-    party.hear(&round.messages, &round.present)
+/// The party has come to no price yet, and on plain words there is no fill.
+fn assert_going_on(party: &Speaking) {
+    assert_eq!(party.outcome(), Ok(None));
+    let reply = words::fill(parts(&party.store()).0, 0, &mut 0, &mut 0);
+    assert_eq!(reply, Refusal::NotCleared.number());
+}
+
+fn is_over(party: &Speaking) -> bool {
+    party.outcome().unwrap().is_some()
+}
+
+/// What those say whose mark is 1. The others are away.
+fn said_by(parties: &[Speaking], present: &[u8]) -> Vec<Option<Message>> {
+    let say = |(party, &mark): (&Speaking, &u8)| (mark == 1).then(|| party.say().unwrap());
+    parties.iter().zip(present).map(say).collect()
+}
+
+/// The same as words, with what is no message in the places of the others.
+fn words_by(parties: &[Speaking], present: &[u8]) -> Vec<u64> {
+    let word = |said: &Option<Message>| said.map_or(u64::MAX, |said| said[0]);
+    said_by(parties, present).iter().map(word).collect()
+}
+
+/// Those whose mark is this one hear a round.
+fn heard_by(parties: &mut [Speaking], present: &[u8], mark: u8, round: &[Option<Message>]) {
+    for (party, _) in parties.iter_mut().zip(present).filter(|of| *of.1 == mark) {
+        party.hear(round).unwrap();
+    }
 }
 
 /// Marks of the first so many parties.
@@ -101,35 +75,28 @@ fn first(n: u64, count: usize) -> Vec<u8> {
         .collect()
 }
 
+/// A word of a party's record.
+fn field(party: &Speaking, place: usize) -> u64 {
+    parts(&party.store()).0[place]
+}
+
 /// What all parties' records have in common.
-fn common(record: &Record) -> [u64; 11] {
-    let Record {
-        bids,
-        lo,
-        hi,
-        probes,
-        round,
-        sum,
-        search,
-        first,
-        first_probes,
-        demand,
-        supply,
-        ..
-    } = *record;
-    [
-        bids,
-        lo,
-        hi,
-        probes,
-        round,
-        sum,
-        search,
-        first,
-        first_probes,
-        demand,
-        supply,
-    ]
+fn common(party: &Speaking) -> Vec<u64> {
+    let mut record = parts(&party.store()).0.to_vec();
+    [record[OWN], record[CARRY]] = [0, 0];
+    record
+}
+
+/// A party once more from its stored session, with the words of its sheets: for a test,
+/// since it uses a sheet again.
+fn again(stored: &[u64], sheets: &[u64]) -> Speaking {
+    let sheets = Sheets::received(K, WAY, sheets).unwrap();
+    Speaking::resume(stored, sheets).unwrap()
+}
+
+/// The words of one party's sheets.
+fn sheet_words(n: u64, own: u64) -> Vec<u64> {
+    sheets(n, own, K).words().to_vec()
 }
 
 #[test]
@@ -138,32 +105,25 @@ fn t_plus_1_parties_come_to_the_answer_without_the_others() {
         // From the first round on, from the middle of the second probe, and from
         // either round of the totals.
         for gone_from in [0, 33 + 16, ALL_ROUNDS - 2, ALL_ROUNDS - 1] {
-            parties(n, |parties, _| {
-                let there = threshold(n) + 1;
-                for number in 0..ALL_ROUNDS {
-                    let gone = number >= gone_from;
-                    let round = said(parties, first(n, if gone { there } else { n as usize }));
-                    for (party, mark) in parties.iter_mut().zip(&round.present) {
-                        if *mark == 1 {
-                            hear(party, &round).unwrap();
-                        }
-                    }
-                }
-                for (place, party) in parties.iter().enumerate() {
-                    if place < there {
-                        assert_answered(party);
-                    } else {
-                        assert_eq!(party.answer(), Err(Refusal::OutOfTurn));
-                        assert_eq!(party.cleared(), Err(Refusal::NotCleared));
-                        let Record { probes, round, .. } = *party.record();
-                        let heard = match round {
-                            ..=ROUNDS => ROUNDS * probes + round - 1,
-                            _ => ROUNDS * probes + round - DEMAND_ROUND,
-                        };
-                        assert_eq!(heard as usize, gone_from);
-                    }
-                }
-            });
+            let mut parties = parties(n);
+            let there = threshold(n) + 1;
+            for number in 0..ALL_ROUNDS {
+                let gone = number >= gone_from;
+                let present = first(n, if gone { there } else { n as usize });
+                let round = said_by(&parties, &present);
+                heard_by(&mut parties, &present, 1, &round);
+            }
+            let (stayed, gone) = parties.split_at(there);
+            stayed.iter().for_each(assert_answered);
+            for party in gone {
+                assert_going_on(party);
+                let Record { probes, round, .. } = *party.record();
+                let heard = match round {
+                    ..=ROUNDS => ROUNDS * probes + round - 1,
+                    _ => ROUNDS * probes + round - DEMAND_ROUND,
+                };
+                assert_eq!(heard as usize, gone_from);
+            }
         }
     }
 }
@@ -175,39 +135,25 @@ fn who_comes_back_hears_what_it_has_missed_and_is_marked_again() {
     let n = 5;
     for present in choices(n).filter(|present| count(present) > threshold(n)) {
         for away in [0..1, 5..9, 30..40, 20..75, 95..99, 98..100, 99..100] {
-            parties(n, |parties, _| {
-                let mut missed = Vec::new();
-                for number in 0..ALL_ROUNDS {
-                    if away.contains(&number) {
-                        let round = said(parties, present.clone());
-                        for (party, mark) in parties.iter_mut().zip(&present) {
-                            if *mark == 1 {
-                                hear(party, &round).unwrap();
-                            }
-                        }
-                        missed.push(round);
-                        continue;
-                    }
-                    for round in missed.drain(..) {
-                        for (party, mark) in parties.iter_mut().zip(&present) {
-                            if *mark == 0 {
-                                hear(party, &round).unwrap();
-                            }
-                        }
-                    }
-                    let expected = common(parties[0].record());
-                    for party in parties.iter() {
-                        assert_eq!(common(party.record()), expected);
-                    }
-                    let round = said(parties, vec![1; n as usize]);
-                    for party in parties.iter_mut() {
-                        hear(party, &round).unwrap();
-                    }
+            let mut parties = parties(n);
+            let mut missed = Vec::new();
+            for number in 0..ALL_ROUNDS {
+                if away.contains(&number) {
+                    let said = said_by(&parties, &present);
+                    heard_by(&mut parties, &present, 1, &said);
+                    missed.push(said);
+                    continue;
                 }
-                for party in parties {
-                    assert_answered(party);
+                for said in missed.drain(..) {
+                    heard_by(&mut parties, &present, 0, &said);
                 }
-            });
+                let expected = common(&parties[0]);
+                for party in &parties {
+                    assert_eq!(common(party), expected);
+                }
+                round(&mut parties);
+            }
+            parties.iter().for_each(assert_answered);
         }
     }
 }
@@ -216,113 +162,98 @@ fn who_comes_back_hears_what_it_has_missed_and_is_marked_again() {
 /// answered already.
 #[test]
 fn who_comes_back_when_the_auction_is_over_answers_too() {
-    parties(3, |parties, _| {
-        let mut rounds = Vec::new();
-        while !parties[0].is_over() {
-            let round = said(parties, vec![1, 0, 1]);
-            hear(&mut parties[0], &round).unwrap();
-            hear(&mut parties[2], &round).unwrap();
-            rounds.push(round);
-        }
-        let late = &mut parties[1];
-        for round in &rounds {
-            assert_eq!(late.answer(), Err(Refusal::OutOfTurn));
-            hear(late, round).unwrap();
-        }
-        assert_answered(late);
-        assert_eq!(hear(late, &rounds[0]), Err(Refusal::OutOfTurn));
-    });
+    let mut parties = parties(3);
+    let present = [1, 0, 1];
+    let mut rounds = Vec::new();
+    while !is_over(&parties[0]) {
+        let said = said_by(&parties, &present);
+        heard_by(&mut parties, &present, 1, &said);
+        rounds.push(said);
+    }
+    let late = &mut parties[1];
+    for said in &rounds {
+        assert_going_on(late);
+        late.hear(said).unwrap();
+    }
+    assert_answered(late);
+    assert_eq!(late.hear(&rounds[0]), Err(Refusal::OutOfTurn));
 }
 
 /// A marked party says its message and hears that round after the others; in the
 /// next one it is away meanwhile.
 #[test]
 fn a_marked_party_may_hear_late() {
-    parties(5, |parties, _| {
-        while !parties[0].is_over() {
-            let one = said(parties, vec![1; 5]);
-            for party in &mut parties[..4] {
-                hear(party, &one).unwrap();
-            }
-            let other = said(parties, vec![1, 1, 1, 1, 0]);
-            for party in &mut parties[..4] {
-                hear(party, &other).unwrap();
-            }
-            hear(&mut parties[4], &one).unwrap();
-            hear(&mut parties[4], &other).unwrap();
-            // A probe has an odd number of rounds.
-            if parties[0].record().round == ROUNDS {
-                let last = said(parties, vec![1; 5]);
-                for party in parties.iter_mut() {
-                    hear(party, &last).unwrap();
-                }
-            }
+    let mut parties = parties(5);
+    let without_last = [1, 1, 1, 1, 0];
+    while !is_over(&parties[0]) {
+        let one = said_by(&parties, &[1; 5]);
+        heard_by(&mut parties, &without_last, 1, &one);
+        let other = said_by(&parties, &without_last);
+        heard_by(&mut parties, &without_last, 1, &other);
+        parties[4].hear(&one).unwrap();
+        parties[4].hear(&other).unwrap();
+        // A probe has an odd number of rounds.
+        if parties[0].record().round == ROUNDS {
+            round(&mut parties);
         }
-        for party in parties {
-            assert_answered(party);
-        }
-    });
+    }
+    parties.iter().for_each(assert_answered);
 }
 
-/// What each party finds in the places of the others is its own.
+/// What each party finds in the places of the others is its own: on plain words, since a
+/// session hears nothing from a party that was away.
 #[test]
 fn what_stands_in_an_unmarked_place_changes_nothing() {
     let n = 7;
-    parties(n, |parties, _| {
-        let mut number = 0;
-        while !parties[0].is_over() {
-            // Other parties each time, t + 1 of them and more in turn.
-            let mut present = first(n, threshold(n) + 1 + number % 3);
-            present.rotate_right(number % n as usize);
-            let round = said(parties, present);
-            for (own, party) in (1..).zip(parties.iter_mut()) {
-                let mut messages = round.messages.clone();
-                for (place, message) in messages.iter_mut().enumerate() {
-                    if round.present[place] == 0 {
-                        *message = [0, own, PRIME - 1, PRIME, u64::MAX][(number + place) % 5];
-                    }
+    let mut parties: Vec<Plain> = (1..)
+        .zip(parties(n))
+        .map(|(own, party)| Plain::resume(&party.store(), &sheet_words(n, own)))
+        .collect();
+    for number in 0..ALL_ROUNDS {
+        // Other parties each time, t + 1 of them and more in turn.
+        let mut present = first(n, threshold(n) + 1 + number % 3);
+        present.rotate_right(number % n as usize);
+        let said: Vec<u64> = parties.iter().map(|party| party.say().unwrap()).collect();
+        for (own, party) in (1..).zip(&mut parties) {
+            let mut messages = said.clone();
+            for (place, message) in messages.iter_mut().enumerate() {
+                if present[place] == 0 {
+                    *message = [0, own, PRIME - 1, PRIME, u64::MAX][(number + place) % 5];
                 }
-                party.hear(&messages, &round.present).unwrap();
             }
-            number += 1;
+            party.hear(&messages, &present).unwrap();
         }
-        for party in parties {
-            assert_answered(party);
-        }
-    });
-}
-
-/// A party once more from its stored session: for a test, since it uses a sheet
-/// again.
-fn again<'a>(stored: &[u64; STORED_LEN], kept: &'a Kept) -> Speaking<'a> {
-    Speaking::resume(stored, &kept.totals, &kept.sheets).unwrap()
+    }
+    for Plain { record, totals, .. } in &parties {
+        let stored = stored(SPEAKING, record, totals);
+        assert_answered(&Speaking::resume(&stored, Sheets::blank(K, WAY)).unwrap());
+    }
 }
 
 #[test]
 fn any_t_plus_1_or_more_open_to_the_same_and_fewer_are_too_few() {
     for n in PARTIES {
-        parties(n, |parties, kept| {
-            // Each round is heard by one party in every way.
-            while !parties[0].is_over() {
-                let all = said(parties, vec![1; n as usize]);
-                let own = parties[0].record().round as usize % n as usize;
-                let before = parties[own].store();
-                for party in parties.iter_mut() {
-                    hear(party, &all).unwrap();
-                }
-                for present in choices(n) {
-                    let mut party = again(&before, &kept[own]);
-                    let reply = party.hear(&all.messages, &present);
-                    if count(&present) > threshold(n) {
-                        assert_eq!(reply, Ok(()));
-                        assert_eq!(party, parties[own]);
-                    } else {
-                        assert_eq!(reply, Err(Refusal::TooFewPresent));
-                        assert_eq!(party.store(), before);
-                    }
+        let mut parties = parties(n);
+        let sheets: Vec<_> = (1..=n).map(|own| sheet_words(n, own)).collect();
+        // Each round is heard by one party in every way.
+        while !is_over(&parties[0]) {
+            let messages = words_by(&parties, &first(n, n as usize));
+            let own = parties[0].record().round as usize % n as usize;
+            let before = parties[own].store();
+            round(&mut parties);
+            let after = parties[own].store();
+            for present in choices(n) {
+                let mut party = again(&before, &sheets[own]);
+                let reply = party.hear(&from_marked(&messages, &present));
+                if count(&present) > threshold(n) {
+                    assert_eq!(reply, Ok(()));
+                    assert_eq!(party.store(), after);
+                } else {
+                    assert_eq!(reply, Err(Refusal::TooFewPresent));
+                    assert_eq!(party.store(), before);
                 }
             }
-        });
+        }
     }
 }
 
@@ -333,32 +264,60 @@ fn good() -> Hearing {
 
 /// The same in the first such round.
 fn good_in(number: u64) -> Hearing {
-    parties(5, |parties, kept| {
-        while parties[0].record().round < number {
-            let round = said(parties, vec![1; 5]);
-            for party in parties.iter_mut() {
-                hear(party, &round).unwrap();
-            }
-        }
-        let Round { messages, present } = said(parties, vec![1, 1, 0, 1, 1]);
-        Hearing {
-            record: parties[3].store()[1..].to_vec(),
-            totals: kept[3].totals.clone(),
-            sheets: kept[3].sheets.clone(),
-            messages,
-            present,
-        }
-    })
+    let mut parties = parties(5);
+    go_on_until(&mut parties, number);
+    let present = vec![1, 1, 0, 1, 1];
+    let stored = parties[3].store();
+    let (record, totals) = parts(&stored);
+    Hearing {
+        record: record.to_vec(),
+        totals: totals.to_vec(),
+        sheets: sheet_words(5, 4),
+        messages: words_by(&parties, &present),
+        present,
+    }
 }
 
-/// The session that has heard. A refusal has changed nothing.
-fn heard(hearing: &Hearing) -> Result<[u64; STORED_LEN], Refusal> {
-    let mut stored = [1; STORED_LEN];
-    stored[1..].copy_from_slice(&hearing.record);
-    let mut party = Speaking::resume(&stored, &hearing.totals, &hearing.sheets).unwrap();
-    let reply = party.hear(&hearing.messages, &hearing.present);
-    assert!(reply.is_ok() || party.store() == stored);
-    reply.map(|()| party.store())
+/// The record that has heard. A refusal has changed nothing. It is heard on plain words,
+/// which may be anything, and by a session too, where there can be such a one.
+fn heard(hearing: &Hearing) -> Result<Vec<u64>, Refusal> {
+    let Hearing {
+        record,
+        totals,
+        sheets,
+        messages,
+        present,
+    } = hearing.clone();
+    let mut party = Plain {
+        record,
+        totals,
+        sheets,
+    };
+    let before = party.clone();
+    let reply = party.hear(&messages, &present);
+    assert!(reply.is_ok() || party == before);
+    let heard = reply.map(|()| party.record);
+    if let Some(by_session) = heard_by_session(hearing) {
+        assert_eq!(by_session, heard);
+    }
+    heard
+}
+
+/// The same by a session: where the lengths of the record, the totals and the sheets are
+/// right, the sheets are dealt, and each place has a message and a mark.
+fn heard_by_session(hearing: &Hearing) -> Option<Result<Vec<u64>, Refusal>> {
+    let Hearing {
+        messages, present, ..
+    } = hearing;
+    if messages.len() != present.len() || present.iter().any(|&mark| mark > 1) {
+        return None;
+    }
+    let sheets = Sheets::received(K, WAY, &hearing.sheets).ok()?;
+    let before = stored(SPEAKING, &hearing.record, &hearing.totals);
+    let mut party = Speaking::resume(&before, sheets).ok()?;
+    let reply = party.hear(&from_marked(messages, present));
+    assert!(reply.is_ok() || party.store() == before);
+    Some(reply.map(|()| parts(&party.store()).0.to_vec()))
 }
 
 #[test]
@@ -367,10 +326,13 @@ fn a_hearing_is_judged_in_its_order() {
         let good = good_in(round);
         assert_eq!(good.record[ROUND], round);
         assert!(heard(&good).is_ok());
+        let mut by_session = 0;
         for (hearing, number) in refused(&good) {
             let refusal = heard(&hearing).unwrap_err();
             assert_eq!(refusal.number(), number, "{hearing:?}");
+            by_session += u64::from(heard_by_session(&hearing).is_some());
         }
+        assert!(by_session > 100, "{by_session} by a session");
     }
     // On plain words the record's length comes before all else but the marks, which
     // need no record.
@@ -389,6 +351,7 @@ fn a_hearing_is_judged_in_its_order() {
     }
 }
 
+/// On plain words: a session has no other marks than a message and none.
 #[test]
 fn marks_are_judged_whatever_their_number() {
     let good = good();
@@ -406,6 +369,22 @@ fn marks_are_judged_whatever_their_number() {
             }
         }
     }
+}
+
+/// By a session: a round has as many places as there are parties.
+#[test]
+fn a_round_of_another_length() {
+    let mut parties = parties(5);
+    let messages = words_by(&parties, &[1; 5]);
+    let before = parties[3].store();
+    for length in (0..12).filter(|&length| length != 5) {
+        let mut other = messages.clone();
+        other.resize(length, 7);
+        let round = from_marked(&other, &[1; 12]);
+        assert_eq!(round.len(), length);
+        assert_eq!(parties[3].hear(&round), Err(Refusal::WrongLength));
+    }
+    assert_eq!(parties[3].store(), before);
 }
 
 /// A party that was away compares no own message and uses no totals; its sheet is
@@ -434,26 +413,26 @@ fn an_own_place_that_is_not_marked() {
 #[test]
 fn a_wrong_message_is_noticed_by_more_than_t_plus_1() {
     for n in PARTIES {
-        parties(n, |parties, kept| {
-            let right = said(parties, vec![1; n as usize]);
-            let before = parties[0].store();
-            hear(&mut parties[0], &right).unwrap();
-            for present in choices(n).filter(|present| count(present) > threshold(n)) {
-                for place in (1..n as usize).filter(|&place| present[place] == 1) {
-                    let mut messages = right.messages.clone();
-                    messages[place] = (messages[place] + 1) % PRIME;
-                    let mut party = again(&before, &kept[0]);
-                    let reply = party.hear(&messages, &present);
-                    if count(&present) > threshold(n) + 1 {
-                        assert_eq!(reply, Err(Refusal::Inconsistent));
-                    } else if reply.is_ok() {
-                        assert_ne!(party.record().sum, parties[0].record().sum);
-                    } else {
-                        assert_eq!(reply, Err(Refusal::SumOutOfRange));
-                    }
+        let mut parties = parties(n);
+        let right = words_by(&parties, &first(n, n as usize));
+        let (before, sheets) = (parties[0].store(), sheet_words(n, 1));
+        round(&mut parties);
+        let sum = field(&parties[0], SUM);
+        for present in choices(n).filter(|present| count(present) > threshold(n)) {
+            for place in (1..n as usize).filter(|&place| present[place] == 1) {
+                let mut messages = right.clone();
+                messages[place] = (messages[place] + 1) % PRIME;
+                let mut party = again(&before, &sheets);
+                let reply = party.hear(&from_marked(&messages, &present));
+                if count(&present) > threshold(n) + 1 {
+                    assert_eq!(reply, Err(Refusal::Inconsistent));
+                } else if reply.is_ok() {
+                    assert_ne!(field(&party, SUM), sum);
+                } else {
+                    assert_eq!(reply, Err(Refusal::SumOutOfRange));
                 }
             }
-        });
+        }
     }
 }
 
@@ -462,15 +441,16 @@ fn a_wrong_message_is_noticed_by_more_than_t_plus_1() {
 /// is told.
 #[test]
 fn other_marks_may_lead_elsewhere() {
-    parties(5, |parties, _| {
-        let Round { mut messages, .. } = said(parties, vec![1; 5]);
-        // Of points 1, 2 and 4, the first has weight 8/3 at 0.
-        messages[0] = (messages[0] + 3) % PRIME;
-        parties[3].hear(&messages, &[1, 1, 0, 1, 0]).unwrap();
-        parties[4].hear(&messages, &[0, 1, 0, 1, 1]).unwrap();
-        let sums = [3, 4].map(|place: usize| parties[place].record().sum);
-        assert_eq!(sums[0], sums[1] + 8);
+    let mut parties = parties(5);
+    let mut messages = words_by(&parties, &[1; 5]);
+    // Of points 1, 2 and 4, the first has weight 8/3 at 0.
+    messages[0] = (messages[0] + 3) % PRIME;
+    let sums = [(3, [1, 1, 0, 1, 0]), (4, [0, 1, 0, 1, 1])].map(|(place, present)| {
+        let party: &mut Speaking = &mut parties[place];
+        party.hear(&from_marked(&messages, &present)).unwrap();
+        field(party, SUM)
     });
+    assert_eq!(sums[0], sums[1] + 8);
 }
 
 /// Why a party hears all that it has missed before it is marked: until then it says
@@ -478,80 +458,73 @@ fn other_marks_may_lead_elsewhere() {
 /// t + 1 it opens, to something else.
 #[test]
 fn a_party_that_is_marked_too_early() {
-    parties(5, |parties, kept| {
-        let step = |parties: &mut [Speaking], there: usize| {
-            let round = said(parties, first(5, there));
-            for party in &mut parties[..there] {
-                hear(party, &round).unwrap();
-            }
-        };
-        // The fifth has heard one round and misses the next.
-        step(parties, 5);
-        step(parties, 4);
-        let rounds = [&parties[0], &parties[4]].map(|party| party.record().round);
-        assert_eq!(rounds, [3, 2]);
-        let mut early = said(parties, vec![1; 5]);
-        for party in &mut parties[..4] {
-            assert_eq!(hear(party, &early), Err(Refusal::Inconsistent));
-        }
-        early.present = vec![1, 0, 1, 0, 1];
-        let right = said(parties, first(5, 4));
-        let [early, right] = [early, right].map(|round| {
-            let mut party = again(&parties[0].store(), &kept[0]);
-            hear(&mut party, &round).unwrap();
-            party.record().carry
-        });
-        assert_ne!(early, right);
+    let mut parties = parties(5);
+    // The fifth has heard one round and misses the next.
+    round(&mut parties);
+    let present = first(5, 4);
+    let said = said_by(&parties, &present);
+    heard_by(&mut parties, &present, 1, &said);
+    let rounds = [&parties[0], &parties[4]].map(|party| party.record().round);
+    assert_eq!(rounds, [3, 2]);
+    let early = words_by(&parties, &[1; 5]);
+    for party in &mut parties[..4] {
+        let reply = party.hear(&from_marked(&early, &[1; 5]));
+        assert_eq!(reply, Err(Refusal::Inconsistent));
+    }
+    let carries = [[1, 0, 1, 0, 1], [1, 1, 1, 1, 0]].map(|present| {
+        let mut party = again(&parties[0].store(), &sheet_words(5, 1));
+        party.hear(&from_marked(&early, &present)).unwrap();
+        field(&party, CARRY)
     });
+    assert_ne!(carries[0], carries[1]);
 }
+
+/// Where a sheet has its share of beta of round 2: behind those of the mask, of 33 bits
+/// and of alpha.
+const BETA: usize = 1 + 33 + 1;
 
 /// Why a round is heard once: from one stored session with other messages, the
 /// next messages give away a share of the sheet. Points 1, 2 and 3 have weight 1
 /// at 0 in the byte field, so that three bytes open to their sum.
 #[test]
 fn a_share_is_given_away_by_a_round_heard_twice() {
-    parties(5, |parties, kept| {
-        let round = said(parties, vec![1; 5]);
-        for party in parties.iter_mut() {
-            hear(party, &round).unwrap();
-        }
-        let round = said(parties, vec![1, 1, 1, 0, 0]);
-        let before = parties[3].store();
-        // The low bytes, and with them D, are changed by 1; E stays.
-        let changed: Vec<u64> = round.messages.iter().map(|message| message ^ 1).collect();
-        let [one, other] = [&round.messages, &changed].map(|messages| {
-            let mut party = again(&before, &kept[3]);
-            party.hear(messages, &round.present).unwrap();
-            party.say().unwrap()
-        });
-        let e = round.messages[..3]
-            .iter()
-            .fold(0, |e, message| e ^ (message / 256));
-        let beta = kept[3].sheets[35];
-        assert_eq!((one ^ other) / 256, beta ^ e);
+    let mut parties = parties(5);
+    round(&mut parties);
+    let present = [1, 1, 1, 0, 0];
+    let messages = words_by(&parties, &present);
+    let (before, sheets) = (parties[3].store(), sheet_words(5, 4));
+    // The low bytes, and with them D, are changed by 1; E stays.
+    let changed: Vec<u64> = messages.iter().map(|message| message ^ 1).collect();
+    let [one, other] = [&messages, &changed].map(|messages| {
+        let mut party = again(&before, &sheets);
+        party.hear(&from_marked(messages, &present)).unwrap();
+        party.say().unwrap()[0]
     });
+    let e = messages[..3]
+        .iter()
+        .fold(0, |e, message| e ^ (message / 256));
+    assert_eq!((one ^ other) / 256, sheets[BETA] ^ e);
 }
 
 /// Where shares do not fit, t + 1 parties alone may not notice.
 #[test]
 fn a_bid_missing_at_one_party_is_found_by_more_than_t_plus_1() {
-    parties(5, |parties, kept| {
-        // The fifth party has not added the bid.
-        let mut totals = vec![9; table_len(K)];
-        let session = Collecting::open(5, 5, K, &mut totals).unwrap();
-        let lacking = session.speak(&totals, &kept[4].sheets);
-        let mut round = said(parties, vec![1; 5]);
-        round.messages[4] = lacking.say().unwrap();
-        for present in choices(5).filter(|present| count(present) > 2) {
-            let mut party = again(&parties[0].store(), &kept[0]);
-            let reply = party.hear(&round.messages, &present);
-            match (present[4], count(&present)) {
-                (0, _) => assert_eq!(reply, Ok(())),
-                (_, 3) => assert!(matches!(reply, Ok(()) | Err(Refusal::SumOutOfRange))),
-                _ => assert_eq!(reply, Err(Refusal::Inconsistent)),
-            }
+    let parties = parties(5);
+    // The fifth party has not added the bid.
+    let session = Collecting::open(seat(5, 5, K)).unwrap();
+    let lacking = session.speak(sheets(5, 5, K));
+    let mut messages = words_by(&parties, &[1; 5]);
+    messages[4] = lacking.say().unwrap()[0];
+    let (before, sheets) = (parties[0].store(), sheet_words(5, 1));
+    for present in choices(5).filter(|present| count(present) > 2) {
+        let mut party = again(&before, &sheets);
+        let reply = party.hear(&from_marked(&messages, &present));
+        match (present[4], count(&present)) {
+            (0, _) => assert_eq!(reply, Ok(())),
+            (_, 3) => assert!(matches!(reply, Ok(()) | Err(Refusal::SumOutOfRange))),
+            _ => assert_eq!(reply, Err(Refusal::Inconsistent)),
         }
-    });
+    }
 }
 
 #[test]
@@ -561,7 +534,7 @@ fn a_record_that_is_over_hears_nothing() {
     hearing.record[HI] = 1;
     hearing.record[SEARCH] = 2;
     let mut cleared = good_in(SUPPLY_ROUND);
-    cleared.record[ROUND] = 36;
+    cleared.record[ROUND] = OVER_ROUND;
     for present in choices(5) {
         for hearing in [&mut hearing, &mut cleared] {
             hearing.present.clone_from(&present);

@@ -1,72 +1,50 @@
 //! The two searches: whole auctions over every run of balanced prices, how the
 //! second search begins and ends, and which records are out of range.
 
+use clockivy::words::place;
 use clockivy::{
-    deal, deal_bytes_len, probe_limit, sheet_count, sheets_len, split, table_len, Answer,
-    Collecting, Record, Refusal, Speaking, DEMAND_ROUND, OVER_ROUND, RECORD_LEN, ROUNDS, SHEET_LEN,
-    STORED_LEN, SUPPLY_ROUND, TOTAL_LIMIT,
+    probe_limit, sheet_count, sheets_len, words, Collecting, Outcome, Record, Refusal, Sheets,
+    Speaking, BLANK, DEMAND_ROUND, OVER_ROUND, RECORD_LEN, SUPPLY_ROUND, TOTAL_LIMIT,
+};
+use clockivy_testing::{
+    collected, from_all, meeting, parts, plain_round, reply, round, sheets, stored, Bid, Plain, WAY,
 };
 
 const N: u64 = 3;
-/// The place of a record's round.
-const ROUND: usize = 7;
+/// The words of a sheet.
+const SHEET: usize = WAY.sheet_len();
 
-/// What one party keeps beside its session.
-struct Kept {
-    totals: Vec<u64>,
-    sheets: Vec<u64>,
-}
-
-/// One party with the bids added, and with this many words of sheets.
-fn collected(own: u64, k: u64, bids: &[Vec<u64>], sheets: usize) -> (Collecting, Kept) {
-    let mut totals = vec![9; table_len(k)];
-    let mut session = Collecting::open(N, own, k, &mut totals).unwrap();
-    for (bidder, table) in (1..).zip(bids) {
-        let coins: Vec<u64> = (1..=2 * k).map(|entry| 1_000 * bidder + entry).collect();
-        let mut shares = vec![0; table_len(k)];
-        split(N, own, k, table, &coins, &mut shares).unwrap();
-        session.add(&mut totals, bidder, &shares).unwrap();
-    }
-    let mut sheets = vec![0; sheets];
-    for (number, sheet) in (1..).zip(sheets.chunks_exact_mut(SHEET_LEN)) {
-        deal_sheet(own, number, sheet);
-    }
-    (session, Kept { totals, sheets })
-}
-
-/// Writes one of a party's sheets, each from other coins.
-fn deal_sheet(own: u64, number: u64, sheet: &mut [u64]) {
-    let words = [1_000 * number, 77 * number];
-    let bytes: Vec<u8> = (0..deal_bytes_len(N))
-        .map(|place| (89 * place + number as usize) as u8)
-        .collect();
-    deal(N, own, &words, &bytes, sheet).unwrap();
+/// These tables as bids, of bidders 1, 2 and so on.
+fn numbered(tables: &[Vec<u64>]) -> Vec<Bid<'_>> {
+    (1..).zip(tables.iter().map(Vec::as_slice)).collect()
 }
 
 /// Three parties, about to speak.
-fn parties<T>(k: u64, bids: &[Vec<u64>], then: impl FnOnce(&mut [Speaking]) -> T) -> T {
-    let (sessions, kept): (Vec<_>, Vec<_>) = (1..=N)
-        .map(|own| collected(own, k, bids, sheets_len(k)))
-        .unzip();
-    let mut parties: Vec<Speaking> = sessions
-        .into_iter()
-        .zip(&kept)
-        .map(|(session, kept)| session.speak(&kept.totals, &kept.sheets))
-        .collect();
-    then(&mut parties)
+fn panel(k: u64, tables: &[Vec<u64>]) -> Vec<Speaking> {
+    clockivy_testing::panel(N, k, &numbered(tables))
 }
 
-fn round(parties: &mut [Speaking]) {
-    let messages: Vec<u64> = parties.iter().map(|party| party.say().unwrap()).collect();
-    for party in parties {
-        party.hear(&messages, &[1; 3]).unwrap();
-    }
+/// The same on plain words.
+fn plain_panel(k: u64, tables: &[Vec<u64>]) -> Vec<Plain> {
+    (1..=N)
+        .map(|own| {
+            let session = collected(N, own, k, &numbered(tables));
+            Plain::resume(&session.store(), sheets(N, own, k).words())
+        })
+        .collect()
 }
 
 fn probe(parties: &mut [Speaking]) {
-    for _ in 1..=ROUNDS {
+    for _ in 1..=WAY.rounds() {
         round(parties);
     }
+}
+
+/// What asking for the answer and for a fill replies to this record, on plain words.
+fn asked(record: &[u64]) -> [Option<Refusal>; 2] {
+    let answered = words::answer(record, &mut 0, &mut 0);
+    let filled = words::fill(record, 0, &mut 0, &mut 0);
+    [answered, filled].map(|number| reply(number).err())
 }
 
 /// What a record says of the searches: lo, hi, probes, then search, first and its
@@ -84,48 +62,45 @@ fn searches(record: &Record) -> [u64; 6] {
     [lo, hi, probes, search, first, first_probes]
 }
 
-/// A bid of demand that meets supply from `low` to `high` and nowhere else, or
-/// nowhere, where `low` is `high` + 1.
-fn meeting(k: u64, low: u64, high: u64) -> Vec<u64> {
-    let demand = (1..=k).map(|index| match index {
-        _ if index < low => 5,
-        _ if index <= high => 4,
-        _ => 3,
-    });
-    demand.chain((1..=k).map(|_| 4)).collect()
+/// The auction is not over, and no call says that it is.
+fn assert_not_yet(party: &Speaking) {
+    assert_eq!(party.outcome(), Ok(None));
+    let not_yet = [Some(Refusal::OutOfTurn), Some(Refusal::NotCleared)];
+    assert_eq!(asked(parts(&party.store()).0), not_yet);
 }
 
-/// The price of these bids, and what the first search gave.
-fn price(k: u64, bids: &[Vec<u64>]) -> (u64, u64) {
-    parties(k, bids, |parties| {
-        let mut probes = 0;
-        while !parties[0].is_over() && parties[0].record().round == 1 {
-            assert_eq!(parties[0].answer(), Err(Refusal::OutOfTurn));
-            assert_eq!(parties[0].cleared(), Err(Refusal::NotCleared));
-            probe(parties);
-            probes += 1;
+/// The price of these bids, or 0, and what the first search gave.
+fn price(k: u64, tables: &[Vec<u64>]) -> (u64, u64) {
+    let mut parties = panel(k, tables);
+    let mut made = 0;
+    while parties[0].outcome() == Ok(None) && parties[0].record().round == 1 {
+        assert_not_yet(&parties[0]);
+        probe(&mut parties);
+        made += 1;
+    }
+    let first = parties[0].record().first;
+    if first > 0 {
+        for number in [DEMAND_ROUND, SUPPLY_ROUND] {
+            assert_eq!(parties[0].record().round, number);
+            assert_not_yet(&parties[0]);
+            round(&mut parties);
         }
-        let first = parties[0].record().first;
-        if first > 0 {
-            for number in [DEMAND_ROUND, SUPPLY_ROUND] {
-                assert_eq!(parties[0].record().round, number);
-                assert_eq!(parties[0].answer(), Err(Refusal::OutOfTurn));
-                assert_eq!(parties[0].cleared(), Err(Refusal::NotCleared));
-                round(parties);
-            }
-        }
-        assert!(parties[0].is_over());
-        let answer = parties[0].answer().unwrap();
-        assert_eq!(answer.probes, probes);
-        assert!(probes as usize <= probe_limit(k) + probe_limit(first));
-        for party in parties.iter_mut() {
-            assert_eq!((party.answer(), party.record().first), (Ok(answer), first));
-            assert_eq!(party.index(), answer.index);
-            assert_eq!(party.say(), Err(Refusal::OutOfTurn));
-            assert_eq!(party.hear(&[0; 3], &[1; 3]), Err(Refusal::OutOfTurn));
-        }
-        (answer.index, first)
-    })
+    }
+    let outcome = parties[0].outcome();
+    let (index, probes) = match outcome {
+        Ok(Some(Outcome::Price { index, probes, .. })) => (index.get(), probes),
+        Ok(Some(Outcome::NoPrice { probes })) => (0, probes),
+        other => panic!("{other:?}"),
+    };
+    assert_eq!(probes, made);
+    assert!(probes as usize <= probe_limit(k) + probe_limit(first));
+    for party in &mut parties {
+        assert_eq!((party.outcome(), party.record().first), (outcome, first));
+        assert_eq!(party.index(), index);
+        assert_eq!(party.say(), Err(Refusal::OutOfTurn));
+        assert_eq!(party.hear(&from_all(&[0; 3])), Err(Refusal::OutOfTurn));
+    }
+    (index, first)
 }
 
 #[test]
@@ -165,106 +140,92 @@ fn bids_of_several_bidders() {
 fn the_hearing_that_ends_the_first_search_begins_the_second() {
     // Demand 5 and 2, supply 1 and 4: demand is at least supply at index 1, and
     // supply at least demand nowhere up to it.
-    parties(2, &[vec![5, 2, 1, 4]], |parties| {
-        for left in [[1, 3, 1, 1, 0, 0], [0, 2, 2, 2, 1, 2], [1, 2, 3, 2, 1, 2]] {
-            probe(parties);
-            for party in parties.iter() {
-                let record = party.record();
-                assert_eq!(searches(record), left);
-                let round = match left {
-                    [1, 2, 3, 2, 1, 2] => DEMAND_ROUND,
-                    _ => 1,
-                };
-                assert_eq!((record.round, record.sum, record.carry), (round, 0, 0));
-                assert!(!party.is_over());
-            }
+    let mut parties = panel(2, &[vec![5, 2, 1, 4]]);
+    for left in [[1, 3, 1, 1, 0, 0], [0, 2, 2, 2, 1, 2], [1, 2, 3, 2, 1, 2]] {
+        probe(&mut parties);
+        for party in &parties {
+            assert_eq!(searches(party.record()), left);
+            let number = match left {
+                [1, 2, 3, 2, 1, 2] => DEMAND_ROUND,
+                _ => 1,
+            };
+            assert_eq!(party.record().round, number);
+            let stored = party.store();
+            let (record, _) = parts(&stored);
+            assert_eq!((record[place::SUM], record[place::CARRY]), (0, 0));
+            assert_eq!(party.outcome(), Ok(None));
         }
-    });
+    }
 }
 
 #[test]
 fn without_a_price_the_second_search_is_over_as_it_begins() {
-    parties(2, &[vec![0, 0, 1, 1]], |parties| {
-        probe(parties);
-        for party in parties {
-            assert_eq!(searches(party.record()), [0, 1, 1, 2, 0, 1]);
-            assert!(party.is_over());
-            let none = Answer {
-                index: 0,
-                probes: 1,
-            };
-            assert_eq!(party.answer(), Ok(none));
-        }
-    });
+    let mut parties = panel(2, &[vec![0, 0, 1, 1]]);
+    probe(&mut parties);
+    for party in &parties {
+        assert_eq!(searches(party.record()), [0, 1, 1, 2, 0, 1]);
+        let none = Outcome::NoPrice { probes: 1 };
+        assert_eq!(party.outcome(), Ok(Some(none)));
+    }
 }
 
 #[test]
 fn sheets_are_lent_for_both_searches() {
+    let wrong_length = Refusal::WrongLength;
     for k in [1, 2, 5, 8] {
-        let length = sheets_len(k);
-        assert_eq!(length, 2 * probe_limit(k) * SHEET_LEN);
-        for other in [0, length / 2, length - 1, length + 1, length + SHEET_LEN] {
-            let (session, kept) = collected(1, k, &[], other);
-            let mut party = session.speak(&kept.totals, &kept.sheets);
-            assert_eq!(party.say(), Err(Refusal::WrongLength));
-            assert_eq!(party.hear(&[0; 3], &[1; 3]), Err(Refusal::WrongLength));
+        let length = sheets_len(k, WAY);
+        assert_eq!(length, 2 * probe_limit(k) * SHEET);
+        let good = sheets(N, 1, k);
+        for other in [0, length / 2, length - 1, length + 1, length + SHEET] {
+            // Sheets have the length of some k; on plain words they may have any.
+            let mut words = good.words().to_vec();
+            words.resize(other, 1);
+            let received = Sheets::received(k, WAY, &words);
+            assert_eq!(received.err(), Some(wrong_length));
+            let mut party = Plain::resume(&collected(N, 1, k, &[]).store(), &words);
+            assert_eq!(party.say(), Err(wrong_length));
+            assert_eq!(party.hear(&[0; 3], &[1; 3]), Err(wrong_length));
         }
-        let (session, kept) = collected(1, k, &[], length);
-        assert!(session.speak(&kept.totals, &kept.sheets).say().is_ok());
+        // Those of another k, where that takes another number of probes.
+        for other in [1, 2, 5, 8].into_iter().filter(|&other| other != k) {
+            let mut party = collected(N, 1, k, &[]).speak(sheets(N, 1, other));
+            assert_eq!(party.say(), Err(wrong_length));
+            assert_eq!(party.hear(&from_all(&[0; 3])), Err(wrong_length));
+        }
+        assert!(collected(N, 1, k, &[]).speak(good).say().is_ok());
     }
 }
 
 /// The sheets of both searches are taken in turn: each probe finds its own in the
 /// next place, and nothing that is a sheet elsewhere. The totals are opened without
-/// a sheet.
+/// a sheet. The words are plain, since no sheets are received that are blank in part.
 #[test]
 fn with_q_probes_done_the_current_sheet_is_the_next_one() {
     let k = 5;
-    let no_sheets = vec![u64::MAX; sheets_len(k)];
     for (low, high) in [(1, 5), (2, 4), (4, 3), (1, 0), (6, 5)] {
-        let (sessions, kept): (Vec<_>, Vec<_>) = (1..=N)
-            .map(|own| collected(own, k, &[meeting(k, low, high)], sheets_len(k)))
-            .unzip();
-        let mut stored: Vec<_> = sessions
-            .into_iter()
-            .map(|session| session.speak(&[], &[]).store())
-            .collect();
-        for number in 1.. {
-            let only: Vec<_> = (1..=N)
-                .map(|own| {
-                    let mut sheets = vec![u64::MAX; sheets_len(k)];
-                    if let Some(sheet) = sheets.chunks_mut(SHEET_LEN).nth(number - 1) {
-                        deal_sheet(own, number as u64, sheet);
-                    }
-                    sheets
-                })
-                .collect();
-            let mut parties: Vec<Speaking> = stored
-                .iter()
-                .zip(&kept)
-                .zip(&only)
-                .map(|((stored, kept), sheets)| {
-                    Speaking::resume(stored, &kept.totals, sheets).unwrap()
-                })
-                .collect();
-            if parties[0].record().round == DEMAND_ROUND {
-                parties = stored
-                    .iter()
-                    .zip(&kept)
-                    .map(|(stored, kept)| {
-                        Speaking::resume(stored, &kept.totals, &no_sheets).unwrap()
-                    })
-                    .collect();
-                round(&mut parties);
-                round(&mut parties);
-                assert!(parties[0].is_over());
+        let mut parties = plain_panel(k, &[meeting(k, low, high)]);
+        let dealt: Vec<_> = parties.iter().map(|it| it.sheets.clone()).collect();
+        let is_over = |party: &Plain| asked(&party.record)[0].is_none();
+        for place in 0.. {
+            for party in &mut parties {
+                party.sheets.fill(BLANK);
             }
-            if parties[0].is_over() {
+            if parties[0].record[place::ROUND] == DEMAND_ROUND {
+                plain_round(&mut parties);
+                plain_round(&mut parties);
+                assert!(is_over(&parties[0]));
+            }
+            if is_over(&parties[0]) {
                 break;
             }
-            assert!(number <= sheet_count(k));
-            probe(&mut parties);
-            stored = parties.iter().map(Speaking::store).collect();
+            assert!(place < sheet_count(k));
+            for (party, dealt) in parties.iter_mut().zip(&dealt) {
+                let sheet = place * SHEET..(place + 1) * SHEET;
+                party.sheets[sheet.clone()].copy_from_slice(&dealt[sheet]);
+            }
+            for _ in 1..=WAY.rounds() {
+                plain_round(&mut parties);
+            }
         }
     }
 }
@@ -273,36 +234,48 @@ fn with_q_probes_done_the_current_sheet_is_the_next_one() {
 /// these numbers of the searches. Where they have ended with a price, the totals
 /// are open.
 fn record([lo, hi, probes, search, first, first_probes]: [u64; 6]) -> [u64; RECORD_LEN] {
-    let mut record = [0; RECORD_LEN];
     let ended = search == 2 && hi.wrapping_sub(lo) == 1;
     let round = if ended && first > 0 { OVER_ROUND } else { 1 };
-    record[..10].copy_from_slice(&[N, 1, 5, 0, lo, hi, probes, round, 0, 0]);
-    record[RECORD_LEN - 5..RECORD_LEN - 2].copy_from_slice(&[search, first, first_probes]);
-    record
+    clockivy_testing::record(&[
+        (place::N, N),
+        (place::OWN, 1),
+        (place::K, 5),
+        (place::LO, lo),
+        (place::HI, hi),
+        (place::PROBES, probes),
+        (place::ROUND, round),
+        (place::SEARCH, search),
+        (place::FIRST, first),
+        (place::FIRST_PROBES, first_probes),
+    ])
 }
 
-/// What adding, saying, hearing and asking for the answer and for the totals reply
+/// What adding, saying, hearing and asking for the answer and for a fill reply
 /// to a session with this record. A refused one has changed nothing.
 fn replies(record: [u64; RECORD_LEN]) -> [Option<Refusal>; 5] {
-    let stored = |phase| {
-        let mut words = [phase; STORED_LEN];
-        words[1..].copy_from_slice(&record);
-        words
-    };
-    let mut totals = [0; 10];
-    let mut collecting = Collecting::resume(&stored(0)).unwrap();
-    let added = collecting.add(&mut totals, 1, &[0; 10]).err();
+    let [collects, speaks] = [0, 1].map(|phase| stored(phase, &record, &[0; 10]));
+    let mut collecting = Collecting::resume(&collects).unwrap();
+    let added = collecting.add(1, &[0; 10]).err();
     if added.is_some() {
-        assert_eq!(collecting.store(), stored(0));
+        assert_eq!(collecting.store(), collects);
     }
-    let sheets = vec![0; sheets_len(5)];
-    let mut party = Speaking::resume(&stored(1), &totals, &sheets).unwrap();
-    let (said, asked) = (party.say().err(), party.answer().err());
-    let cleared = party.cleared().err();
+    let mut party = Speaking::resume(&speaks, sheets(N, 1, 5)).unwrap();
+    let said = party.say().err();
+    // An outcome has the answer and the totals at once.
+    let [answered, filled] = asked(&record);
+    match party.outcome() {
+        Err(refusal) => assert_eq!([answered, filled], [Some(refusal); 2]),
+        Ok(None) => assert_eq!(answered, Some(Refusal::OutOfTurn)),
+        Ok(Some(outcome)) => {
+            let without = matches!(outcome, Outcome::NoPrice { .. });
+            let not_cleared = without.then_some(Refusal::NotCleared);
+            assert_eq!([answered, filled], [None, not_cleared]);
+        }
+    }
     // A word that the party does not say, so that a hearing is refused too.
-    let heard = party.hear(&[u64::MAX; 3], &[1; 3]).err();
-    assert_eq!(party.store(), stored(1));
-    [added, said, heard, asked, cleared]
+    let heard = party.hear(&from_all(&[u64::MAX; 3])).err();
+    assert_eq!(party.store(), speaks);
+    [added, said, heard, answered, filled]
 }
 
 #[test]
@@ -337,7 +310,7 @@ fn records_within_their_ranges() {
         // While the totals are opened.
         for round in [DEMAND_ROUND, SUPPLY_ROUND] {
             let mut record = record(numbers);
-            record[ROUND] = round;
+            record[place::ROUND] = round;
             let expected = [out_of_turn, None, differs, out_of_turn, not_cleared];
             assert_eq!(replies(record), expected, "{numbers:?}");
         }
@@ -354,12 +327,12 @@ fn rounds_and_totals_out_of_range() {
     for round in (0..=40).chain([1 << 32, u64::MAX]) {
         for numbers in going_on.into_iter().chain([no_price]) {
             let mut record = record(numbers);
-            record[ROUND] = round;
+            record[place::ROUND] = round;
             let sound = (1..=33).contains(&round);
             assert_eq!(replies(record) != unsound, sound, "{round}");
         }
         let mut record = record(ended);
-        record[ROUND] = round;
+        record[place::ROUND] = round;
         let sound = (34..=36).contains(&round);
         assert_eq!(replies(record) != unsound, sound, "{round}");
     }
@@ -367,12 +340,12 @@ fn rounds_and_totals_out_of_range() {
     for numbers in going_on.into_iter().chain([no_price, ended]) {
         for [demand, supply] in [[0, 1], [6, 7], [limit, 0], [limit, limit], [0, u64::MAX]] {
             let mut record = record(numbers);
-            record[RECORD_LEN - 2..].copy_from_slice(&[demand, supply]);
+            [record[place::DEMAND], record[place::SUPPLY]] = [demand, supply];
             assert_eq!(replies(record), unsound);
         }
         for [demand, supply] in [[1, 0], [7, 7], [limit - 1, 0], [limit - 1, limit - 1]] {
             let mut record = record(numbers);
-            record[RECORD_LEN - 2..].copy_from_slice(&[demand, supply]);
+            [record[place::DEMAND], record[place::SUPPLY]] = [demand, supply];
             assert_ne!(replies(record), unsound);
         }
     }
@@ -432,28 +405,24 @@ fn records_out_of_range() {
 }
 
 /// Why the second search has sheets of its own: on one mask, the two opened sums
-/// differ by the surpluses of the two probes, and every party has both sums.
+/// differ by the surpluses of the two probes, and every party has both sums. The words
+/// are plain, since no sheets are received that have one of them twice.
 #[test]
 fn totals_are_given_away_by_a_sheet_that_serves_both_searches() {
     let (demand, supply) = (9_000, 70);
-    let (sessions, mut kept): (Vec<_>, Vec<_>) = (1..=N)
-        .map(|own| collected(own, 1, &[vec![demand, supply]], sheets_len(1)))
-        .unzip();
-    for Kept { sheets, .. } in &mut kept {
-        let (first, second) = sheets.split_at_mut(SHEET_LEN);
+    let mut parties = plain_panel(1, &[vec![demand, supply]]);
+    for Plain { sheets, .. } in &mut parties {
+        let (first, second) = sheets.split_at_mut(SHEET);
         second.copy_from_slice(first);
+        let received = Sheets::received(1, WAY, sheets);
+        assert_eq!(received.err(), Some(Refusal::ShareOutOfRange));
     }
-    let mut parties: Vec<Speaking> = sessions
-        .into_iter()
-        .zip(&kept)
-        .map(|(session, kept)| session.speak(&kept.totals, &kept.sheets))
-        .collect();
     let mut sums = Vec::new();
-    while !parties[0].is_over() {
-        round(&mut parties);
-        let record = parties[0].record();
-        if record.round == 2 {
-            sums.push(record.sum);
+    while asked(&parties[0].record)[0].is_some() {
+        plain_round(&mut parties);
+        let record = &parties[0].record;
+        if record[place::ROUND] == 2 {
+            sums.push(record[place::SUM]);
         }
     }
     assert_eq!(sums[0] - sums[1], 2 * (demand - supply));

@@ -80,8 +80,8 @@ fn the_fields_of_a_record_in_their_order() {
         (place::HI, record.hi),
         (place::PROBES, record.probes),
         (place::ROUND, record.round),
-        (place::SUM, left[8]),
-        (place::CARRY, left[9]),
+        (place::SUM, left[place::SUM]),
+        (place::CARRY, left[place::CARRY]),
     ];
     let expected = [10, 11, 12, 13, 14, 15, 16, 17, 18, 19];
     assert_eq!(numbers.map(|(_, number)| number), expected);
@@ -132,24 +132,27 @@ fn a_refused_call_leaves_the_session() {
 /// are as many as they should be.
 #[test]
 fn a_message_of_another_length() {
-    let mut parties = panel(N, K, &[(BIDDER, &TABLE)]);
-    let good: Vec<Vec<u64>> = parties.iter().map(|it| it.say().unwrap().to_vec()).collect();
-    let before = parties[0].store();
-    let mut hear = |round: &[Vec<u64>]| {
-        let round: Vec<_> = round.iter().map(|said| Some(&said[..])).collect();
-        parties[0].hear(&round)
-    };
-    for place in 0..3 {
-        for other in [vec![], vec![good[place][0], 0], vec![good[place][0]; 4]] {
-            let mut round = good.clone();
-            round[place] = other;
-            assert_eq!(hear(&round), Err(Refusal::WrongLength));
-            round[(place + 1) % 3] = vec![];
-            assert_eq!(hear(&round), Err(Refusal::WrongLength));
+    let parties = panel(N, K, &[(BIDDER, &TABLE)]);
+    let say = |party: &Speaking| party.say().unwrap().to_vec();
+    let good: Vec<Vec<u64>> = parties.iter().map(say).collect();
+    for mut party in parties {
+        let before = party.store();
+        let mut hear = |round: &[Vec<u64>]| {
+            let round: Vec<_> = round.iter().map(|said| Some(&said[..])).collect();
+            (party.hear(&round), party.store())
+        };
+        let refused = (Err(Refusal::WrongLength), before);
+        for place in 0..3 {
+            for other in [vec![], vec![good[place][0], 0], vec![good[place][0]; 4]] {
+                let mut round = good.clone();
+                round[place] = other;
+                assert_eq!(hear(&round), refused);
+                round[(place + 1) % 3] = vec![];
+                assert_eq!(hear(&round), refused);
+            }
         }
+        assert_eq!(hear(&good).0, Ok(()));
     }
-    assert_eq!(hear(&good), Ok(()));
-    assert_ne!(parties[0].store(), before);
 }
 
 #[test]
@@ -228,44 +231,47 @@ fn what_is_not_resumed() {
     }
 }
 
-/// Adds a bid to a session with this record: its record and totals afterwards.
+/// Adds a bid to a session with this record and these totals: its words afterwards.
 /// A refusal has left both as they were.
 fn add_to(
     record: [u64; RECORD_LEN],
     bidder: u64,
     totals: [u64; 4],
     shares: &[u64],
-) -> Result<([u64; RECORD_LEN], [u64; 4]), Refusal> {
-    let mut session = Collecting::resume(&stored(0, record)).unwrap();
-    let mut left = totals;
-    let reply = session.add(&mut left, bidder, shares);
-    let [_, after @ ..] = session.store();
+) -> Result<Vec<u64>, Refusal> {
+    let before = stored(0, &record, &totals);
+    let mut session = Collecting::resume(&before).unwrap();
+    let reply = session.add(bidder, shares);
     if reply.is_err() {
-        assert_eq!((after, left), (record, totals));
+        assert_eq!(session.store(), before);
     }
-    reply.map(|()| (after, left))
+    reply.map(|()| session.store())
 }
 
 #[test]
 fn a_bid_sent_again_is_refused_and_changes_nothing() {
-    let (mut session, mut kept) = collected(1);
-    session.add(&mut kept.totals, 1, &[1, 2, 3, 4]).unwrap();
-    let (before, totals) = (session.store(), kept.totals);
+    let mut session = Collecting::open(seat(N, 1, K)).unwrap();
+    session.add(BIDDER, &shares(1)).unwrap();
+    session.add(1, &[1, 2, 3, 4]).unwrap();
+    let before = session.store();
     // The same shares, those of another bid, and either in a stored session.
     for shares in [shares(1), [9, 8, 7, 6]] {
         for _ in 0..3 {
-            let again = session.add(&mut kept.totals, BIDDER, &shares);
+            let again = session.add(BIDDER, &shares);
             assert_eq!(again, Err(Refusal::AlreadyEntered));
-            assert_eq!((session.store(), kept.totals), (before, totals));
+            assert_eq!(session.store(), before);
         }
-        let [_, record @ ..] = before;
-        let again = add_to(record, BIDDER, totals, &shares);
+        let mut resumed = Collecting::resume(&before).unwrap();
+        let again = resumed.add(BIDDER, &shares);
         assert_eq!(again, Err(Refusal::AlreadyEntered));
+        assert_eq!(resumed.store(), before);
     }
     // The next bidder's is none of these.
-    session.add(&mut kept.totals, BIDDER + 1, &[1; 4]).unwrap();
-    let expected = with_bids(&[BIDDER, 1, BIDDER + 1]);
-    assert_eq!(session.store(), stored(0, expected));
+    session.add(BIDDER + 1, &[1; 4]).unwrap();
+    let (record, _) = parts(&before);
+    assert_eq!(record, with_bids(&[BIDDER, 1]));
+    let left = session.store();
+    assert_eq!(parts(&left).0, with_bids(&[BIDDER, 1, BIDDER + 1]));
 }
 
 #[test]
@@ -277,7 +283,7 @@ fn a_bid_marks_its_bidder_and_nobody_else() {
             .collect();
         let left = add_to(with_bids(&others), bidder, [1; 4], &[2, 3, 4, 5]);
         let all = [&others[..], &[bidder]].concat();
-        assert_eq!(left, Ok((with_bids(&all), [3, 4, 5, 6])));
+        assert_eq!(left, Ok(stored(0, &with_bids(&all), &[3, 4, 5, 6])));
         let again = add_to(with_bids(&all), bidder, [1; 4], &[2, 3, 4, 5]);
         assert_eq!(again, Err(Refusal::AlreadyEntered));
     }
@@ -287,12 +293,21 @@ fn a_bid_marks_its_bidder_and_nobody_else() {
 fn the_roll_by_bidders() {
     let past = [1_024, 1_025, 2_048, 1 << 32, 1 << 38, 1 << 63, u64::MAX];
     for bidder in [0, 1, 63, 64, 640, 1_000, 1_001, 1_023] {
-        let session = Collecting::resume(&stored(0, with_bids(&[bidder]))).unwrap();
+        let stored = stored(0, &with_bids(&[bidder]), &[0; 4]);
+        let session = Collecting::resume(&stored).unwrap();
         let record = session.record();
         for other in (0..1_024).chain(past) {
             assert_eq!(record.has_bid(other), other == bidder);
         }
     }
+}
+
+/// What a fill by this record replies. On plain words it may be asked of any.
+fn filled(record: &[u64]) -> Result<(), Refusal> {
+    let (mut tenths, mut remainder) = (77, 77);
+    let reply = reply(words::fill(record, 0, &mut tenths, &mut remainder));
+    assert!(reply.is_ok() || (tenths, remainder) == (77, 77));
+    reply
 }
 
 /// Every call on a record refuses one whose roll is not sound.
@@ -302,13 +317,13 @@ fn assert_unsound(record: [u64; RECORD_LEN]) {
         let reply = add_to(record, bidder, [0; 4], &[0; 4]);
         assert_eq!(reply.map(|_| ()), out_of_range);
     }
-    let (totals, sheets) = ([0; 4], vec![0; sheets_len(K)]);
-    let mut party = Speaking::resume(&stored(1, record), &totals, &sheets).unwrap();
+    let stored = stored(1, &record, &[0; 4]);
+    let mut party = Speaking::resume(&stored, sheets(N, 1, K)).unwrap();
     assert_eq!(party.say().map(|_| ()), out_of_range);
-    assert_eq!(party.hear(&[0; 3], &[1; 3]), out_of_range);
-    assert_eq!(party.answer().map(|_| ()), out_of_range);
-    assert_eq!(party.cleared().map(|_| ()), out_of_range);
-    assert_eq!(party.store(), stored(1, record));
+    assert_eq!(party.hear(&from_all(&[0; 3])), out_of_range);
+    assert_eq!(party.outcome().map(|_| ()), out_of_range);
+    assert_eq!(filled(&record), out_of_range);
+    assert_eq!(party.store(), stored);
 }
 
 #[test]
@@ -318,7 +333,7 @@ fn bids_are_the_marks_on_the_roll() {
         let marks = bidders.len() as u64;
         for bids in [marks.wrapping_sub(1), marks + 1, 1_000, 1_001, u64::MAX] {
             let mut record = sound;
-            record[BIDS] = bids;
+            record[place::BIDS] = bids;
             assert_unsound(record);
         }
         assert!(add_to(sound, 7, [0; 4], &[0; 4]).is_ok());
@@ -345,11 +360,11 @@ fn a_roll_marks_bidders_alone() {
 fn a_bid_is_judged_in_its_order() {
     let sound = with_bids(&[BIDDER]);
     let mut unsound = sound;
-    unsound[BIDS] = 2;
+    unsound[place::BIDS] = 2;
     let mut heard = sound;
-    heard[ROUND] = 2;
+    heard[place::ROUND] = 2;
     let mut probed = sound;
-    probed[PROBES] = 1;
+    probed[place::PROBES] = 1;
     let (short, foreign) = (&[PRIME; 3][..], &[PRIME; 4]);
     for (record, bidder, shares, refusal) in [
         (unsound, BIDDER, short, Refusal::OutOfRange),
@@ -390,12 +405,11 @@ fn bids_in_another_order_leave_the_same() {
         (1_000, [9, 10, PRIME - 11, 12]),
     ];
     let left = |order: [usize; 3]| {
-        let mut totals = [0; 4];
-        let mut session = Collecting::open(N, 1, K, &mut totals).unwrap();
+        let mut session = Collecting::open(seat(N, 1, K)).unwrap();
         for (bidder, shares) in order.map(|place| bids[place]) {
-            session.add(&mut totals, bidder, &shares).unwrap();
+            session.add(bidder, &shares).unwrap();
         }
-        (session.store(), totals)
+        session.store()
     };
     for order in [[0, 2, 1], [1, 0, 2], [1, 2, 0], [2, 0, 1], [2, 1, 0]] {
         assert_eq!(left(order), left([0, 1, 2]));
@@ -405,22 +419,19 @@ fn bids_in_another_order_leave_the_same() {
 /// What three parties reply to round 1, each with its shares of a second bid,
 /// or without it.
 fn heard_with(second: impl Fn(u64) -> Option<[u64; 4]>) -> Vec<Result<(), Refusal>> {
-    let mut kept = [1, 2, 3].map(collected);
-    for (own, (session, kept)) in (1..).zip(&mut kept) {
-        if let Some(shares) = second(own) {
-            session.add(&mut kept.totals, 1, &shares).unwrap();
-        }
-    }
-    let (sessions, kept): (Vec<_>, Vec<_>) = kept.into_iter().unzip();
-    let mut parties: Vec<Speaking> = sessions
-        .into_iter()
-        .zip(&kept)
-        .map(|(session, kept)| session.speak(&kept.totals, &kept.sheets))
+    let mut parties: Vec<Speaking> = (1..=N)
+        .map(|own| {
+            let mut session = collected(own);
+            if let Some(shares) = second(own) {
+                session.add(1, &shares).unwrap();
+            }
+            session.speak(sheets(N, own, K))
+        })
         .collect();
-    let messages = messages(&parties);
+    let messages = said(&parties);
     parties
         .iter_mut()
-        .map(|party| party.hear(&messages, &[1; 3]))
+        .map(|party| party.hear(&messages))
         .collect()
 }
 
@@ -475,7 +486,7 @@ fn a_place_of_zeros_that_is_left_out_is_accepted_from_all_parties_alone() {
                 let mut shares = [0; 4];
                 for (entry, coin) in (1..).zip(COINS) {
                     if entry != left_out || !parties.contains(&own) {
-                        split_entry(N, own, K, entry, &TABLE, &[coin], &mut shares).unwrap();
+                        split_entry(seat(N, own, K), entry, &TABLE, &[coin], &mut shares).unwrap();
                     }
                 }
                 Some(shares)
@@ -492,99 +503,161 @@ fn a_place_of_zeros_that_is_left_out_is_accepted_from_all_parties_alone() {
     }
 }
 
-/// Why session and totals are stored as one: an older session passes every
-/// judgement, and does not know of the bid that the totals hold.
+/// Why session and totals are stored as one: an older record passes every judgement,
+/// and does not know of the bid that the totals hold. On plain words, and in words that
+/// were put together from two sessions, they come apart; a session's own do not.
 #[test]
 fn a_bid_sent_again_to_an_older_session_counts_double() {
-    let mut totals = [0; 4];
-    let mut session = Collecting::open(N, 1, K, &mut totals).unwrap();
-    let older = session.store();
-    session.add(&mut totals, BIDDER, &[1, 2, 3, 4]).unwrap();
-    let mut session = Collecting::resume(&older).unwrap();
-    session.add(&mut totals, BIDDER, &[1, 2, 3, 4]).unwrap();
-    assert_eq!((session.record().bids, totals), (1, [2, 4, 6, 8]));
+    let (mut record, mut totals) = ([0; RECORD_LEN], [9; 4]);
+    assert_eq!(words::open(N, 1, K, &mut totals, &mut record), 0);
+    let older = record;
+    let mut add = |record: &mut [u64]| words::add(record, &mut totals, BIDDER, &[1, 2, 3, 4]);
+    assert_eq!(add(&mut record), 0);
+    record = older;
+    assert_eq!(add(&mut record), 0);
+    assert_eq!((record[place::BIDS], totals), (1, [2, 4, 6, 8]));
+
+    let put_together = add_to(older, BIDDER, [1, 2, 3, 4], &[1, 2, 3, 4]);
+    assert_eq!(put_together, Ok(stored(0, &record, &[2, 4, 6, 8])));
+    let whole = add_to(older, BIDDER, [0; 4], &[1, 2, 3, 4]);
+    assert_eq!(whole, Ok(stored(0, &record, &[1, 2, 3, 4])));
 }
 
 #[test]
 fn a_resumed_record_is_judged_by_the_next_call() {
     let mut heard = with_bids(&[]);
-    heard[ROUND] = 2;
+    heard[place::ROUND] = 2;
     let reply = add_to(heard, BIDDER, [0; 4], &[0; 4]);
     assert_eq!(reply, Err(Refusal::OutOfTurn));
 
-    let none = [u64::MAX; RECORD_LEN];
+    // Of the record, resuming judges the number of prices alone.
+    let mut none = [u64::MAX; RECORD_LEN];
+    assert_eq!(
+        resume(&stored(0, &none, &[])),
+        [Some(Refusal::OutOfRange); 2]
+    );
+    let out_of_range = Err(Refusal::OutOfRange);
+    none[place::K] = K;
     let reply = add_to(none, BIDDER, [0; 4], &[0; 4]);
-    assert_eq!(reply, Err(Refusal::OutOfRange));
-    let mut party = Speaking::resume(&stored(1, none), &[], &[]).unwrap();
-    assert_eq!((party.is_over(), party.index()), (false, u64::MAX));
-    assert_eq!(party.say(), Err(Refusal::OutOfRange));
-    assert_eq!(party.hear(&[0; 3], &[1; 3]), Err(Refusal::OutOfRange));
-    assert_eq!(party.answer(), Err(Refusal::OutOfRange));
-    assert_eq!(party.cleared(), Err(Refusal::OutOfRange));
+    assert_eq!(reply.map(|_| ()), out_of_range);
+    let stored = stored(1, &none, &[0; 4]);
+    let mut party = Speaking::resume(&stored, Sheets::blank(K, WAY)).unwrap();
+    assert_eq!(party.index(), u64::MAX);
+    assert_eq!(party.say().map(|_| ()), out_of_range);
+    assert_eq!(party.hear(&from_all(&[0; 3])), out_of_range);
+    assert_eq!(party.outcome().map(|_| ()), out_of_range);
+    assert_eq!(filled(&none), out_of_range);
 }
 
-/// Whatever the words of a stored session are, it tells where it stands.
+/// On plain words no number of prices is judged before the call.
+#[test]
+fn a_record_of_no_prices_is_judged_by_every_call() {
+    let out_of_range = Err(Refusal::OutOfRange);
+    let none = [u64::MAX; RECORD_LEN];
+    let mut party = Plain::resume(&stored(1, &none, &[]), &[]);
+    assert_eq!(party.say().map(|_| ()), out_of_range);
+    assert_eq!(party.hear(&[0; 3], &[1; 3]), out_of_range);
+    assert_eq!(party.record, none);
+    let mut record = none;
+    let added = words::add(&mut record, &mut [0; 4], BIDDER, &[0; 4]);
+    assert_eq!((reply(added), record), (out_of_range, none));
+    let (mut index, mut probes) = (77, 77);
+    let answered = words::answer(&none, &mut index, &mut probes);
+    assert_eq!((reply(answered), index, probes), (out_of_range, 77, 77));
+    assert_eq!(filled(&none), out_of_range);
+}
+
+/// The index by the words of a record, whatever they are.
+fn index_by([lo, hi, round, first]: [u64; 4]) -> u64 {
+    let (low, high) = match round {
+        ..=33 => (lo, hi),
+        _ if hi <= first => (first, hi),
+        _ => (first, first),
+    };
+    ((u128::from(low) + u128::from(high)) / 2) as u64
+}
+
+/// Whatever the words of a stored session are, it tells where it stands; and of what
+/// the auction has come to it tells once it is over, or that the words are none.
 #[test]
 fn any_words_tell_where_a_session_stands() {
     let edges = [0, 1, 2, 33, 34, 36, 1 << 63, u64::MAX - 1, u64::MAX];
-    for round in edges {
-        for lo in edges {
-            for hi in edges {
-                for first in edges {
-                    let mut record = [u64::MAX; RECORD_LEN];
-                    [record[LO], record[HI], record[ROUND]] = [lo, hi, round];
-                    [record[SEARCH], record[SEARCH + 1]] = [2, first];
-                    let party = Speaking::resume(&stored(1, record), &[], &[]).unwrap();
-                    let over = hi.checked_sub(lo) == Some(1) && (first == 0 || round == 36);
-                    assert_eq!(party.is_over(), over);
-                    let (low, high) = match round {
-                        ..=33 => (lo, hi),
-                        _ if hi <= first => (first, hi),
-                        _ => (first, first),
-                    };
-                    let middle = (u128::from(low) + u128::from(high)) / 2;
-                    assert_eq!(u128::from(party.index()), middle);
+    let mut sound = with_bids(&[]);
+    sound[place::SEARCH] = 2;
+    [sound[place::PROBES], sound[place::FIRST_PROBES]] = [2, 1];
+    let mut unsound = [u64::MAX; RECORD_LEN];
+    [unsound[place::K], unsound[place::SEARCH]] = [K, 2];
+    // How often there was an outcome, and how often none yet.
+    let mut counts = [0, 0];
+    for numbers in (0..edges.len().pow(4)).map(|number| {
+        let digit = |place: u32| edges[number / edges.len().pow(place) % edges.len()];
+        [0, 1, 2, 3].map(digit)
+    }) {
+        let [lo, hi, round, first] = numbers;
+        let over = hi.checked_sub(lo) == Some(1) && (first == 0 || round == 36);
+        for (others, is_sound) in [(sound, true), (unsound, false)] {
+            let mut record = others;
+            [record[place::LO], record[place::HI]] = [lo, hi];
+            [record[place::ROUND], record[place::FIRST]] = [round, first];
+            let stored = stored(1, &record, &[0; 4]);
+            let party = Speaking::resume(&stored, Sheets::blank(K, WAY)).unwrap();
+            assert_eq!(party.index(), index_by(numbers));
+            match party.outcome() {
+                Ok(outcome) => {
+                    assert_eq!((outcome.is_some(), is_sound), (over, true));
+                    counts[usize::from(outcome.is_none())] += 1;
                 }
+                Err(refusal) => assert_eq!(refusal, Refusal::OutOfRange),
             }
         }
     }
+    assert!(counts.iter().all(|&count| count > 0), "{counts:?}");
 }
 
+/// Nor are the sum and the carry, which round 1 leaves in the record.
 #[test]
 fn neither_totals_nor_sheets_are_shown() {
-    let (session, kept) = collected(1);
-    let party = session.speak(&kept.totals, &kept.sheets);
+    let session = collected(1);
+    let expected = format!("Collecting {{ record: {:?}, .. }}", session.record());
+    assert_eq!(format!("{session:?}"), expected);
+    let sheets = sheets(N, 1, K);
+    let expected = format!("Sheets {{ words: {}, .. }}", sheets.words().len());
+    assert_eq!(format!("{sheets:?}"), expected);
+    let mut parties = panel(N, K, &[(BIDDER, &TABLE)]);
+    round(&mut parties);
+    let party = &parties[0];
     let expected = format!("Speaking {{ record: {:?}, .. }}", party.record());
     assert_eq!(format!("{party:?}"), expected);
+
+    let left = party.store();
+    let (record, _) = parts(&left);
+    assert!(record[place::SUM] > 1 << 58);
+    let shown = format!("{:?}", party.record());
+    assert!(!shown.contains(&record[place::SUM].to_string()));
+    assert!(!shown.contains("sum") && !shown.contains("carry"));
 }
 
 /// Why a session that starts anew gets new sheets: with those of one that has
 /// spoken, its message differs from the other's by a share of the new bid.
 #[test]
 fn a_bid_is_given_away_by_sheets_used_again() {
-    let (session, kept) = collected(1);
-    let before = session.speak(&kept.totals, &kept.sheets).say().unwrap();
-    let (mut anew, mut again) = collected(1);
+    let before = collected(1).speak(sheets(N, 1, K)).say().unwrap();
+    let mut anew = collected(1);
     let bid = [9_000, 8_000, 70, 60];
-    anew.add(&mut again.totals, 1, &bid).unwrap();
-    let after = anew.speak(&again.totals, &kept.sheets).say().unwrap();
-    assert_eq!((after + PRIME - before) % PRIME, bid[0] - bid[2]);
+    anew.add(1, &bid).unwrap();
+    let after = anew.speak(sheets(N, 1, K)).say().unwrap();
+    assert_eq!((after[0] + PRIME - before[0]) % PRIME, bid[0] - bid[2]);
 }
 
 /// Why a session that speaks takes no bids: on plain words the library accepts
 /// one, and the messages before and after differ by a share of it.
 #[test]
 fn a_bid_between_two_sayings_is_given_away() {
-    let (session, kept) = collected(1);
-    let (mut record, mut totals) = (session.store()[1..].to_vec(), kept.totals);
-    let say = |record: &[u64], totals: &[u64]| {
-        let mut message = 0;
-        assert_eq!(words::say(record, totals, &kept.sheets, &mut message), 0);
-        message
-    };
-    let before = say(&record, &totals);
+    let mut party = Plain::resume(&collected(1).store(), sheets(N, 1, K).words());
+    let before = party.say().unwrap();
     let bid = [9_000, 8_000, 70, 60];
-    assert_eq!(words::add(&mut record, &mut totals, 1, &bid), 0);
-    let after = say(&record, &totals);
+    let Plain { record, totals, .. } = &mut party;
+    assert_eq!(words::add(record, totals, 1, &bid), 0);
+    let after = party.say().unwrap();
     assert_eq!((after + PRIME - before) % PRIME, bid[0] - bid[2]);
 }

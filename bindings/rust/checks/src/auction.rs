@@ -5,13 +5,19 @@
 //! again stand in between. Parties drop off in the middle of a probe and come back, or
 //! do not, and all who hear a round come to the same.
 
-use clockivy::Refusal;
-use clockivy_hearings::count;
+use clockivy::words::place::{
+    BIDS, CARRY, DEMAND, FIRST, FIRST_PROBES, HI, LO, OWN, PROBES, ROLL, ROUND, SEARCH, SUPPLY,
+};
+use clockivy::{
+    coins_len, deal_bytes_len, deal_words_len, sheet_count, table_len, Refusal, RECORD_LEN,
+    SETTLEMENT_LEN,
+};
 use clockivy_reference::field::amount::P;
 use clockivy_reference::{
-    probe_limit, sheet_count, threshold, DEMAND_ROUND, ENTRIES, FIRST_SEARCH, HIGHEST_PRICE,
-    LAST_ROUND, MAX_AMOUNT, MAX_BIDS, RECORD, SECOND_SEARCH, SHEET,
+    probe_limit, threshold, DEMAND_ROUND, FIRST_SEARCH, HIGHEST_PRICE, LAST_ROUND, MAX_AMOUNT,
+    MAX_BIDS, SECOND_SEARCH,
 };
+use clockivy_testing::{count, WAY};
 
 use crate::attendance::Attendance;
 use crate::call::Call;
@@ -20,10 +26,7 @@ use crate::differential::{Difference, Tally};
 use crate::generate;
 use crate::outcome::Totals;
 use crate::page;
-use crate::record::{
-    has_bid, has_cleared, has_searched, index, is_over, mark, BIDS, CARRY, DEMAND, FIRST,
-    FIRST_PROBES, HI, LO, OWN, PROBES, ROLL, ROUND, SEARCH, SUPPLY,
-};
+use crate::record::{has_bid, has_cleared, has_searched, index, is_over, mark};
 use crate::rng::Rng;
 
 /// A bid.
@@ -139,14 +142,14 @@ pub fn whole(
 
 /// What a record has in common with those of the other parties.
 fn common(record: &[u64]) -> Vec<u64> {
-    [&record[..1], &record[2..CARRY], &record[ROLL..]].concat()
+    [&record[..OWN], &record[OWN + 1..CARRY], &record[ROLL..]].concat()
 }
 
 impl Auction<'_> {
     fn open(&mut self) -> Result<(), Difference> {
         for own in 1..=self.n {
-            let totals = self.rng.words(2 * self.k as usize, Rng::word);
-            let record = self.rng.words(RECORD, Rng::word);
+            let totals = self.rng.words(table_len(self.k), Rng::word);
+            let record = self.rng.words(RECORD_LEN, Rng::word);
             let call = Call::open(self.n, own, self.k, &totals, &record);
             let left = self.accepted(call)?;
             self.seats.push(Seat {
@@ -164,13 +167,11 @@ impl Auction<'_> {
     /// Every party adds every bid, but not all in one order: where a line drops,
     /// the bid comes after the others.
     fn bid(&mut self) -> Result<(), Difference> {
-        let length = 2 * self.k as usize;
         let mut expected = self.seats[0].record.clone();
         let mut late = Vec::new();
         for place in 0..self.bids.len() {
-            let coins = self
-                .rng
-                .words(length * threshold(self.n), Rng::amount_share);
+            let length = coins_len(self.n, self.k);
+            let coins = self.rng.words(length, Rng::amount_share);
             let bidder = self.bids[place].bidder;
             for own in 1..=self.n {
                 let shares = self.split(own, place, &coins)?;
@@ -261,13 +262,13 @@ impl Auction<'_> {
     }
 
     fn deal(&mut self) -> Result<(), Difference> {
-        let t = threshold(self.n);
         for _ in 0..sheet_count(self.k) {
-            let mut words = self.rng.words(1 + t, Rng::amount_share);
+            let length = deal_words_len(self.n);
+            let mut words = self.rng.words(length, Rng::amount_share);
             words[0] = self.rng.mask();
-            let bytes = self.rng.bytes(126 * t + 62);
+            let bytes = self.rng.bytes(deal_bytes_len(self.n, WAY));
             for own in 1..=self.n {
-                let sheet = self.rng.words(SHEET, Rng::word);
+                let sheet = self.rng.words(WAY.sheet_len(), Rng::word);
                 let call = Call::deal(self.n, own, &words, &bytes, &sheet);
                 let left = self.accepted(call)?;
                 self.seats[own as usize - 1]
@@ -529,7 +530,7 @@ impl Auction<'_> {
     /// tell, where there is a price. Then all hours are settled.
     fn share_out(&mut self) -> Result<(), Difference> {
         let price = self.totals.price();
-        let mut entries = vec![0; ENTRIES];
+        let mut amounts = vec![0; SETTLEMENT_LEN];
         for place in 0..self.seats.len() {
             if price == 0 || self.seats[place].heard < self.rounds.len() {
                 let record = &self.seats[place].record;
@@ -550,10 +551,10 @@ impl Auction<'_> {
                 let record = &self.seats[place].record;
                 let call = Call::fill(record, amount, self.rng.word(), self.rng.word());
                 let left = self.accepted(call)?;
-                let (hours, remainder) = (left.words[1][0], left.words[2][0]);
-                self.holds(hours <= amount, "a buyer gets more than it wants")?;
-                entries[first..first + 4].copy_from_slice(&[amount, hours, sold, sold]);
-                got += hours;
+                let (tenths, remainder) = (left.words[1][0], left.words[2][0]);
+                self.holds(tenths <= amount, "a buyer gets more than it wants")?;
+                amounts[first..first + 4].copy_from_slice(&[amount, tenths, sold, sold]);
+                got += tenths;
                 remainders += remainder;
                 buyers += u64::from(amount > 0);
             }
@@ -564,18 +565,18 @@ impl Auction<'_> {
             let little = demand == 0 || supply - got < buyers;
             self.holds(little, "too much is left over")?;
         }
-        self.settle(&entries)
+        self.settle(&amounts)
     }
 
-    /// Writes the settlement page of these entries, and reads it back.
-    fn settle(&mut self, entries: &[u64]) -> Result<(), Difference> {
+    /// Writes the settlement page of these amounts, and reads it back.
+    fn settle(&mut self, amounts: &[u64]) -> Result<(), Difference> {
         let price = self.rng.between(1, HIGHEST_PRICE);
-        let room = self.rng.bytes(page::length(entries));
-        let call = Call::settlement_write(price, entries, &room, self.rng.word());
+        let room = self.rng.bytes(page::length(amounts));
+        let call = Call::settlement_write(price, amounts, &room, self.rng.word());
         let page = self.accepted(call)?.bytes;
-        let before = self.rng.words(ENTRIES, Rng::word);
+        let before = self.rng.words(SETTLEMENT_LEN, Rng::word);
         let left = self.accepted(Call::settlement_read(price, &page, &before))?;
-        self.holds(left.words[0][..] == *entries, "a page gives other entries")
+        self.holds(left.words[0][..] == *amounts, "a page gives other amounts")
     }
 
     /// Makes a call that must be accepted, with damaged ones before it now and

@@ -356,13 +356,12 @@ fn used(rng: &mut Rng, call: &Call, slice: usize) -> Option<usize> {
     if !matches!(call.kind, Kind::Say | Kind::Hear) || call.words[0].len() != RECORD_LEN {
         return None;
     }
-    let [n, own, k, _, lo, hi, probes, ..] = call.words[0][..] else {
-        unreachable!("it has the words of a record");
-    };
+    let record = &call.words[0];
+    let [n, own, k, lo, hi, probes] = [N, OWN, K, LO, HI, PROBES].map(|place| record[place]);
     if k > MAX_PRICES || hi > k + 1 || lo >= hi || probes > 64 || n > 9 {
         return None;
     }
-    let index = index(&call.words[0]) as u64;
+    let index = index(record) as u64;
     let place = match slice {
         1 => index.saturating_sub(1).saturating_add(rng.pick(&[0, k])),
         2 => probes * WAY.sheet_len() as u64 + rng.pick(&[0, 1, 33, 34, 64, 126]),

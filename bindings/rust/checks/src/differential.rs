@@ -2,6 +2,8 @@
 
 use std::fmt;
 
+use clockivy::words::place::{DEMAND, SUPPLY};
+use clockivy::{words, VERSION};
 use clockivy_reference::MAX_BIDS;
 
 use crate::attendance::{Attendance, Events};
@@ -11,7 +13,6 @@ use crate::damage::damage;
 use crate::engine::{ByteProduct, Engine, Plain, Verified};
 use crate::meeting::meeting;
 use crate::outcome::{Endings, Totals};
-use crate::record::{DEMAND, SUPPLY};
 use crate::rng::Rng;
 use crate::soundness::{self, Found};
 use crate::{auction, generate, opened, page, presence};
@@ -178,7 +179,7 @@ impl Tally {
         }
         if reply == 0 && !page::settled(call, left) {
             return Err(Difference(format!(
-                "both left a page and entries that do not belong together, given\n{call}"
+                "both left a page and amounts that do not belong together, given\n{call}"
             )));
         }
         for condition in page::conditions(call, reply) {
@@ -345,13 +346,13 @@ impl fmt::Display for Tally {
 
 /// A fill is a times S divided by D, and the remainder, or 0 and 0.
 fn filled(left: &Call) -> Result<(), Difference> {
-    let [record, hours, remainder] = &left.words[..] else {
+    let [record, tenths, remainder] = &left.words[..] else {
         unreachable!("it is a fill");
     };
     let (demand, supply) = (record[DEMAND], record[SUPPLY]);
     let exact = match demand {
-        0 => hours[0] == 0 && remainder[0] == 0,
-        _ => hours[0] * demand + remainder[0] == left.amount * supply && remainder[0] < demand,
+        0 => tenths[0] == 0 && remainder[0] == 0,
+        _ => tenths[0] * demand + remainder[0] == left.amount * supply && remainder[0] < demand,
     };
     if exact {
         return Ok(());
@@ -463,13 +464,14 @@ const PAGES: usize = 4_000;
 /// The longest list over which every run of balanced prices is tried.
 const SHORT_LIST: u64 = 5;
 
-/// Every byte product by itself; whole auctions of every number of parties over
+/// The version, and every byte product by itself; whole auctions of every number of parties over
 /// the given numbers of prices, in which everybody attends and in which parties
 /// drop off, those in which the totals meet in every place of a short list, and
 /// one that fills the roll, with refused calls in between; settlement pages, read
 /// back and damaged; then single calls, valid and damaged, until there are `calls` in
 /// all.
 pub fn run(seed: u64, prices: &[u64], calls: u64, tally: &mut Tally) -> Result<(), Difference> {
+    compare_version()?;
     tally.compare_byte_products()?;
     let mut rng = Rng::new(seed);
     for n in 3..=9 {
@@ -493,6 +495,17 @@ pub fn run(seed: u64, prices: &[u64], calls: u64, tally: &mut Tally) -> Result<(
         tally.compare(&call)?;
     }
     Ok(())
+}
+
+/// The version of the library is the one that its calls are compared for.
+fn compare_version() -> Result<(), Difference> {
+    match words::version() {
+        VERSION => Ok(()),
+        found => Err(Difference(format!(
+            "{} has version {found} in place of {VERSION}",
+            Verified::NAME
+        ))),
+    }
 }
 
 /// The tables of up to five bids: any, or such as balance somewhere, or just not.
@@ -522,7 +535,7 @@ fn short_lists(rng: &mut Rng, k: u64, tally: &mut Tally) -> Result<(), Differenc
     auction::whole(rng, n, k, Vec::new(), Attending::DroppingOff, tally)
 }
 
-/// A settlement page is written. It gives the entries back, and is read again with
+/// A settlement page is written. It gives the amounts back, and is read again with
 /// damage, at the same price or at another.
 fn settlement(rng: &mut Rng, tally: &mut Tally) -> Result<(), Difference> {
     let call = generate::call(rng, Kind::SettlementWrite);
@@ -535,7 +548,7 @@ fn settlement(rng: &mut Rng, tally: &mut Tally) -> Result<(), Difference> {
     let mut call = Call::settlement_read(call.price, page, &before);
     let (_, read) = tally.compare(&call)?;
     if read.words[0][..] != left.words[0][..] {
-        return Err(Difference(format!("a page gives other entries,\n{call}")));
+        return Err(Difference(format!("a page gives other amounts,\n{call}")));
     }
     for _ in 0..3 {
         damage(rng, &mut call);

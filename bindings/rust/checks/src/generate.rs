@@ -1,21 +1,26 @@
 //! Calls to compare, mostly such as are accepted: random parties, prices,
 //! records and contents. Words that a call does not use hold anything.
 
+use clockivy::words::place::{
+    BIDS, CARRY, DEMAND, FIRST, FIRST_PROBES, HI, K, LO, N, OWN, PROBES, ROLL, ROUND, SEARCH, SUM,
+    SUPPLY,
+};
+use clockivy::{
+    coins_len, deal_bytes_len, deal_words_len, sheet_count, table_len, LINE_LEN, RECORD_LEN,
+    SETTLEMENT_LEN,
+};
 use clockivy_reference as reference;
 use clockivy_reference::field::{amount, byte};
 use clockivy_reference::{
-    probe_limit, sheet_count, DEMAND_ROUND, ENTRIES, FIRST_SEARCH, HIGHEST_PRICE, LAST_ROUND, LINE,
-    MAX_AMOUNT, MAX_BIDS, MAX_PRICES, NO_MORE_ROUNDS, RECORD, SECOND_SEARCH, SHEET, SUM_LIMIT,
-    SUM_LOW, SUPPLY_ROUND, TOTAL_LIMIT,
+    probe_limit, DEMAND_ROUND, FIRST_SEARCH, HIGHEST_PRICE, LAST_ROUND, MAX_AMOUNT, MAX_BIDS,
+    MAX_PRICES, NO_MORE_ROUNDS, SECOND_SEARCH, SUM_LIMIT, SUM_LOW, SUPPLY_ROUND, TOTAL_LIMIT,
 };
+use clockivy_testing::WAY;
 
 use crate::call::{Call, Kind};
 use crate::formatted;
 use crate::page;
-use crate::record::{
-    has_bid, has_cleared, index, mark, marks, unmark, BIDS, DEMAND, FIRST, FIRST_PROBES, HI, K, LO,
-    N, NOBODY, OWN, PROBES, ROLL, ROUND, SEARCH, SUPPLY,
-};
+use crate::record::{has_bid, has_cleared, index, mark, marks, unmark, NOBODY};
 use crate::rng::Rng;
 
 /// The reply where a word that is used is no share.
@@ -70,10 +75,6 @@ impl Shape {
         reference::threshold(self.n)
     }
 
-    fn table_len(self) -> usize {
-        2 * self.k as usize
-    }
-
     /// Changes the first coefficient so that the party's share is 0.
     fn vanish(self, secret: u64, coefficients: &mut [u64]) {
         if (1..=9).contains(&self.own) && !coefficients.is_empty() {
@@ -106,15 +107,15 @@ pub fn call(rng: &mut Rng, kind: Kind) -> Call {
 }
 
 fn open(rng: &mut Rng, shape: Shape) -> Call {
-    let totals = rng.words(shape.table_len(), Rng::word);
-    let record = rng.words(RECORD, Rng::word);
+    let totals = rng.words(table_len(shape.k), Rng::word);
+    let record = rng.words(RECORD_LEN, Rng::word);
     Call::open(shape.n, shape.own, shape.k, &totals, &record)
 }
 
 fn split(rng: &mut Rng, shape: Shape) -> Call {
     let table = rng.table(shape.k as usize);
     let t = shape.threshold();
-    let mut coins = rng.words(shape.table_len() * t, Rng::amount_share);
+    let mut coins = rng.words(coins_len(shape.n, shape.k), Rng::amount_share);
     if t > 0 {
         for (&entry, group) in table.iter().zip(coins.chunks_exact_mut(t)) {
             if rng.once_in(8) {
@@ -122,7 +123,7 @@ fn split(rng: &mut Rng, shape: Shape) -> Call {
             }
         }
     }
-    let shares = rng.words(shape.table_len(), Rng::word);
+    let shares = rng.words(table_len(shape.k), Rng::word);
     Call::split(shape.n, shape.own, shape.k, &table, &coins, &shares)
 }
 
@@ -139,18 +140,18 @@ fn split_entry(rng: &mut Rng, shape: Shape) -> Call {
     if let (Some(&amount), true) = (amount, rng.once_in(8)) {
         shape.vanish(amount, &mut coins);
     }
-    let shares = rng.words(shape.table_len(), Rng::word);
+    let shares = rng.words(table_len(shape.k), Rng::word);
     Call::split_entry(shape.n, shape.own, shape.k, entry, &table, &coins, &shares)
 }
 
 fn deal(rng: &mut Rng, shape: Shape) -> Call {
-    let mut words = rng.words(1 + shape.threshold(), Rng::amount_share);
+    let mut words = rng.words(deal_words_len(shape.n), Rng::amount_share);
     words[0] = rng.mask();
     if let ([mask, coefficients @ ..], true) = (&mut words[..], rng.once_in(8)) {
         shape.vanish(*mask, coefficients);
     }
-    let bytes = rng.bytes(126 * shape.threshold() + 62);
-    let sheet = rng.words(SHEET, Rng::word);
+    let bytes = rng.bytes(deal_bytes_len(shape.n, WAY));
+    let sheet = rng.words(WAY.sheet_len(), Rng::word);
     Call::deal(shape.n, shape.own, &words, &bytes, &sheet)
 }
 
@@ -162,8 +163,8 @@ fn add(rng: &mut Rng, shape: Shape) -> Call {
         record[ROUND] = 1;
         fit_round(rng, &mut record);
     }
-    let totals = rng.words(shape.table_len(), Rng::amount_share);
-    let mut shares = rng.words(shape.table_len(), Rng::amount_share);
+    let totals = rng.words(table_len(shape.k), Rng::amount_share);
+    let mut shares = rng.words(table_len(shape.k), Rng::amount_share);
     for (share, &total) in shares.iter_mut().zip(&totals) {
         if rng.once_in(8) {
             *share = amount::sub(0, total);
@@ -307,28 +308,28 @@ fn fill(rng: &mut Rng, shape: Shape) -> Call {
 
 /// A page is written at any price, mostly into just the room that it needs.
 fn settlement_write(rng: &mut Rng) -> Call {
-    let entries = entries(rng);
-    let length = page::length(&entries);
+    let amounts = amounts(rng);
+    let length = page::length(&amounts);
     let room = match rng.below(16) {
         0 => 0,
         1 => length.saturating_sub(1),
-        2 => length.saturating_sub(LINE),
+        2 => length.saturating_sub(LINE_LEN),
         3 => rng.place(length + 1),
         4 => length + 1,
-        5 => length + rng.place(2 * LINE),
+        5 => length + rng.place(2 * LINE_LEN),
         _ => length,
     };
     let page = rng.bytes(room);
-    Call::settlement_write(price(rng), &entries, &page, rng.word())
+    Call::settlement_write(price(rng), &amounts, &page, rng.word())
 }
 
 /// A page is read at the price at which it is laid out.
 fn settlement_read(rng: &mut Rng) -> Call {
-    let (price, entries) = (price(rng), entries(rng));
-    let rows = formatted::rows(price.clamp(1, HIGHEST_PRICE), &entries);
+    let (price, amounts) = (price(rng), amounts(rng));
+    let rows = formatted::rows(price.clamp(1, HIGHEST_PRICE), &amounts);
     let page = formatted::page(rows);
-    let entries = rng.words(ENTRIES, Rng::word);
-    Call::settlement_read(price, page.as_bytes(), &entries)
+    let amounts = rng.words(SETTLEMENT_LEN, Rng::word);
+    Call::settlement_read(price, page.as_bytes(), &amounts)
 }
 
 /// A price of an hour: often at an end of the range, and now and then outside it.
@@ -342,10 +343,10 @@ pub fn price(rng: &mut Rng) -> u64 {
     }
 }
 
-/// The entries of a settlement: mostly of a few bidders, now and then of none, of many
+/// The amounts of a settlement: mostly of a few bidders, now and then of none, of many
 /// or of all.
-fn entries(rng: &mut Rng) -> Vec<u64> {
-    let mut entries = vec![0; ENTRIES];
+fn amounts(rng: &mut Rng) -> Vec<u64> {
+    let mut amounts = vec![0; SETTLEMENT_LEN];
     let nothing_got = rng.once_in(32);
     let once_in = match rng.below(128) {
         0 => 1,
@@ -353,7 +354,7 @@ fn entries(rng: &mut Rng) -> Vec<u64> {
         3..=8 => 40,
         _ => 800,
     };
-    for pair in entries.chunks_exact_mut(2) {
+    for pair in amounts.chunks_exact_mut(2) {
         if rng.once_in(once_in) {
             pair.copy_from_slice(&wanted_and_got(rng));
             if nothing_got {
@@ -362,12 +363,12 @@ fn entries(rng: &mut Rng) -> Vec<u64> {
         }
     }
     // The ends of the page.
-    for pair in [0, 1, ENTRIES / 2 - 2, ENTRIES / 2 - 1] {
+    for pair in [0, 1, SETTLEMENT_LEN / 2 - 2, SETTLEMENT_LEN / 2 - 1] {
         if rng.once_in(32) {
-            entries[2 * pair..2 * pair + 2].copy_from_slice(&wanted_and_got(rng));
+            amounts[2 * pair..2 * pair + 2].copy_from_slice(&wanted_and_got(rng));
         }
     }
-    entries
+    amounts
 }
 
 /// What a bidder wants and gets: often such that the number of digits just changes.
@@ -415,8 +416,15 @@ fn record(rng: &mut Rng, shape: Shape) -> Vec<u64> {
         _ => rng.below(SUM_LIMIT),
     };
     let carry = u64::from(rng.byte());
-    let mut record = vec![n, own, k, 0, 0, 0, 0, round, sum, carry];
-    record.resize(RECORD, 0);
+    let fields = [
+        (N, n),
+        (OWN, own),
+        (K, k),
+        (ROUND, round),
+        (SUM, sum),
+        (CARRY, carry),
+    ];
+    let mut record = clockivy_testing::record(&fields).to_vec();
     roll(rng, &mut record);
     any_search(rng, &mut record);
     opened_totals(rng, &mut record);
@@ -572,9 +580,9 @@ fn roll(rng: &mut Rng, record: &mut [u64]) {
 /// Totals: the words that the round uses are shares, the others anything.
 fn totals(rng: &mut Rng, shape: Shape, record: &[u64]) -> Vec<u64> {
     if rng.once_in(2) {
-        return rng.words(shape.table_len(), Rng::amount_share);
+        return rng.words(table_len(shape.k), Rng::amount_share);
     }
-    let mut totals = rng.words(shape.table_len(), Rng::word);
+    let mut totals = rng.words(table_len(shape.k), Rng::word);
     let (index, round) = (index(record), record[ROUND]);
     if index > 0 && [1, DEMAND_ROUND].contains(&round) {
         totals[index - 1] = rng.amount_share();
@@ -588,13 +596,14 @@ fn totals(rng: &mut Rng, shape: Shape, record: &[u64]) -> Vec<u64> {
 /// Preprocessing: the current probe's is sound, the others hold anything.
 fn sheets(rng: &mut Rng, shape: Shape, record: &[u64]) -> Vec<u64> {
     let current = (record[ROUND] <= LAST_ROUND).then_some(record[PROBES]);
+    let length = WAY.sheet_len();
     let mut sheets = Vec::new();
-    for probe in 0..sheet_count(shape.k) {
+    for probe in (0..).take(sheet_count(shape.k)) {
         if current == Some(probe) || rng.once_in(2) {
             sheets.push(rng.amount_share());
-            sheets.extend(rng.words(SHEET - 1, |rng| u64::from(rng.byte())));
+            sheets.extend(rng.words(length - 1, |rng| u64::from(rng.byte())));
         } else {
-            sheets.extend(rng.words(SHEET, Rng::word));
+            sheets.extend(rng.words(length, Rng::word));
         }
     }
     sheets

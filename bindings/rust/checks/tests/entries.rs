@@ -1,18 +1,12 @@
 //! Every way in which one entry of a bid is refused, and any two of them at
 //! once, on both implementations.
 
+mod both;
+
+use both::reply;
 use clockivy_checks::call::Call;
-use clockivy_checks::differential::{Difference, Tally};
 use clockivy_reference::field::amount::P;
 use clockivy_reference::{MAX_AMOUNT, MAX_PRICES};
-
-/// Makes the call on both and gives the reply.
-fn reply(call: &Call) -> u64 {
-    match Tally::default().compare(call) {
-        Ok((reply, _)) => reply,
-        Err(Difference(what)) => panic!("{what}"),
-    }
-}
 
 /// The places of the slices.
 const TABLE: usize = 0;
@@ -20,9 +14,9 @@ const COINS: usize = 1;
 const SHARES: usize = 2;
 
 /// A change that makes a good call one that is refused, and with which number.
-type Way = (u64, fn(&mut Call));
+type Change = (u64, fn(&mut Call));
 
-const WAYS: [Way; 30] = [
+const CHANGES: [Change; 30] = [
     (1, |call| call.numbers[0] = 2),
     (1, |call| call.numbers[0] = 10),
     (1, |call| call.numbers[0] = u64::MAX),
@@ -72,11 +66,11 @@ fn good(entry: u64) -> Call {
 fn every_way_to_be_refused_and_any_two() {
     for entry in 1..=6 {
         assert_eq!(reply(&good(entry)), 0);
-        for (number, change) in WAYS {
+        for (number, change) in CHANGES {
             let mut call = good(entry);
             change(&mut call);
             assert_eq!(reply(&call), number, "given\n{call}");
-            for (other, change) in WAYS {
+            for (other, change) in CHANGES {
                 let mut both = call.clone();
                 change(&mut both);
                 assert_eq!(reply(&both), number.min(other), "given\n{both}");

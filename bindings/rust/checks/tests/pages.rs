@@ -2,48 +2,43 @@
 //! way in which a page is neither written nor read, and any two of them at once, on both
 //! implementations.
 
+mod both;
+
+use both::reply;
+use clockivy::{LINE_LEN, SETTLEMENT_LEN};
 use clockivy_checks::call::{Call, Kind, Lent};
-use clockivy_checks::differential::{Difference, Tally};
 use clockivy_checks::formatted;
 use clockivy_checks::generate;
 use clockivy_checks::page::{fault, name, CONDITIONS, FAULTS};
 use clockivy_checks::rng::Rng;
-use clockivy_reference::{ENTRIES, HIGHEST_PRICE, LINE, MAX_AMOUNT};
+use clockivy_reference::{HIGHEST_PRICE, MAX_AMOUNT};
 
-/// The place of the entries.
-const ENTRY_WORDS: usize = 0;
+/// The place of the amounts.
+const AMOUNTS: usize = 0;
 
 const PRICE: u64 = 110;
 
-/// Makes the call on both and gives the reply.
-fn reply(call: &Call) -> u64 {
-    match Tally::default().compare(call) {
-        Ok((reply, _)) => reply,
-        Err(Difference(what)) => panic!("{what}"),
-    }
-}
-
-/// Entries of four lines: the first and the last that there can be, and two that are
+/// The amounts of four lines: the first and the last that there can be, and two that are
 /// neighbours.
-fn entries() -> Vec<u64> {
-    let mut entries = vec![0; ENTRIES];
-    entries[..2].copy_from_slice(&[300, 125]);
-    entries[400..404].copy_from_slice(&[MAX_AMOUNT, 1_000, 9, 9]);
-    entries[ENTRIES - 2..].copy_from_slice(&[41, 0]);
-    entries
+fn amounts() -> Vec<u64> {
+    let mut amounts = vec![0; SETTLEMENT_LEN];
+    amounts[..2].copy_from_slice(&[300, 125]);
+    amounts[400..404].copy_from_slice(&[MAX_AMOUNT, 1_000, 9, 9]);
+    amounts[SETTLEMENT_LEN - 2..].copy_from_slice(&[41, 0]);
+    amounts
 }
 
 fn good_write() -> Call {
-    Call::settlement_write(PRICE, &entries(), &[b'?'; 4 * LINE], 77)
+    Call::settlement_write(PRICE, &amounts(), &[b'?'; 4 * LINE_LEN], 77)
 }
 
-/// What the page of the entries holds.
+/// What the page of the amounts holds.
 fn page() -> Vec<u8> {
-    formatted::page(formatted::rows(PRICE, &entries())).into_bytes()
+    formatted::page(formatted::rows(PRICE, &amounts())).into_bytes()
 }
 
 fn good_read() -> Call {
-    Call::settlement_read(PRICE, &page(), &[99; ENTRIES])
+    Call::settlement_read(PRICE, &page(), &[99; SETTLEMENT_LEN])
 }
 
 #[test]
@@ -71,7 +66,7 @@ fn each_fault_made_by_itself_is_refused() {
 /// Reads a page on both, and by the standard library. That they reply by its faults is
 /// part of the comparison.
 fn read(page: &[u8]) -> u64 {
-    let reply = reply(&Call::settlement_read(PRICE, page, &[99; ENTRIES]));
+    let reply = reply(&Call::settlement_read(PRICE, page, &[99; SETTLEMENT_LEN]));
     assert_eq!(formatted::read(PRICE, page).is_some(), reply == 0);
     reply
 }
@@ -92,7 +87,7 @@ fn every_byte_changed_taken_out_or_put_in() {
             other.insert(place, byte);
             assert_eq!(read(&other), 13);
         }
-        let whole = place % LINE == 0;
+        let whole = place % LINE_LEN == 0;
         assert_eq!(read(&page[..place]) == 0, whole, "{place} bytes");
         assert_eq!(read(&page[place..]) == 0, whole, "all but {place} bytes");
     }
@@ -104,7 +99,7 @@ fn every_byte_changed_taken_out_or_put_in() {
 #[test]
 fn lines_in_every_order() {
     let page = page();
-    let lines: Vec<&[u8]> = page.chunks(LINE).collect();
+    let lines: Vec<&[u8]> = page.chunks(LINE_LEN).collect();
     let none = &page[..0];
     let choices: Vec<Option<usize>> = [None].into_iter().chain((0..4).map(Some)).collect();
     for one in &choices {
@@ -121,45 +116,45 @@ fn lines_in_every_order() {
 }
 
 /// A change that makes a good call one that is refused, and with which number.
-type Way = (u64, fn(&mut Call));
+type Change = (u64, fn(&mut Call));
 
 /// What both calls refuse.
-const WAYS: [Way; 9] = [
+const CHANGES: [Change; 9] = [
     (1, |call| call.price = 0),
     (1, |call| call.price = HIGHEST_PRICE + 1),
     (1, |call| call.price = (1 << 32) + PRICE),
     (1, |call| call.price = u64::MAX),
-    (2, |call| call.words[ENTRY_WORDS].resize(0, 0)),
-    (2, |call| call.words[ENTRY_WORDS].resize(1, 0)),
-    (2, |call| call.words[ENTRY_WORDS].resize(ENTRIES - 2, 0)),
-    (2, |call| call.words[ENTRY_WORDS].resize(ENTRIES + 1, 0)),
-    (2, |call| call.words[ENTRY_WORDS].resize(2 * ENTRIES, 0)),
+    (2, |call| call.words[AMOUNTS].resize(0, 0)),
+    (2, |call| call.words[AMOUNTS].resize(1, 0)),
+    (2, |call| call.words[AMOUNTS].resize(SETTLEMENT_LEN - 2, 0)),
+    (2, |call| call.words[AMOUNTS].resize(SETTLEMENT_LEN + 1, 0)),
+    (2, |call| call.words[AMOUNTS].resize(2 * SETTLEMENT_LEN, 0)),
 ];
 
-const WAYS_TO_WRITE: [Way; 11] = [
+const CHANGES_TO_WRITE: [Change; 11] = [
     (6, |call| put(call, 1, 301)),
     (6, |call| put(call, 0, 124)),
     (6, |call| put(call, 3, 1)),
     (6, |call| put(call, 400, MAX_AMOUNT + 1)),
     (6, |call| put(call, 401, MAX_AMOUNT + 1)),
-    (6, |call| put(call, ENTRIES - 1, 42)),
-    (6, |call| put(call, ENTRIES - 2, u64::MAX)),
-    (6, |call| put(call, ENTRIES - 1, u64::MAX)),
+    (6, |call| put(call, SETTLEMENT_LEN - 1, 42)),
+    (6, |call| put(call, SETTLEMENT_LEN - 2, u64::MAX)),
+    (6, |call| put(call, SETTLEMENT_LEN - 1, u64::MAX)),
     (17, |call| call.bytes.resize(0, 0)),
-    (17, |call| call.bytes.resize(LINE, 0)),
-    (17, |call| call.bytes.resize(4 * LINE - 1, 0)),
+    (17, |call| call.bytes.resize(LINE_LEN, 0)),
+    (17, |call| call.bytes.resize(4 * LINE_LEN - 1, 0)),
 ];
 
-const WAYS_TO_READ: [Way; 4] = [
-    (13, |call| call.bytes.resize(4 * LINE - 1, 0)),
-    (13, |call| call.bytes.resize(4 * LINE + 1, b'\n')),
+const CHANGES_TO_READ: [Change; 4] = [
+    (13, |call| call.bytes.resize(4 * LINE_LEN - 1, 0)),
+    (13, |call| call.bytes.resize(4 * LINE_LEN + 1, b'\n')),
     (13, |call| call.bytes.resize(1, 0)),
     (13, |call| call.bytes.fill(b' ')),
 ];
 
-/// Puts a word into the entries, where they are long enough.
+/// Puts a word into the amounts, where they are long enough.
 fn put(call: &mut Call, place: usize, word: u64) {
-    if let Some(held) = call.words[ENTRY_WORDS].get_mut(place) {
+    if let Some(held) = call.words[AMOUNTS].get_mut(place) {
         *held = word;
     }
 }
@@ -167,11 +162,11 @@ fn put(call: &mut Call, place: usize, word: u64) {
 #[test]
 fn every_way_to_be_refused_and_any_two() {
     for (good, others) in [
-        (good_write(), &WAYS_TO_WRITE[..]),
-        (good_read(), &WAYS_TO_READ),
+        (good_write(), &CHANGES_TO_WRITE[..]),
+        (good_read(), &CHANGES_TO_READ),
     ] {
         assert_eq!(reply(&good), 0);
-        let ways: Vec<Way> = WAYS.iter().chain(others).copied().collect();
+        let ways: Vec<Change> = CHANGES.iter().chain(others).copied().collect();
         for &(number, change) in &ways {
             let mut call = good.clone();
             change(&mut call);

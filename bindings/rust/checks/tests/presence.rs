@@ -1,15 +1,17 @@
 //! Every choice of who was present, in every round, on both implementations; and
 //! every way in which a hearing is refused, and any two of them at once.
 
+mod both;
+
+use both::{made, reply};
+use clockivy::words::place::{FIRST, N, OWN, ROUND};
 use clockivy_checks::call::{Call, Kind};
-use clockivy_checks::differential::{Difference, Tally};
 use clockivy_checks::generate;
-use clockivy_checks::record::{FIRST, N, OWN, ROUND};
 use clockivy_checks::rng::Rng;
 use clockivy_checks::soundness::{found, Found};
-use clockivy_hearings::{choices, count, refused, Hearing};
 use clockivy_reference::field::amount::P;
 use clockivy_reference::{say, threshold, DEMAND_ROUND, LAST_ROUND, SUPPLY_ROUND};
+use clockivy_testing::{choices, count, refused, Hearing};
 
 /// The places of the slices.
 const RECORD: usize = 0;
@@ -17,16 +19,10 @@ const TOTALS: usize = 1;
 const SHEETS: usize = 2;
 const MESSAGES: usize = 3;
 
-/// Makes the call on both and gives the reply, and the record that is left.
+/// The reply, and the record that is left.
 fn heard(call: &Call) -> (u64, Vec<u64>) {
-    match Tally::default().compare(call) {
-        Ok((reply, left)) => (reply, left.words[RECORD].to_vec()),
-        Err(Difference(what)) => panic!("{what}"),
-    }
-}
-
-fn reply(call: &Call) -> u64 {
-    heard(call).0
+    let (reply, left) = made(call);
+    (reply, left.words[RECORD].to_vec())
 }
 
 /// A hearing of n parties in this round that is accepted with everybody present.

@@ -2,21 +2,17 @@
 //! judges a record and on both implementations; and sound records beside them. Then
 //! slices of another length, and every way in which a fill is refused.
 
+mod both;
+
+use both::reply;
+use clockivy::words::place::{DEMAND, ROUND, SUPPLY};
+use clockivy::RECORD_LEN;
 use clockivy_checks::call::{Call, Kind};
-use clockivy_checks::differential::{Difference, Tally};
 use clockivy_checks::generate::{call, first_search, second_search};
-use clockivy_checks::record::{has_cleared, DEMAND, ROUND, SUPPLY};
+use clockivy_checks::record::has_cleared;
 use clockivy_checks::rng::Rng;
 use clockivy_checks::soundness::{found, name, Found, CLAUSES};
-use clockivy_reference::{LAST_ROUND, MAX_AMOUNT, NO_MORE_ROUNDS, RECORD, TOTAL_LIMIT};
-
-/// Makes the call on both and gives the reply.
-fn reply(call: &Call) -> u64 {
-    match Tally::default().compare(call) {
-        Ok((reply, _)) => reply,
-        Err(Difference(what)) => panic!("{what}"),
-    }
-}
+use clockivy_reference::{LAST_ROUND, MAX_AMOUNT, NO_MORE_ROUNDS, TOTAL_LIMIT};
 
 /// A call of this kind whose record is sound.
 fn sound(rng: &mut Rng, kind: Kind) -> Call {
@@ -86,7 +82,7 @@ fn sound_searches() {
 fn another_length_than_a_record() {
     let mut rng = Rng::new(2008);
     for kind in Kind::LENT_RECORDS {
-        for length in [0, 10, 26, 29, RECORD - 1, RECORD + 1] {
+        for length in [0, 10, 26, 29, RECORD_LEN - 1, RECORD_LEN + 1] {
             let mut call = call(&mut rng, kind);
             call.words[kind.record().unwrap()].resize(length, 0);
             call.bidder = rng.pick(&[1, 1_000]);
@@ -117,13 +113,13 @@ fn no_mark(call: &mut Call) {
 
 /// A change that makes a good fill one that is refused, and with which number, in
 /// the order in which they are judged.
-type Way = (u64, fn(&mut Call));
+type Change = (u64, fn(&mut Call));
 
-const WAYS: [Way; 14] = [
+const CHANGES: [Change; 14] = [
     // Without a record nothing else is judged.
     (2, |call| call.words[0].resize(0, 0)),
-    (2, |call| call.words[0].resize(RECORD - 1, 0)),
-    (2, |call| call.words[0].resize(RECORD + 1, 0)),
+    (2, |call| call.words[0].resize(RECORD_LEN - 1, 0)),
+    (2, |call| call.words[0].resize(RECORD_LEN + 1, 0)),
     (1, |call| put(call, DEMAND, TOTAL_LIMIT)),
     (1, |call| put(call, SUPPLY, TOTAL_LIMIT)),
     (1, |call| put(call, SUPPLY, 21)),
@@ -169,14 +165,14 @@ fn every_way_to_be_refused_a_fill_and_any_two() {
     let mut rng = Rng::new(2007);
     for amount in [0, 1, 7, 20, MAX_AMOUNT] {
         assert_eq!(reply(&good(&mut rng, amount)), 0);
-        for (place, (number, change)) in WAYS.into_iter().enumerate() {
+        for (place, (number, change)) in CHANGES.into_iter().enumerate() {
             let mut call = good(&mut rng, amount);
             change(&mut call);
             assert_eq!(reply(&call), number, "given\n{call}");
-            for (number, change) in &WAYS[place..] {
+            for (number, change) in &CHANGES[place..] {
                 let mut both = call.clone();
                 change(&mut both);
-                let first = WAYS[place].0;
+                let first = CHANGES[place].0;
                 assert_eq!(reply(&both), first, "{number} after\n{call}");
             }
         }

@@ -9,6 +9,7 @@ use clockivy_reference::{
     SHEET, SUPPLY_ROUND,
 };
 use clockivy_testing::place::{DEMAND, FIRST, FIRST_PROBES, HI, LO, PROBES, ROUND, SEARCH, SUPPLY};
+use clockivy_testing::{meeting, tables};
 
 /// Total demand and total supply at each price.
 struct Totals {
@@ -351,40 +352,13 @@ fn assert_silent(seat: &Seat, parties: usize) {
     assert_eq!((message, record), (7, seat.record));
 }
 
-/// All lists of `length` numbers from 0 to `most` that never fall.
-fn rising(length: u64, most: u64) -> Vec<Vec<u64>> {
-    if length == 0 {
-        return vec![Vec::new()];
-    }
-    let longer = |list: Vec<u64>| {
-        let least = list.last().copied().unwrap_or(0);
-        (least..=most).map(move |last| [&list[..], &[last]].concat())
-    };
-    let shorter = rising(length - 1, most);
-    shorter.into_iter().flat_map(longer).collect()
-}
-
 #[test]
 fn every_table_of_few_prices_and_small_amounts() {
     for k in 1..=4 {
-        for mut demand in rising(k, 2) {
-            demand.reverse();
-            for supply in rising(k, 2) {
-                run(3, k, &[[&demand[..], &supply].concat()]);
-            }
+        for table in tables(k, 2) {
+            run(3, k, &[table]);
         }
     }
-}
-
-/// A bid of demand that meets supply from `low` to `high` and nowhere else, or
-/// nowhere, where `low` is `high` + 1.
-fn meeting(k: u64, low: u64, high: u64) -> Vec<u64> {
-    let demand = (1..=k).map(|index| match index {
-        _ if index < low => 5,
-        _ if index <= high => 4,
-        _ => 3,
-    });
-    demand.chain((1..=k).map(|_| 4)).collect()
 }
 
 #[test]

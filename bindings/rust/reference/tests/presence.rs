@@ -14,23 +14,32 @@ use clockivy_testing::{choices, count, refused, Hearing};
 /// The record of a party in this round, over two prices: of the first probe, or of the
 /// totals at the second price, and then every sheet has been used.
 fn record(n: u64, own: u64, round: u64) -> Vec<u64> {
-    let mut record = vec![0; RECORD];
+    let party = [(N, n), (OWN, own), (K, 2), (ROUND, round)];
+    let search = if round > LAST_ROUND {
+        [
+            (LO, 1),
+            (HI, 2),
+            (PROBES, 4),
+            (SEARCH, 2),
+            (FIRST, 2),
+            (FIRST_PROBES, 2),
+        ]
+    } else {
+        [
+            (LO, 0),
+            (HI, 3),
+            (PROBES, 0),
+            (SEARCH, 1),
+            (FIRST, 0),
+            (FIRST_PROBES, 0),
+        ]
+    };
     let demand = if round == SUPPLY_ROUND {
         TOTAL_LIMIT - 1
     } else {
         0
     };
-    let places = [LO, HI, PROBES, SEARCH, FIRST, FIRST_PROBES, DEMAND];
-    let words = if round > LAST_ROUND {
-        [1, 2, 4, 2, 2, 2, demand]
-    } else {
-        [0, 3, 0, 1, 0, 0, 0]
-    };
-    for (place, word) in places.into_iter().zip(words) {
-        record[place] = word;
-    }
-    [record[N], record[OWN], record[K], record[ROUND]] = [n, own, 2, round];
-    record
+    clockivy_testing::record(&[&party[..], &search, &[(DEMAND, demand)]].concat()).to_vec()
 }
 
 /// The messages of n parties in this round that open to these, the two bytes apart in

@@ -9,11 +9,10 @@ use clockivy_testing::place::{
 /// A record among three parties over five prices, which take at most three
 /// probes: lo, hi, probes, then search, first and its probes.
 fn record([lo, hi, probes, search, first, first_probes]: [u64; 6]) -> [u64; RECORD] {
-    let mut record = [0; RECORD];
     // Where the searches have ended with a price, the totals are opened too.
     let ended = search == 2 && hi.wrapping_sub(lo) == 1;
     let round = if ended && first > 0 { 36 } else { 1 };
-    for (place, word) in [
+    clockivy_testing::record(&[
         (N, 3),
         (OWN, 1),
         (K, 5),
@@ -24,10 +23,7 @@ fn record([lo, hi, probes, search, first, first_probes]: [u64; 6]) -> [u64; RECO
         (SEARCH, search),
         (FIRST, first),
         (FIRST_PROBES, first_probes),
-    ] {
-        record[place] = word;
-    }
-    record
+    ])
 }
 
 /// What asking for the answer replies, and the answer.

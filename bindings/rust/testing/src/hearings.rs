@@ -6,7 +6,7 @@ use std::ops::RangeInclusive;
 use clockivy::words::place::{
     CARRY, DEMAND, FIRST, FIRST_PROBES, HI, LO, PROBES, ROUND, SEARCH, SUPPLY,
 };
-use clockivy::PRIME;
+use clockivy::{DEMAND_ROUND, OVER_ROUND, PRIME, SUPPLY_ROUND, TOTAL_LIMIT};
 
 use crate::panel::WAY;
 
@@ -47,19 +47,19 @@ pub struct Hearing {
 
 /// A change of a hearing, the number of the refusal that it then meets, and the
 /// rounds in which it does.
-type Way = (u64, Rounds, fn(&mut Hearing));
+type Change = (u64, Rounds, fn(&mut Hearing));
 type Rounds = RangeInclusive<u64>;
 
-const ANY: Rounds = 1..=35;
+const ANY: Rounds = 1..=SUPPLY_ROUND;
 /// The round of a probe whose messages are amounts.
 const SUM: Rounds = 1..=1;
 /// The rounds of the totals at the price.
-const TOTALS: Rounds = 34..=35;
+const TOTALS: Rounds = DEMAND_ROUND..=SUPPLY_ROUND;
 
 /// In the order in which they are judged.
-const WAYS: [Way; 33] = [
+const CHANGES: [Change; 33] = [
     (1, ANY, |h| put(&mut h.record, CARRY, 256)),
-    (1, ANY, |h| put(&mut h.record, DEMAND, 1 << 32)),
+    (1, ANY, |h| put(&mut h.record, DEMAND, TOTAL_LIMIT)),
     (1, ANY, |h| {
         let demand = h.record.get(DEMAND).copied().unwrap_or(0);
         put(&mut h.record, SUPPLY, demand + 1);
@@ -97,7 +97,7 @@ const WAYS: [Way; 33] = [
         }
     }),
     // Both totals are opened.
-    (3, TOTALS, |h| put(&mut h.record, ROUND, 36)),
+    (3, TOTALS, |h| put(&mut h.record, ROUND, OVER_ROUND)),
     (15, ANY, |h| take_marks(h, &[0, 1, 2])),
     (15, ANY, |h| take_marks(h, &[1, 2, 4])),
     (15, ANY, |h| take_marks(h, &[1, 3])),
@@ -105,8 +105,8 @@ const WAYS: [Way; 33] = [
     // At every index, and in every sheet: whichever the party has come to.
     (8, SUM, |h| fill_demand(h, PRIME)),
     (8, SUM, |h| fill_supply(h, u64::MAX)),
-    (8, 34..=34, |h| fill_demand(h, PRIME)),
-    (8, 35..=35, |h| fill_supply(h, u64::MAX)),
+    (8, DEMAND_ROUND..=DEMAND_ROUND, |h| fill_demand(h, PRIME)),
+    (8, SUPPLY_ROUND..=SUPPLY_ROUND, |h| fill_supply(h, u64::MAX)),
     (8, SUM, |h| put_in_sheets(h, 0, PRIME)),
     (8, SUM, |h| put_in_sheets(h, SHEET - 1, 256)),
     (9, ANY, |h| add_to_message(h, 3)),
@@ -123,7 +123,7 @@ const WAYS: [Way; 33] = [
 pub fn refused(good: &Hearing) -> impl Iterator<Item = (Hearing, u64)> + '_ {
     let round = good.record[ROUND];
     let ways = move || {
-        let all = WAYS.into_iter().enumerate();
+        let all = CHANGES.into_iter().enumerate();
         all.filter(move |(_, (_, rounds, _))| rounds.contains(&round))
     };
     let pairs = ways().flat_map(move |one| ways().map(move |other| (one.clone(), other)));

@@ -105,6 +105,13 @@ pub fn from_all(messages: &[u64]) -> Vec<Option<&[u64]>> {
     messages.chunks(1).map(Some).collect()
 }
 
+/// A round in which those whose mark is 1 are present and say these words, whatever they
+/// are.
+pub fn from_marked<'a>(messages: &'a [u64], present: &[u8]) -> Vec<Option<&'a [u64]>> {
+    let one = |(message, &mark): (&'a [u64], &u8)| (mark == 1).then_some(message);
+    messages.chunks(1).zip(present).map(one).collect()
+}
+
 /// A record with these words in their places, and 0 in all others.
 pub fn record(fields: &[(usize, u64)]) -> [u64; RECORD_LEN] {
     let mut record = [0; RECORD_LEN];

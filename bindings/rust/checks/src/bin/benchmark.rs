@@ -28,18 +28,22 @@ use std::process::ExitCode;
 use std::thread::available_parallelism;
 use std::time::{Duration, Instant};
 
+use clockivy::words::place::BIDS;
+use clockivy::{
+    coins_len, deal_bytes_len, deal_words_len, sheet_count, sheets_len, table_len, threshold, Way,
+    DEMAND_ROUND, HIGHEST_PRICE, MAX_AMOUNT, MAX_BIDS, MAX_PAGE_LEN, MAX_PRICES, RECORD_LEN,
+    SETTLEMENT_LEN, SUPPLY_ROUND,
+};
 use clockivy_checks::engine::{ByteProduct, Engine, Plain, Verified};
 use clockivy_checks::formatted;
-use clockivy_checks::record::{has_cleared, is_over, mark, marks, BIDS};
+use clockivy_checks::record::{has_cleared, is_over, mark, marks};
 use clockivy_checks::rng::Rng;
-use clockivy_reference::{
-    sheet_count, threshold, DEMAND_ROUND, ENTRIES, HIGHEST_PRICE, LAST_ROUND, LINE, MAX_AMOUNT,
-    MAX_BIDS, RECORD, SHEET, SUPPLY_ROUND,
-};
 
 const N: u64 = 5;
-const K: u64 = 1_024;
-const TABLE: usize = 2 * K as usize;
+const K: u64 = MAX_PRICES;
+const WAY: Way = Way::Rounds33;
+const TABLE: usize = table_len(K);
+const LAST_ROUND: u64 = WAY.rounds();
 /// The party whose calls are timed one by one.
 const OWN: u64 = 4;
 /// The entry that is timed: all do the same work.
@@ -234,7 +238,7 @@ fn main() -> ExitCode {
     format_page(&mut inputs);
     parse_page(&mut inputs);
     let formatted = (inputs.formatted.as_bytes(), &inputs.read);
-    if verified != plain || formatted != (&verified.page, &verified.entries) {
+    if verified != plain || formatted != (&verified.page, &verified.amounts) {
         println!("\nbenchmark: FAILED, the answers, the fills, the pages or the products differ");
         return ExitCode::FAILURE;
     }
@@ -248,7 +252,7 @@ struct Outcome {
     answer: [u64; 2],
     filled: [u64; 2],
     page: Vec<u8>,
-    entries: Vec<u64>,
+    amounts: Vec<u64>,
     product: u8,
 }
 
@@ -262,7 +266,7 @@ fn outcome<E: Engine + ByteProduct>(inputs: &mut Inputs) -> Outcome {
         answer: inputs.answer,
         filled: inputs.filled,
         page: inputs.written.clone(),
-        entries: inputs.read.clone(),
+        amounts: inputs.read.clone(),
         product: inputs.product,
     }
 }
@@ -352,14 +356,14 @@ struct Drawn {
 
 /// What one party keeps.
 struct Seat {
-    record: [u64; RECORD],
+    record: [u64; RECORD_LEN],
     totals: Vec<u64>,
     sheets: Vec<u64>,
 }
 
 /// What one party holds before a round, and what it then hears.
 struct Round {
-    record: [u64; RECORD],
+    record: [u64; RECORD_LEN],
     messages: Vec<u64>,
 }
 
@@ -373,13 +377,13 @@ struct Inputs {
     rounds: Vec<Round>,
     /// The timed party with half of the bids added, shares below the prime that
     /// are added over and over, and to what.
-    half: [u64; RECORD],
+    half: [u64; RECORD_LEN],
     addend: Vec<u64>,
     sum: Vec<u64>,
     /// The factors of a chain of products. None is 0, so that no product is.
     factors: Vec<u8>,
     /// What every bidder wants and gets on both sides, and its page at the price.
-    entries: Vec<u64>,
+    amounts: Vec<u64>,
     page: Vec<u8>,
     /// What the calls write.
     shares: Vec<u64>,
@@ -394,18 +398,17 @@ struct Inputs {
 
 impl Inputs {
     fn draw(rng: &mut Rng) -> Inputs {
-        let t = threshold(N);
         let bids: Vec<Bid> = (0..MAX_BIDS)
             .map(|_| Bid {
                 table: rng.table(K as usize),
-                coins: rng.words(TABLE * t, Rng::amount_share),
+                coins: rng.words(coins_len(N, K), Rng::amount_share),
             })
             .collect();
         let draws: Vec<Drawn> = (0..sheet_count(K))
             .map(|_| {
-                let mut words = rng.words(1 + t, Rng::amount_share);
+                let mut words = rng.words(deal_words_len(N), Rng::amount_share);
                 words[0] = rng.mask();
-                let bytes = rng.bytes(126 * t + 62);
+                let bytes = rng.bytes(deal_bytes_len(N, WAY));
                 Drawn { words, bytes }
             })
             .collect();
@@ -420,9 +423,9 @@ impl Inputs {
             }
         }
         assert_eq!(rounds.len() as u64, SUPPLY_ROUND, "there is a price");
-        let entries = entries(rng);
-        let page = formatted::page(formatted::rows(PRICE, &entries)).into_bytes();
-        assert_eq!(page.len(), ENTRIES / 2 * LINE, "everybody wants something");
+        let amounts = amounts(rng);
+        let page = formatted::page(formatted::rows(PRICE, &amounts)).into_bytes();
+        assert_eq!(page.len(), MAX_PAGE_LEN, "everybody wants something");
         Inputs {
             seat: seats.swap_remove(OWN as usize - 1),
             rounds,
@@ -433,13 +436,13 @@ impl Inputs {
             sum: vec![0; TABLE],
             factors: (0..CHAIN).map(|_| rng.between(1, 255) as u8).collect(),
             shares: vec![0; TABLE],
-            sheet: vec![0; SHEET],
+            sheet: vec![0; WAY.sheet_len()],
             answer: [0; 2],
             filled: [0; 2],
             written: vec![0; page.len()],
-            read: vec![0; ENTRIES],
+            read: vec![0; SETTLEMENT_LEN],
             formatted: String::with_capacity(page.len()),
-            entries,
+            amounts,
             page,
             product: 0,
         }
@@ -511,15 +514,15 @@ fn hear<E: Engine, const ROUND: u64, const BY_FEWEST: bool>(inputs: &mut Inputs)
 }
 
 fn fill<E: Engine>(inputs: &mut Inputs) {
-    let [hours, remainder] = &mut inputs.filled;
-    done(E::fill(&inputs.seat.record, AMOUNT, hours, remainder));
+    let [tenths, remainder] = &mut inputs.filled;
+    done(E::fill(&inputs.seat.record, AMOUNT, tenths, remainder));
 }
 
 fn settlement_write<E: Engine>(inputs: &mut Inputs) {
     let mut length = 0;
     done(E::settlement_write(
         PRICE,
-        &inputs.entries,
+        &inputs.amounts,
         &mut inputs.written,
         &mut length,
     ));
@@ -532,7 +535,7 @@ fn settlement_read<E: Engine>(inputs: &mut Inputs) {
 /// The page by the standard library, into a string that has the room.
 fn format_page(inputs: &mut Inputs) {
     inputs.formatted.clear();
-    let rows = formatted::rows(PRICE, &inputs.entries);
+    let rows = formatted::rows(PRICE, &inputs.amounts);
     formatted::write(rows, &mut inputs.formatted);
 }
 
@@ -541,12 +544,12 @@ fn parse_page(inputs: &mut Inputs) {
 }
 
 /// What everybody wants, more than 0, and gets.
-fn entries(rng: &mut Rng) -> Vec<u64> {
+fn amounts(rng: &mut Rng) -> Vec<u64> {
     let pair = |_| {
         let wanted = rng.between(1, MAX_AMOUNT);
         [wanted, rng.between(0, wanted)]
     };
-    (0..ENTRIES / 2).flat_map(pair).collect()
+    (0..SETTLEMENT_LEN / 2).flat_map(pair).collect()
 }
 
 /// A chain of products, each made from the one before.
@@ -560,8 +563,8 @@ fn products<E: ByteProduct>(inputs: &mut Inputs) {
 
 /// The record of the timed party before the first round, with every second
 /// bidder on the roll.
-fn half() -> [u64; RECORD] {
-    let mut record = [0; RECORD];
+fn half() -> [u64; RECORD_LEN] {
+    let mut record = [0; RECORD_LEN];
     done(Plain::open(N, OWN, K, &mut [0; TABLE], &mut record));
     for bidder in (1..=MAX_BIDS).step_by(2) {
         mark(&mut record, bidder);
@@ -587,9 +590,9 @@ fn seats<E: Engine>(bids: &[Bid], draws: &[Drawn]) -> Vec<Seat> {
     let mut seats = Vec::new();
     for own in 1..=N {
         let mut seat = Seat {
-            record: [0; RECORD],
+            record: [0; RECORD_LEN],
             totals: vec![0; TABLE],
-            sheets: vec![0; SHEET * draws.len()],
+            sheets: vec![0; sheets_len(K, WAY)],
         };
         done(E::open(N, own, K, &mut seat.totals, &mut seat.record));
         seats.push(seat);
@@ -601,9 +604,10 @@ fn seats<E: Engine>(bids: &[Bid], draws: &[Drawn]) -> Vec<Seat> {
             done(E::add(&mut seat.record, &mut seat.totals, bidder, &shares));
         }
     }
+    let length = WAY.sheet_len();
     for (probe, Drawn { words, bytes }) in draws.iter().enumerate() {
         for (own, seat) in (1..).zip(&mut seats) {
-            let sheet = &mut seat.sheets[SHEET * probe..SHEET * (probe + 1)];
+            let sheet = &mut seat.sheets[length * probe..length * (probe + 1)];
             done(E::deal(N, own, words, bytes, sheet));
         }
     }

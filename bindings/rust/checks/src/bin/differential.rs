@@ -2,7 +2,8 @@
 //!
 //!     cargo run --release --bin differential [CALLS [SEED]]
 //!
-//! It passes where no call and no byte product made a difference, every reply has
+//! It passes where the library has the version that the calls are compared for, no call
+//! and no byte product made a difference, every reply has
 //! come up, those of a hearing by who was present and by what was opened, every fault
 //! of a record has met every call that judges one, every call on a record was lent one
 //! of another length, with and without a fault in what needs no record, every fault of
