@@ -665,30 +665,44 @@ static void compare_outcomes(void)
 
 static void print_count(const char *what, const struct count *count)
 {
-    printf("  %-50s %8lu, %lu differ\n", what, count->words, count->differ);
+    printf("  %-40s %5lu, %lu differ\n", what, count->words, count->differ);
 }
 
-/* Prints what is the same, and gives how many words are not. */
+/* In what the two auctions differ, and in what they agree. */
+static void report_auctions(void)
+{
+    const uint64_t index = price_index(&one);
+
+    printf("two auctions of %d parties, %d prices, %d bids and %d probes\n", (int)n,
+           (int)one.k, (int)one.bids, (int)probe_count);
+    print_count("amounts bid", &counts.amounts);
+    print_count("probes, by the totals there", &counts.totals);
+    if (index == 0)
+        printf("  no price clears in either\n");
+    else
+        printf("  price %d clears in both: demand %lu, supply %lu\n", (int)index,
+               (unsigned long)demand(&one, index), (unsigned long)supply(&one, index));
+}
+
+/* What is the same, and what the pool would need; gives how many words are not. */
 static unsigned long report(void)
 {
     size_t i;
 
-    printf("%d parties, %d prices, %d bids, %d probes; the pool:", (int)n, (int)one.k,
-           (int)one.bids, (int)probe_count);
+    report_auctions();
+    printf("what the pool receives:");
     for (i = 0; i < t; i++)
-        printf(" %d", (int)pool[i]);
-    printf("\nthe two auctions\n");
-    print_count("amounts of the bids", &counts.amounts);
-    print_count("probed prices, by total demand and supply there", &counts.totals);
-    print_count("shares of the bids, of parties outside the pool", &counts.other_shares);
-    print_count("shares of the bids, of the pool and one more", &counts.one_more_shares);
-    printf("what the pool receives\n");
+        printf(" %s %d", i == 0 ? "party" : "and", (int)pool[i]);
+    printf("\n");
     print_count("shares of the bids", &counts.pool_shares);
     print_count("words of its sheets", &counts.pool_sheets);
     print_count("words of unused sheets, of all parties", &counts.unused_sheets);
     print_count("words said in all rounds, by all parties", &counts.messages);
     print_count("verdicts, of all parties", &counts.verdicts);
-    print_count("words of the outcomes, of all parties", &counts.outcomes);
+    print_count("words of the outcome, of all parties", &counts.outcomes);
+    printf("what it does not receive\n");
+    print_count("shares of the bids, of the others", &counts.other_shares);
+    print_count("shares of the bids, with one party more", &counts.one_more_shares);
     return counts.pool_shares.differ + counts.pool_sheets.differ + counts.unused_sheets.differ
         + counts.messages.differ + counts.verdicts.differ + counts.outcomes.differ;
 }
@@ -714,6 +728,7 @@ int main(int count, char **words)
     differ = report();
     free(one.tables);
     free(other.tables);
-    check(differ == 0, "what the pool receives differs");
+    check(differ == 0, "the pool can tell the two apart");
+    printf("the pool cannot tell which of the two was held\n");
     return EXIT_SUCCESS;
 }

@@ -1,6 +1,8 @@
 //! An auction as it stands in a file, in the clear.
 
+use std::fmt::Display;
 use std::fs;
+use std::num::NonZeroU64;
 use std::path::Path;
 
 /// The most prices of a file.
@@ -35,7 +37,8 @@ impl Auction {
         let bids = lines.count(0, MOST_BIDS)?;
         let bids = (0..bids).map(|_| lines.numbers(2 * k));
         let bids = bids.collect::<Option<Vec<_>>>()?;
-        lines.rest.is_empty().then_some(Auction { n, prices, bids })
+        lines.end()?;
+        Some(Auction { n, prices, bids })
     }
 
     /// The number of prices.
@@ -45,23 +48,33 @@ impl Auction {
 
     /// Whether two auctions agree in what is not hidden; if not, in what they do not.
     pub fn agrees(&self, other: &Auction) -> Result<(), String> {
-        let sizes = |auction: &Auction| [auction.n, auction.k(), auction.bids.len() as u64];
-        if sizes(self) != sizes(other) {
-            return Err("the auctions have other numbers of parties, prices or bids".into());
-        }
+        same("the number of parties", self.n, other.n)?;
+        same("the number of prices", self.k(), other.k())?;
+        same("the number of bids", self.bids.len(), other.bids.len())?;
         let (one, other) = (Totals::of(self), Totals::of(other));
-        if one.highest() != other.highest() {
-            return Err("demand is at least supply up to different prices".into());
-        }
-        if one.lowest() != other.lowest() {
-            return Err("demand equals supply from different prices on".into());
-        }
-        let price = one.price();
-        if price > 0 && one.at(price) != other.at(price) {
-            return Err("the totals at the price are different".into());
-        }
-        Ok(())
+        same(
+            "the highest index with demand at least supply (0: none)",
+            one.highest(),
+            other.highest(),
+        )?;
+        let [lowest, others] = [&one, &other].map(|totals| totals.lowest().unwrap_or(0));
+        same("the lowest balanced index (0: none)", lowest, others)?;
+        let Some(price) = NonZeroU64::new(one.price()) else {
+            return Ok(());
+        };
+        let [(demand, supply), others] = [one, other].map(|totals| totals.at(price.get()));
+        same("total demand at the price", demand, others.0)?;
+        same("total supply at the price", supply, others.1)
     }
+}
+
+fn same<T: Display + PartialEq>(what: &str, one: T, other: T) -> Result<(), String> {
+    if one == other {
+        return Ok(());
+    }
+    Err(format!(
+        "the auctions do not agree: {what} is {one} and {other}"
+    ))
 }
 
 /// Total demand and total supply at each price, which nobody adds up in an auction.
@@ -138,7 +151,48 @@ impl<'a> Lines<'a> {
         self.number().filter(|count| (least..=most).contains(count))
     }
 
+    /// That there is no line more.
+    fn end(&mut self) -> Option<()> {
+        self.line += 1;
+        self.rest.is_empty().then_some(())
+    }
+
     fn numbers(&mut self, count: u64) -> Option<Vec<u64>> {
         (0..count).map(|_| self.number()).collect()
+    }
+}
+
+#[cfg(test)]
+mod tests {
+    use super::{Auction, Lines};
+
+    const GOOD: &str = "3\n7\n8\n9\n1\n100\n1\n5\n0\n";
+
+    /// The line at which a text is refused.
+    fn refused(text: &str) -> Option<u64> {
+        let mut lines = Lines::of(text);
+        let auction = Auction::parse(&mut lines);
+        auction.is_none().then_some(lines.line)
+    }
+
+    #[test]
+    fn what_is_no_auction_is_refused_at_its_line() {
+        assert_eq!(refused(GOOD), None);
+        for (text, line) in [
+            ("", 1),
+            ("2\n7\n8\n", 1),
+            ("3\r\n", 1),
+            ("\u{feff}3\n", 1),
+            ("3\n07\n", 2),
+            ("3\n+7\n", 2),
+            ("3\n7\n8\n18446744073709551616\n", 4),
+            ("3\n7\n8\n9\n257\n", 5),
+            ("3\n7\n8\n9\n1\n100\n1001\n", 7),
+            (&GOOD[..GOOD.len() - 1], 9),
+            (&GOOD[..GOOD.len() - 2], 9),
+            (&format!("{GOOD}\n"), 10),
+        ] {
+            assert_eq!(refused(text), Some(line), "{text:?}");
+        }
     }
 }

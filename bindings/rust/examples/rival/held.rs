@@ -9,14 +9,13 @@ use crate::coins::{Coins, WAY};
 
 /// What everybody received.
 pub struct Held {
-    /// The bidders, in the order in which their bids were added.
-    pub bidders: Vec<u64>,
     /// What the words of each round were, all parties' together.
     pub rounds: Vec<Vec<u64>>,
     /// What was sent to each party.
     sent: Vec<Sent>,
     probes: Vec<Probe>,
-    outcome: Outcome,
+    /// What each party has come to.
+    outcomes: Vec<Outcome>,
 }
 
 /// What is sent to a party, or to some of them together.
@@ -34,10 +33,37 @@ pub struct Probe {
     search: u64,
     /// The index that it asked about.
     pub index: u64,
-    verdict: bool,
+    /// The verdict that each party has read.
+    verdicts: Vec<u64>,
 }
 
 impl Probe {
+    /// The one that a party is at.
+    fn of(party: &Speaking) -> Probe {
+        Probe {
+            search: party.record().search,
+            index: party.index(),
+            verdicts: Vec::new(),
+        }
+    }
+
+    /// The same once it has ended, as these parties have read it off their records.
+    fn read_by(self, parties: &[Speaking]) -> Probe {
+        let verdict = |party: &Speaking| {
+            let after = party.record();
+            let is_one = match (self.search, after.search) {
+                (1, 1) => after.lo == self.index,
+                (1, _) => after.first == self.index,
+                _ => after.hi == self.index,
+            };
+            is_one.into()
+        };
+        Probe {
+            verdicts: parties.iter().map(verdict).collect(),
+            ..self
+        }
+    }
+
     /// What the probe compares with 0: demand minus supply, and in the second search
     /// supply minus demand.
     pub fn surplus(&self, totals: &Totals) -> i64 {
@@ -54,13 +80,12 @@ impl Held {
     pub fn hold(auction: &Auction, coins: &Coins) -> Result<Held, Refusal> {
         let mut sent = Vec::new();
         let mut parties = Vec::new();
-        let bidders: Vec<u64> = (1..).take(auction.bids.len()).collect();
         for own in 1..=auction.n {
             let (n, k, way) = (auction.n, auction.k(), WAY);
             let seat = Seat { n, own, k, way };
             let received = Sent::to(seat, auction, coins)?;
             let mut session = Collecting::open(seat)?;
-            for (&bidder, shares) in bidders.iter().zip(received.shares.chunks(table_len(k))) {
+            for (bidder, shares) in (1..).zip(received.shares.chunks(table_len(k))) {
                 session.add(bidder, shares)?;
             }
             parties.push(session.speak(Sheets::received(k, way, &received.sheets)?));
@@ -68,18 +93,24 @@ impl Held {
         }
         let mut rounds = Vec::new();
         let mut probes = Vec::new();
-        loop {
-            if let Some(outcome) = parties[0].outcome()? {
-                return Ok(Held {
-                    bidders,
-                    rounds,
-                    sent,
-                    probes,
-                    outcome,
-                });
+        while parties[0].outcome()?.is_none() {
+            let before = Probe::of(&parties[0]);
+            let made = parties[0].record().probes;
+            rounds.push(hold_round(&mut parties)?);
+            if parties[0].record().probes > made {
+                probes.push(before.read_by(&parties));
             }
-            probes.extend(verdict_after(&mut parties, &mut rounds)?);
         }
+        let outcomes = parties
+            .iter()
+            .filter_map(|party| party.outcome().transpose());
+        let outcomes = outcomes.collect::<Result<_, _>>()?;
+        Ok(Held {
+            rounds,
+            sent,
+            probes,
+            outcomes,
+        })
     }
 
     /// The number of parties.
@@ -109,20 +140,24 @@ impl Held {
         unused.collect::<Vec<_>>().concat()
     }
 
-    /// Which search asked about which index, and what was opened.
+    /// What each probe opened, as each party has read it.
     pub fn verdicts(&self) -> Vec<u64> {
-        let numbers = |probe: &Probe| [probe.search, probe.index, probe.verdict.into()];
-        self.probes.iter().flat_map(numbers).collect()
+        let verdicts = self.probes.iter().map(|probe| &probe.verdicts[..]);
+        verdicts.collect::<Vec<_>>().concat()
     }
 
-    /// The index of the price and the totals there, or nothing.
-    pub fn answer(&self) -> Vec<u64> {
-        match self.outcome {
-            Outcome::Price { index, cleared, .. } => {
-                vec![index.get(), cleared.demand(), cleared.supply()]
-            }
-            _ => Vec::new(),
-        }
+    /// The index of the price, the probes made and the totals, of each party.
+    pub fn answers(&self) -> Vec<u64> {
+        let numbers = |outcome: &Outcome| match *outcome {
+            Outcome::Price {
+                index,
+                probes,
+                cleared,
+            } => [index.get(), probes, cleared.demand(), cleared.supply()],
+            Outcome::NoPrice { probes } => [0, probes, 0, 0],
+            _ => [u64::MAX; 4],
+        };
+        self.outcomes.iter().flat_map(numbers).collect()
     }
 }
 
@@ -144,30 +179,13 @@ impl Sent {
     }
 }
 
-/// Holds one round, and gives the probe that ended with it, if one did.
-fn verdict_after(
-    parties: &mut [Speaking],
-    rounds: &mut Vec<Vec<u64>>,
-) -> Result<Option<Probe>, Refusal> {
-    let before = parties[0].record();
-    let (search, probes, index) = (before.search, before.probes, parties[0].index());
+/// Holds one round, and gives the words of all parties.
+fn hold_round(parties: &mut [Speaking]) -> Result<Vec<u64>, Refusal> {
     let say = |party: &Speaking| party.say().map(Some);
     let round = parties.iter().map(say).collect::<Result<Vec<_>, _>>()?;
-    for party in parties.iter_mut() {
+    for party in parties {
         party.hear(&round)?;
     }
     let words = |said: &Option<Message>| said.map_or(Vec::new(), |message| message.to_vec());
-    rounds.push(round.iter().flat_map(words).collect());
-    let after = parties[0].record();
-    let verdict = match (search, after.search) {
-        (1, 1) => after.lo == index,
-        (1, _) => after.first == index,
-        _ => after.hi == index,
-    };
-    let ended = after.probes > probes;
-    Ok(ended.then_some(Probe {
-        search,
-        index,
-        verdict,
-    }))
+    Ok(round.iter().flat_map(words).collect())
 }

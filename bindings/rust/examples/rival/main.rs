@@ -26,28 +26,27 @@ use std::{env, fmt, iter};
 use auction::{Auction, Totals};
 use clockivy::{threshold, Refusal, PARTIES};
 use coins::Coins;
-use held::Held;
+use held::{Held, Probe};
 
 fn main() -> Result<(), Box<dyn Error>> {
     let Arguments { one, other, pool } = Arguments::read(env::args().skip(1).collect())?;
     one.agrees(&other)?;
     let (first, second) = hold_both(&one, &other, &pool)?;
     describe(&one, &other, &first);
-
-    println!("\n{} put together all that they receive:", names(&pool));
-    let mut differing = 0;
-    for compared in received(&first, &second, &pool) {
+    let names: Vec<String> = pool.iter().map(u64::to_string).collect();
+    println!("what the pool receives: party {}", names.join(" and "));
+    let received = received(&first, &second, &pool);
+    for compared in &received {
         println!("  {compared}");
-        differing += compared.differ;
     }
-    println!("\nwhat they do not receive, or not without one party more:");
+    println!("what it does not receive");
     for compared in unseen(&first, &second, &pool) {
         println!("  {compared}");
     }
-    if differing > 0 {
-        return Err(format!("{} can tell the two apart", names(&pool)).into());
+    if received.iter().any(|compared| compared.differ > 0) {
+        return Err("the pool can tell the two apart".into());
     }
-    println!("\n{} cannot tell which of the two was held", names(&pool));
+    println!("the pool cannot tell which of the two was held");
     Ok(())
 }
 
@@ -68,64 +67,58 @@ fn hold_both(one: &Auction, other: &Auction, pool: &[u64]) -> Result<(Held, Held
 /// Prints in what the two auctions differ, and in what they agree.
 fn describe(one: &Auction, other: &Auction, held: &Held) {
     let (n, k, bids) = (one.n, one.k(), one.bids.len());
-    println!("two auctions of {n} parties, {k} prices and {bids} bids");
+    let probes = held.probes();
+    println!(
+        "two auctions of {n} parties, {k} prices, {bids} bids and {} probes",
+        probes.len()
+    );
     let (totals, others) = (Totals::of(one), Totals::of(other));
-    let mut probed: Vec<u64> = held.probes().iter().map(|probe| probe.index).collect();
-    probed.sort_unstable();
-    probed.dedup();
-    let apart = probed.iter().filter(|&&i| totals.at(i) != others.at(i));
-    println!(
-        "  {}",
-        Compared::new("amounts bid", &one.bids.concat(), &other.bids.concat())
-    );
-    println!(
-        "  totals differ at {} of the {} prices probed",
-        apart.count(),
-        probed.len()
-    );
-    match one.prices.get((totals.price() as usize).wrapping_sub(1)) {
-        Some(price) => {
-            let (index, (demand, supply)) = (totals.price(), totals.at(totals.price()));
-            println!("  both clear at price {index}, {price}: demand {demand}, supply {supply}");
+    let is_apart = |probe: &&Probe| totals.at(probe.index) != others.at(probe.index);
+    let apart = Compared {
+        name: "probes, by the totals there",
+        words: probes.len(),
+        differ: probes.iter().filter(is_apart).count(),
+    };
+    let amounts = Compared::new("amounts bid", &one.bids.concat(), &other.bids.concat());
+    println!("  {amounts}\n  {apart}");
+    match totals.price() {
+        0 => println!("  no price clears in either"),
+        index => {
+            let (demand, supply) = totals.at(index);
+            println!("  price {index} clears in both: demand {demand}, supply {supply}");
         }
-        None => println!("  neither has a price that clears"),
     }
 }
 
 /// All that the pool receives, in both auctions.
 fn received(one: &Held, other: &Held, pool: &[u64]) -> Vec<Compared> {
-    let pooled = |held: &Held| held.of(pool);
     let compare =
         |name, words: &dyn Fn(&Held) -> Vec<u64>| Compared::new(name, &words(one), &words(other));
     vec![
-        compare("bidders, in order of entry", &|held| held.bidders.clone()),
-        compare("their shares of the bids", &|held| pooled(held).shares),
-        compare("the sheets dealt to them", &|held| pooled(held).sheets),
-        compare("unused sheets of all parties", &Held::unused),
-        compare("words that all parties said", &|held| held.rounds.concat()),
-        compare("probes and verdicts", &Held::verdicts),
-        compare("price, and totals there", &Held::answer),
+        compare("shares of the bids", &|held| held.of(pool).shares),
+        compare("words of its sheets", &|held| held.of(pool).sheets),
+        compare("words of unused sheets, of all parties", &Held::unused),
+        compare("words said in all rounds, by all parties", &|held| {
+            held.rounds.concat()
+        }),
+        compare("verdicts, of all parties", &Held::verdicts),
+        compare("words of the outcome, of all parties", &Held::answers),
     ]
 }
 
 /// What the pool does not receive, by which one sees that the two are not the same.
-fn unseen(one: &Held, other: &Held, pool: &[u64]) -> Vec<Compared> {
-    let rest: Vec<u64> = (1..=one.parties())
+fn unseen(one: &Held, other: &Held, pool: &[u64]) -> [Compared; 2] {
+    let others: Vec<u64> = (1..=one.parties())
         .filter(|own| !pool.contains(own))
         .collect();
     let mut more = pool.to_vec();
-    more.extend(rest.first());
+    more.extend(others.first());
     let compare = |name, parties: &[u64]| {
-        let [one, other] = [one, other].map(|held| held.of(parties));
-        Compared::new(
-            name,
-            &[one.shares, one.sheets].concat(),
-            &[other.shares, other.sheets].concat(),
-        )
+        Compared::new(name, &one.of(parties).shares, &other.of(parties).shares)
     };
-    vec![
-        compare("of the other parties", &rest),
-        compare("with one of them", &more),
+    [
+        compare("shares of the bids, of the others", &others),
+        compare("shares of the bids, with one party more", &more),
     ]
 }
 
@@ -156,7 +149,7 @@ impl fmt::Display for Compared {
             words,
             differ,
         } = self;
-        write!(f, "{name:<30}{words:>6} compared, {differ:>5} differ")
+        write!(f, "{name:<40} {words:>5}, {differ} differ")
     }
 }
 
@@ -204,15 +197,6 @@ fn sample(name: &str) -> Result<Auction, String> {
     Auction::read(&folder.join(name))
 }
 
-/// The parties of the pool, for a sentence.
-fn names(pool: &[u64]) -> String {
-    let numbers: Vec<String> = pool.iter().map(u64::to_string).collect();
-    match &numbers[..] {
-        [only] => format!("party {only}"),
-        numbers => format!("parties {}", numbers.join(", ")),
-    }
-}
-
 #[cfg(test)]
 mod tests {
     use super::*;
@@ -220,10 +204,10 @@ mod tests {
 
     /// How many words differ of what the pool receives, and of what it does not.
     fn differing((one, other): (Held, Held), pool: &[u64]) -> [usize; 2] {
-        let differ = |all: Vec<Compared>| all.iter().map(|compared| compared.differ).sum();
+        let differ = |all: &[Compared]| all.iter().map(|compared| compared.differ).sum();
         [
-            differ(received(&one, &other, pool)),
-            differ(unseen(&one, &other, pool)),
+            differ(&received(&one, &other, pool)),
+            differ(&unseen(&one, &other, pool)),
         ]
     }
 
@@ -263,26 +247,15 @@ mod tests {
     #[test]
     fn what_may_not_differ() {
         let (one, mut other) = samples(5);
+        let disagreement = |other: &Auction| one.agrees(other).unwrap_err();
         other.bids[0][12] += 1;
-        assert_eq!(
-            one.agrees(&other),
-            Err("the totals at the price are different".into())
-        );
+        assert!(disagreement(&other).ends_with("supply at the price is 60 and 61"));
         // Supply reaches demand at price 5, and then exceeds it.
         other.bids[0][12] = 34;
-        assert_eq!(
-            one.agrees(&other),
-            Err("demand equals supply from different prices on".into())
-        );
+        assert!(disagreement(&other).ends_with("balanced index (0: none) is 0 and 5"));
         other.bids[0][12] = 35;
-        assert_eq!(
-            one.agrees(&other),
-            Err("demand is at least supply up to different prices".into())
-        );
+        assert!(disagreement(&other).ends_with("(0: none) is 5 and 4"));
         other.bids.pop();
-        assert_eq!(
-            one.agrees(&other),
-            Err("the auctions have other numbers of parties, prices or bids".into())
-        );
+        assert!(disagreement(&other).ends_with("the number of bids is 4 and 3"));
     }
 }

@@ -2,15 +2,15 @@
 //!
 //!     cargo run --release --bin differential [CALLS [SEED]]
 //!
-//! It passes where the library has the version that the calls are compared for, no call
-//! and no byte product made a difference, every reply has
-//! come up, those of a hearing by who was present and by what was opened, every fault
-//! of a record has met every call that judges one, every call on a record was lent one
-//! of another length, with and without a fault in what needs no record, every fault of
-//! a settlement page has been read, and whole auctions have ended in every way, with and
-//! without parties that drop off. All byte products, the whole auctions and some
-//! thousand pages come first, however few calls are asked for, and single calls fill up
-//! the number; without enough of these, something may not come up.
+//! It passes where the library has the version that its calls are compared for, no call
+//! and no byte product made a difference, every reply has come up, those of a hearing by
+//! who was present and by what was opened, every fault of a record has met every call
+//! that judges one, every call on a record was lent one of another length, with and
+//! without a fault in what needs no record, every fault of a settlement page has been
+//! read, and whole auctions have ended in every way, with and without parties that drop
+//! off. All byte products, the whole auctions and some thousand pages come first, however
+//! few calls are asked for, and single calls fill up the number; without enough of these,
+//! something may not come up.
 
 use std::env;
 use std::process::ExitCode;
