@@ -31,8 +31,8 @@ use crate::{split_entry, table_len, threshold, Seat, Way, BLANK, MAX_PRICES, PAR
 ///
 /// [`write_all`](Entries::write_all) writes the whole bid. As an iterator,
 /// `Entries` writes an entry for each item, and the item is the entry's number,
-/// 1 to 2k in turn. An entry that is refused is written for no party, and is the
-/// last item. While `Entries` lives, nobody reads the shares; this does not
+/// 1 to 2k in turn. An entry that is refused is the last item, and leaves all shares
+/// blank, so that nobody can add them. While `Entries` lives, nobody reads the shares; this does not
 /// compile:
 ///
 /// ```compile_fail,E0502
@@ -128,7 +128,7 @@ impl<'a, S: Source> Entries<'a, S> {
     fn write(&mut self, entry: u64) -> Result<(), Refusal> {
         // To a bid the way makes no difference.
         let (n, k, way) = (self.n, self.k, Way::Rounds33);
-        let coins = self.draw();
+        let coins = self.draw().ok_or(Refusal::CoinOutOfRange)?;
         self.drawn |= coins.iter().any(|&coin| coin != 0);
         if entry as usize == table_len(k) && !self.drawn {
             return Err(Refusal::CoinOutOfRange);
@@ -139,13 +139,13 @@ impl<'a, S: Source> Entries<'a, S> {
         })
     }
 
-    /// The t coins of an entry. Where the source has none, what stands there is none.
-    fn draw(&mut self) -> Secret<u64> {
+    /// The t coins of an entry, where the source has so many.
+    fn draw(&mut self) -> Option<Secret<u64>> {
         let mut coins = Secret::filled(BLANK, threshold(self.n));
         for coin in coins.iter_mut() {
-            *coin = self.source.below(PRIME).unwrap_or(BLANK);
+            *coin = self.source.below(PRIME)?;
         }
-        coins
+        Some(coins)
     }
 }
 
@@ -171,7 +171,10 @@ impl<S: Source> Iterator for Entries<'_, S> {
         let outcome = self.write(entry);
         match outcome {
             Ok(()) => self.written = entry,
-            Err(refusal) => self.refused = Some(refusal),
+            Err(refusal) => {
+                self.refused = Some(refusal);
+                self.shares.fill(BLANK);
+            }
         }
         Some(outcome.map(|()| entry))
     }

@@ -235,8 +235,8 @@ impl Speaking {
     /// price, rounds 34 and 35 [open the
     /// totals](crate::callers#hours-at-the-price).
     ///
-    /// There is a place for each of the n parties, party 1's first: its message, or
-    /// `None` where it was away. Any t + 1 messages open the round. All parties hear
+    /// There is a place for each of the n parties, party 1's first: its message, as a
+    /// [`Message`] or as the words that were received, or `None` where it was away. Any t + 1 messages open the round. All parties hear
     /// it with the same ones present, each of which has heard every round before: see
     /// [a party that drops off](crate::callers#a-party-that-drops-off).
     ///
@@ -314,7 +314,8 @@ impl Speaking {
     }
 
     /// The session that was stored as these words, to go on with the sheets that it
-    /// had.
+    /// had. One that has come to its outcome, or to the rounds of the totals, reads no
+    /// sheet any more: [`Sheets::blank`] will do.
     ///
     /// Resume only the newest session stored, and let only one go on from it.
     /// [An older one](crate::callers#storing-a-session), or a second one, is not

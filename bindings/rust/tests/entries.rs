@@ -321,7 +321,7 @@ enum Worn {
 
 /// A source fails at each place of a bid's coins in turn.
 #[test]
-fn a_source_that_has_no_coin_ends_it_and_no_party_has_that_entry() {
+fn a_source_that_has_no_coin_ends_it_and_no_party_has_an_entry() {
     let (n, k) = (7, 2);
     let (table, coins) = (table(k), coins(n, k));
     let stuck = [PRIME, u64::MAX].map(Worn::Stuck);
@@ -348,19 +348,14 @@ fn a_source_that_has_no_coin_ends_it_and_no_party_has_that_entry() {
         }
         // What is not whole is not called so.
         assert_eq!(entries.write_all(), Err(refusal));
-        // Nothing more was drawn.
+        // Nothing more was drawn, and what was written before is blank again.
         let tries = if matches!(worn, Worn::Stuck(_)) {
             TRIES
         } else {
             1
         };
-        let lacking = refused as usize * threshold(n) - failed;
-        assert_eq!(places.start, failed + lacking * tries);
-        for (own, shares) in (1..).zip(shares.chunks(table_len(k))) {
-            let held = vec![BLANK; table_len(k)];
-            let expected = by_entries((n, own, k), 1..refused, &table, &coins, held);
-            assert_eq!(shares, expected);
-        }
+        assert_eq!(places.start, failed + tries);
+        assert!(shares.iter().all(|&share| share == BLANK));
     }
 }
 
