@@ -82,9 +82,7 @@ impl Coins {
             words: Secret::filled(BLANK, deal_words_len(n)),
             bytes: Secret::filled(0, deal_bytes_len(n, way)),
         };
-        if coins.fill(source).is_none() || coins.are_zeros() {
-            return Err(Refusal::CoinOutOfRange);
-        }
+        coins.fill(source).ok_or(Refusal::CoinOutOfRange)?;
         Ok(coins)
     }
 
@@ -99,10 +97,6 @@ impl Coins {
             bytes.copy_from_slice(&source.bits()?.to_ne_bytes()[..bytes.len()]);
         }
         Some(())
-    }
-
-    fn are_zeros(&self) -> bool {
-        self.words.iter().all(|&word| word == 0) && self.bytes.iter().all(|&byte| byte == 0)
     }
 }
 

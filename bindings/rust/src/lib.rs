@@ -100,9 +100,13 @@ mod source;
 pub mod words;
 
 #[doc = include_str!("../../../docs/CALLERS.md")]
+///
+/// *This is docs/CALLERS.md; its links lead to files of the repository.*
 pub mod callers {}
 
 #[doc = include_str!("../../../docs/SECRECY.md")]
+///
+/// *This is docs/SECRECY.md; its links lead to files of the repository.*
 pub mod secrecy {}
 
 pub use dealing::Dealing;
@@ -115,6 +119,8 @@ pub use session::{Collecting, Message, Speaking};
 pub use settlement::{Line, Settlement, Side};
 pub use sheets::Sheets;
 pub use source::{Source, System};
+
+use std::borrow::Cow;
 
 use refusal::result;
 
@@ -155,6 +161,9 @@ pub const TOTAL_LIMIT: u64 = 1 << 32;
 pub const ROLL_LEN: usize = 16;
 /// The words of a party's record: ten numbers, the roll, then five numbers.
 pub const RECORD_LEN: usize = 10 + ROLL_LEN + 5;
+/// The words of a stored session before its record: the version, and which of the two
+/// types it is.
+pub const STORED_HEAD: usize = 2;
 /// The words of a settlement's amounts: two for each bidder and side.
 pub const SETTLEMENT_LEN: usize = 4 * MAX_BIDS as usize;
 /// The bytes of a line of a settlement page: 60, and a newline.
@@ -211,7 +220,7 @@ pub const fn sheets_len(k: u64, way: Way) -> usize {
 /// The length of a stored session: its version, which of the two types it is, its
 /// record and its totals; or `usize::MAX` where that is no length.
 pub const fn stored_len(k: u64) -> usize {
-    table_len(k).saturating_add(2 + RECORD_LEN)
+    table_len(k).saturating_add(STORED_HEAD + RECORD_LEN)
 }
 
 /// Writes the shares of a bid for the party of this seat into `shares`.
@@ -225,12 +234,13 @@ pub const fn stored_len(k: u64) -> usize {
 ///
 /// Refused: [`OutOfRange`](Refusal::OutOfRange),
 /// [`WrongLength`](Refusal::WrongLength),
-/// [`CoinOutOfRange`](Refusal::CoinOutOfRange),
+/// [`CoinOutOfRange`](Refusal::CoinOutOfRange), also where all coins are 0,
 /// [`AmountTooLarge`](Refusal::AmountTooLarge),
 /// [`NotMonotone`](Refusal::NotMonotone).
 pub fn split(seat: Seat, table: &[u64], coins: &[u64], shares: &mut [u64]) -> Result<(), Refusal> {
     let Seat { n, own, k, way: _ } = seat;
-    result(words::split(n, own, k, table, coins, shares))
+    let coins = blank_unless_drawn(coins, &[]);
+    result(words::split(n, own, k, table, &coins, shares))
 }
 
 /// Writes the share of one entry of a bid, for the party of this seat, into `shares`,
@@ -294,8 +304,19 @@ pub fn split_entry(
 ///
 /// Refused: [`OutOfRange`](Refusal::OutOfRange) for n and own,
 /// [`WrongLength`](Refusal::WrongLength),
-/// [`CoinOutOfRange`](Refusal::CoinOutOfRange).
+/// [`CoinOutOfRange`](Refusal::CoinOutOfRange), also where all words and bytes are 0.
 pub fn deal(seat: Seat, words: &[u64], bytes: &[u8], sheet: &mut [u64]) -> Result<(), Refusal> {
     let Seat { n, own, .. } = seat;
-    result(words::deal(n, own, words, bytes, sheet))
+    let words = blank_unless_drawn(words, bytes);
+    result(words::deal(n, own, &words, bytes, sheet))
+}
+
+/// The words or, where they and the bytes are all 0, as many blanks: zeros alone were
+/// not drawn, and blanks are refused once what is judged before them is right.
+fn blank_unless_drawn<'a>(words: &'a [u64], bytes: &[u8]) -> Cow<'a, [u64]> {
+    let zeros = words.iter().all(|&word| word == 0) && bytes.iter().all(|&byte| byte == 0);
+    match zeros {
+        true => Cow::Owned(vec![BLANK; words.len()]),
+        false => Cow::Borrowed(words),
+    }
 }

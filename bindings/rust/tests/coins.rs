@@ -5,9 +5,9 @@ use std::cell::RefCell;
 
 use clockivy::words::place;
 use clockivy::{
-    deal_bytes_len, deal_words_len, sheet_count, sheets_len, split, table_len, threshold, words,
-    Collecting, Dealing, Entries, Outcome, Refusal, Sheets, Source, Speaking, System, BLANK,
-    MASK_LIMIT, MAX_PRICES, PARTIES, PRIME,
+    deal, deal_bytes_len, deal_words_len, sheet_count, sheets_len, split, table_len, threshold,
+    words, Collecting, Dealing, Entries, Outcome, Refusal, Sheets, Source, Speaking, System, BLANK,
+    MASK_LIMIT, MAX_PRICES, PARTIES, PRIME, STORED_HEAD,
 };
 use clockivy_testing::{
     choices, collected, count, fixed, from_all, go_on_until, plain_round, round, seat, sheets,
@@ -688,7 +688,7 @@ fn sums_on_dealt_sheets_differ() {
     let sum = |seed| {
         let mut parties = parties((3, 4), &TABLE, &mut fixed(1), &mut fixed(seed));
         go_on_until(&mut parties, 2);
-        parties[0].store()[2 + place::SUM]
+        parties[0].store()[STORED_HEAD + place::SUM]
     };
     let mut sums: Vec<u64> = (0..100).map(sum).collect();
     sums.sort();
@@ -696,7 +696,8 @@ fn sums_on_dealt_sheets_differ() {
     assert_eq!(sums.len(), 100);
 }
 
-/// A dealer that drew nothing deals sheets of zeros, and the call does not refuse.
+/// A dealer that drew nothing deals sheets of zeros. The call on plain words does not
+/// refuse, and the typed one does, once the rest is right.
 #[test]
 fn coins_of_zeros_deal_sheets_of_zeros() {
     for n in PARTIES {
@@ -705,12 +706,29 @@ fn coins_of_zeros_deal_sheets_of_zeros() {
             let mut sheet = [BLANK; SHEET];
             assert_eq!(words::deal(n, own, &drawn, &bytes, &mut sheet), 0);
             assert_eq!(sheet, [0; SHEET]);
+
+            let deal = |words: &[u64], bytes: &[u8]| {
+                deal(seat(n, own, 1), words, bytes, &mut [BLANK; SHEET])
+            };
+            assert_eq!(deal(&drawn, &bytes), Err(Refusal::CoinOutOfRange));
+            assert_eq!(deal(&drawn[1..], &bytes), Err(Refusal::WrongLength));
+            for place in 0..drawn.len() {
+                let mut drawn = drawn.clone();
+                drawn[place] = 1;
+                assert_eq!(deal(&drawn, &bytes), Ok(()));
+            }
+            for place in 0..bytes.len() {
+                let mut bytes = bytes.clone();
+                bytes[place] = 1;
+                assert_eq!(deal(&drawn, &bytes), Ok(()));
+            }
         }
     }
 }
 
 /// Why a bid from zeros is refused: from such coins a party's shares are the amounts.
-/// The calls that are lent the coins take them.
+/// The call on plain words takes them, and the typed one does not, once the rest is
+/// right.
 #[test]
 fn amounts_are_given_away_by_coins_of_zeros() {
     for n in PARTIES {
@@ -719,9 +737,16 @@ fn amounts_are_given_away_by_coins_of_zeros() {
             let mut shares = [BLANK; 8];
             assert_eq!(words::split(n, own, 4, &TABLE, &coins, &mut shares), 0);
             assert_eq!(shares, TABLE);
+
             let mut shares = [BLANK; 8];
-            split(seat(n, own, 4), &TABLE, &coins, &mut shares).unwrap();
-            assert_eq!(shares, TABLE);
+            let mut split = |coins: &[u64]| split(seat(n, own, 4), &TABLE, coins, &mut shares);
+            assert_eq!(split(&coins), Err(Refusal::CoinOutOfRange));
+            assert_eq!(split(&coins[1..]), Err(Refusal::WrongLength));
+            for place in 0..coins.len() {
+                let mut coins = coins.clone();
+                coins[place] = 1;
+                assert_eq!(split(&coins), Ok(()));
+            }
         }
     }
 }

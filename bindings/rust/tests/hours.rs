@@ -4,7 +4,7 @@
 use clockivy::words::place::{DEMAND, FIRST, HI, LO, OWN, ROUND, SEARCH, SUPPLY};
 use clockivy::{
     table_len, words, Cleared, Collecting, Fill, Outcome, Refusal, Sheets, Speaking, DEMAND_ROUND,
-    MAX_AMOUNT, OVER_ROUND, PRIME, RECORD_LEN, SUPPLY_ROUND, TOTAL_LIMIT,
+    MAX_AMOUNT, OVER_ROUND, PRIME, RECORD_LEN, STORED_HEAD, SUPPLY_ROUND, TOTAL_LIMIT,
 };
 use clockivy_testing::{
     from_all, from_marked, go_on_until, panel, parts, said, seat, sheets, tables, Bid, Plain, WAY,
@@ -15,9 +15,6 @@ const N: u64 = 3;
 /// The paper's: four prices, one that buys and one that sells. Demand is at least
 /// supply up to index 2, and equals it nowhere.
 const SAMPLE: [[u64; 8]; 2] = [[30, 20, 15, 0, 0, 0, 0, 0], [0, 0, 0, 0, 5, 15, 18, 40]];
-
-/// Where a stored session has its record: behind the version and the phase.
-const STORED_RECORD: usize = 2;
 
 /// Three parties with the bids of bidders 1, 2 and so on, about to speak.
 fn parties(k: u64, bids: &[Vec<u64>]) -> Vec<Speaking> {
@@ -209,7 +206,7 @@ fn the_largest_totals() {
     const { assert!(1_000 * MAX_AMOUNT < TOTAL_LIMIT) };
     // The session speaks, and both searches have ended at the one price.
     let mut stored = session.speak(Sheets::blank(k, WAY)).store();
-    let record = &mut stored[STORED_RECORD..];
+    let record = &mut stored[STORED_HEAD..];
     [record[HI], record[ROUND], record[SEARCH], record[FIRST]] = [1, DEMAND_ROUND, 2, 1];
     let mut party = Speaking::resume(&stored, Sheets::blank(k, WAY)).unwrap();
     for _ in 0..2 {
@@ -306,8 +303,8 @@ fn totals_that_are_none() {
     }
     // A supply that the record has before it is opened counts too.
     let mut supplied = first.clone();
-    supplied[STORED_RECORD + DEMAND] = 21;
-    supplied[STORED_RECORD + SUPPLY] = 21;
+    supplied[STORED_HEAD + DEMAND] = 21;
+    supplied[STORED_HEAD + SUPPLY] = 21;
     assert_eq!(opening(&supplied, 21), Ok([35, 21, 21]));
     assert_eq!(opening(&supplied, 20), wild);
 
@@ -401,7 +398,7 @@ fn totals_are_given_away_by_a_session_that_somebody_altered() {
         for (own, party) in (1..).zip(&parties) {
             let mut stored = party.store();
             let share = parts(&stored).1[index as usize - 1];
-            let record = &mut stored[STORED_RECORD..];
+            let record = &mut stored[STORED_HEAD..];
             [record[LO], record[HI]] = [index, index + 1];
             [record[ROUND], record[SEARCH], record[FIRST]] = [DEMAND_ROUND, 2, index];
             let altered = Speaking::resume(&stored, sheets(N, own, 4)).unwrap();

@@ -12,6 +12,6 @@ pub use clockivy::words::place;
 pub use hearings::{choices, count, refused, Hearing};
 pub use panel::{
     collected, fixed, from_all, from_marked, go_on_until, panel, parts, plain_round, record, reply,
-    round, said, seat, sheets, speaking, stored, Bid, Plain, WAY,
+    round, said, seat, sheets, stored, Bid, Plain, WAY,
 };
 pub use tables::{meeting, tables};

@@ -4,7 +4,7 @@
 
 use clockivy::{
     table_len, words, Collecting, Dealing, Entries, Message, Refusal, Seat, Sheets, Source,
-    Speaking, Way, BLANK, RECORD_LEN, VERSION,
+    Speaking, Way, BLANK, RECORD_LEN, STORED_HEAD, VERSION,
 };
 
 /// The way that the tests go.
@@ -62,11 +62,6 @@ fn dealt(n: u64, k: u64) -> Vec<Sheets> {
     Dealing::new(n, k, WAY, &mut source)
         .and_then(Dealing::deal_all)
         .expect("there are such parties")
-}
-
-/// One party of n that has these bids, about to speak.
-pub fn speaking(n: u64, own: u64, k: u64, bids: &[Bid]) -> Speaking {
-    collected(n, own, k, bids).speak(sheets(n, own, k))
 }
 
 /// All parties that have these bids, about to speak.
@@ -128,7 +123,7 @@ pub fn stored(phase: u64, record: &[u64], totals: &[u64]) -> Vec<u64> {
 
 /// The record and the totals of a stored session.
 pub fn parts(stored: &[u64]) -> (&[u64], &[u64]) {
-    stored[2..].split_at(RECORD_LEN)
+    stored[STORED_HEAD..].split_at(RECORD_LEN)
 }
 
 /// A party on plain words. It has whatever totals and sheets a test gives it, where the
