@@ -32,8 +32,8 @@ use crate::{split_entry, table_len, threshold, Seat, Way, BLANK, MAX_PRICES, PAR
 /// [`write_all`](Entries::write_all) writes the whole bid. As an iterator,
 /// `Entries` writes an entry for each item, and the item is the entry's number,
 /// 1 to 2k in turn. An entry that is refused is the last item, and leaves all shares
-/// blank, so that nobody can add them. While `Entries` lives, nobody reads the shares; this does not
-/// compile:
+/// blank, so that nobody can add them. While `Entries` lives, nobody reads the shares;
+/// this does not compile:
 ///
 /// ```compile_fail,E0502
 /// # use clockivy::Entries;
