@@ -152,7 +152,8 @@ CLOCKIVY_INLINE uint64_t clockivy_draw_entry(uint64_t n, uint64_t k, uint64_t en
  *   shares  n times 2k words, written: party 1's 2k first
  *
  *   1  n or k is out of range
- *   2  table has not 2k words, or shares not n times 2k
+ *   2  table has not 2k words, or shares not n times 2k; or the library is of another
+ *      version than this header
  *   5  the source failed, or all coins of the bid were 0, which were not drawn
  *   6  an amount is above 4,194,303
  *   7  demand rises or supply falls
@@ -172,7 +173,8 @@ CLOCKIVY_INLINE uint64_t clockivy_draw_bid(uint64_t n, uint64_t k,
 
     if (!clockivy_is_auction(n, k, CLOCKIVY_ROUNDS_33))
         return CLOCKIVY_OUT_OF_RANGE;
-    if (table_len != CLOCKIVY_TABLE_LEN(k) || shares_len != n * CLOCKIVY_TABLE_LEN(k))
+    if (table_len != CLOCKIVY_TABLE_LEN(k) || shares_len != n * CLOCKIVY_TABLE_LEN(k)
+        || clockivy_version() != CLOCKIVY_VERSION)
         return CLOCKIVY_WRONG_LENGTH;
     clockivy_blank(shares, shares_len);
     for (entry = 1; entry <= CLOCKIVY_TABLE_LEN(k) && reply == CLOCKIVY_DONE; entry++)
@@ -240,7 +242,7 @@ CLOCKIVY_INLINE uint64_t clockivy_draw_sheet(uint64_t n, uint64_t way,
  *   sheets  n times clockivy_sheets_len(k, way) words, written: party 1's first
  *
  *   1  n, k or the way is out of range
- *   2  sheets has another length
+ *   2  sheets has another length; or the library is of another version than this header
  *   5  the source failed, or all that was drawn for one probe was 0
  *
  * 1 and 2 change nothing. 5 leaves all sheets blank.
@@ -255,7 +257,7 @@ CLOCKIVY_INLINE uint64_t clockivy_draw_sheets(uint64_t n, uint64_t k, uint64_t w
 
     if (!clockivy_is_auction(n, k, way))
         return CLOCKIVY_OUT_OF_RANGE;
-    if (sheets_len != n * each)
+    if (sheets_len != n * each || clockivy_version() != CLOCKIVY_VERSION)
         return CLOCKIVY_WRONG_LENGTH;
     clockivy_blank(sheets, sheets_len);
     for (place = 0; place < each && reply == CLOCKIVY_DONE; place += CLOCKIVY_SHEET_LEN(way))

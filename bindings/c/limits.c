@@ -2,11 +2,12 @@
  * Tries clockivy_probe_limit, and the count and length of the sheets, on numbers
  * around powers of two; clockivy_party_has_bid on every place of the roll and on
  * numbers past it, up to the largest there is; the lengths that go by the way; where
- * the fields of a record stand; and that no session is opened or resumed with a
- * library of another version, for which two calls here stand in. It is not linked with
- * the library.
+ * the fields of a record stand; and that no session is opened or resumed and nothing
+ * is drawn with a library of another version, for which some calls here stand in. It
+ * is not linked with the library.
  */
 #include "check.h"
+#include "clockivy_coins.h"
 
 #define POWER(exponent) ((uint64_t)1 << (exponent))
 
@@ -113,6 +114,59 @@ uint64_t clockivy_open(uint64_t n, uint64_t own, uint64_t k, uint64_t *totals,
     return CLOCKIVY_DONE;
 }
 
+uint64_t clockivy_split_entry(uint64_t n, uint64_t own, uint64_t k, uint64_t entry,
+                              const uint64_t *table, size_t table_len,
+                              const uint64_t *coins, size_t coins_len,
+                              uint64_t *shares, size_t shares_len)
+{
+    (void)n, (void)own, (void)k, (void)entry, (void)table, (void)table_len;
+    (void)coins, (void)coins_len, (void)shares;
+    check(shares_len == 0, "a library of another version was called");
+    return CLOCKIVY_DONE;
+}
+
+uint64_t clockivy_deal(uint64_t n, uint64_t own, const uint64_t *words, size_t words_len,
+                       const uint8_t *bytes, size_t bytes_len,
+                       uint64_t *sheet, size_t sheet_len)
+{
+    (void)n, (void)own, (void)words, (void)words_len, (void)bytes, (void)bytes_len, (void)sheet;
+    check(sheet_len == 0, "a library of another version was called");
+    return CLOCKIVY_DONE;
+}
+
+/* Nothing is drawn for a library of another version. */
+static int no_source(void *state, uint64_t *word)
+{
+    (void)state, (void)word;
+    check(0, "something was drawn for a library of another version");
+    return 0;
+}
+
+/* Drawing is 2, after 1, and nothing is written. */
+static void try_drawing(void)
+{
+    enum { WAY = CLOCKIVY_ROUNDS_33, SHEETS_LEN = 3 * 2 * CLOCKIVY_SHEET_LEN(WAY) };
+    static const uint64_t table[2] = {5, 3};
+    static uint64_t sheets[SHEETS_LEN];
+    uint64_t shares[3 * 2] = {0};
+    size_t i;
+
+    if (clockivy_draw_bid(3, 1, table, 2, shares, 6, no_source, NULL) != CLOCKIVY_WRONG_LENGTH
+        || clockivy_draw_bid(2, 1, table, 2, shares, 6, no_source, NULL)
+            != CLOCKIVY_OUT_OF_RANGE
+        || clockivy_draw_sheets(3, 1, WAY, sheets, SHEETS_LEN, no_source, NULL)
+            != CLOCKIVY_WRONG_LENGTH
+        || clockivy_draw_sheets(2, 1, WAY, sheets, SHEETS_LEN, no_source, NULL)
+            != CLOCKIVY_OUT_OF_RANGE)
+        wrong = 1;
+    for (i = 0; i < 6; i++)
+        wrong |= shares[i] != 0;
+    for (i = 0; i < SHEETS_LEN; i++)
+        wrong |= sheets[i] != 0;
+    if (wrong)
+        fprintf(stderr, "drawing for a library of another version is not refused\n");
+}
+
 /* It is 2, after 1, and nothing is written. */
 static void try_version(void)
 {
@@ -183,6 +237,7 @@ int main(void)
     try_ways();
     try_fields();
     try_version();
+    try_drawing();
     try_marks();
     if (wrong)
         return EXIT_FAILURE;

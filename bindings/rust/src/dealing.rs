@@ -3,7 +3,7 @@
 
 use std::fmt;
 
-use crate::refusal::Refusal;
+use crate::refusal::{check_library, Refusal};
 use crate::secret::Secret;
 use crate::source::Source;
 use crate::{
@@ -41,7 +41,12 @@ impl<'a, S: Source> Dealing<'a, S> {
     /// drawn yet.
     ///
     /// Refused: [`OutOfRange`](Refusal::OutOfRange).
+    ///
+    /// # Panics
+    ///
+    /// Where the library that was linked is of another [version](crate::VERSION).
     pub fn new(n: u64, k: u64, way: Way, source: &'a mut S) -> Result<Dealing<'a, S>, Refusal> {
+        check_library();
         if !PARTIES.contains(&n) || !(1..=MAX_PRICES).contains(&k) {
             return Err(Refusal::OutOfRange);
         }

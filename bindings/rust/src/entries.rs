@@ -5,7 +5,7 @@
 use std::fmt;
 use std::iter::FusedIterator;
 
-use crate::refusal::Refusal;
+use crate::refusal::{check_library, Refusal};
 use crate::secret::Secret;
 use crate::source::Source;
 use crate::{split_entry, table_len, threshold, Seat, Way, BLANK, MAX_PRICES, PARTIES, PRIME};
@@ -85,6 +85,10 @@ impl<'a, S: Source> Entries<'a, S> {
     /// Refused: [`OutOfRange`](Refusal::OutOfRange),
     /// [`WrongLength`](Refusal::WrongLength) where `table` has not 2k words or
     /// `shares` not n times as many.
+    ///
+    /// # Panics
+    ///
+    /// Where the library that was linked is of another [version](crate::VERSION).
     pub fn new(
         n: u64,
         k: u64,
@@ -92,6 +96,7 @@ impl<'a, S: Source> Entries<'a, S> {
         shares: &'a mut [u64],
         source: &'a mut S,
     ) -> Result<Entries<'a, S>, Refusal> {
+        check_library();
         if !PARTIES.contains(&n) || !(1..=MAX_PRICES).contains(&k) {
             return Err(Refusal::OutOfRange);
         }

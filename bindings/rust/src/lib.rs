@@ -127,8 +127,8 @@ use refusal::result;
 // A u64 fits a usize, so that no length below is cut off.
 const _: () = assert!(usize::BITS == u64::BITS, "libexchange.a is for x86-64");
 
-/// The version of the calls and of the record's words that this crate is for. A session
-/// opens only with a library of this version.
+/// The version of the calls and of the record's words that this crate is for. With a
+/// library of another one no session, bid or dealing begins.
 pub const VERSION: u64 = 1;
 /// What is no share, no coin and no word of a sheet, and is refused wherever it is lent
 /// as one. Whatever is to be written starts from it, and not from zeros, which pass.

@@ -1,6 +1,8 @@
 use std::error::Error;
 use std::fmt;
 
+use crate::{words, VERSION};
+
 /// Why a call did nothing. Each call lists its refusals in the order in which
 /// it judges them, and names the first that applies; whatever was lent to it is
 /// as before.
@@ -126,4 +128,14 @@ pub(crate) fn result(reply: u64) -> Result<(), Refusal> {
         Some(refusal) => Err(refusal),
         None => panic!("the library replied {reply}: it is not the one that this crate is for"),
     }
+}
+
+/// Stops where the library that was linked is another one than this crate is for: it
+/// would take arguments for others. No caller's input brings that about.
+pub(crate) fn check_library() {
+    let found = words::version();
+    assert_eq!(
+        found, VERSION,
+        "the library is not the one that this crate is for"
+    );
 }

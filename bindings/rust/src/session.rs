@@ -7,7 +7,7 @@ use std::ops::Deref;
 
 use crate::outcome::Outcome;
 use crate::record::Record;
-use crate::refusal::{result, Refusal};
+use crate::refusal::{check_library, result, Refusal};
 use crate::secret::Secret;
 use crate::{table_len, words, Seat, Sheets, MAX_PRICES, RECORD_LEN, VERSION};
 
@@ -80,12 +80,10 @@ impl Collecting {
     ///
     /// # Panics
     ///
-    /// Where the library that was linked has another [version](VERSION) than this
-    /// crate is for.
+    /// Where the library that was linked is of another [version](VERSION).
     pub fn open(seat: Seat) -> Result<Collecting, Refusal> {
         let Seat { n, own, k, way: _ } = seat;
-        let found = words::version();
-        assert_eq!(found, VERSION, "the library is not the one for this crate");
+        check_library();
         // What is out of range is judged before the length, so no room is made for it.
         let length = if k > MAX_PRICES { 0 } else { table_len(k) };
         let mut totals = Secret::filled(0, length);
@@ -149,6 +147,10 @@ impl Collecting {
     /// [`WrongLength`](Refusal::WrongLength), and
     /// [`OutOfTurn`](Refusal::OutOfTurn) where the session speaks. The rest of the
     /// record, and the totals, are judged by the calls on them.
+    ///
+    /// # Panics
+    ///
+    /// Where the library that was linked is of another [version](VERSION).
     pub fn resume(stored: &[u64]) -> Result<Collecting, Refusal> {
         let (record, totals) = resumed(COLLECTING, stored)?;
         Ok(Collecting { record, totals })
@@ -328,6 +330,10 @@ impl Speaking {
     /// [`WrongLength`](Refusal::WrongLength), and
     /// [`OutOfTurn`](Refusal::OutOfTurn) where the session collects. The rest of the
     /// record, the totals and the sheets are judged by the calls on them.
+    ///
+    /// # Panics
+    ///
+    /// Where the library that was linked is of another [version](VERSION).
     pub fn resume(stored: &[u64], sheets: Sheets) -> Result<Speaking, Refusal> {
         let (record, totals) = resumed(SPEAKING, stored)?;
         Ok(Speaking {
@@ -377,6 +383,7 @@ fn stored(phase: u64, record: &Record, totals: &[u64]) -> Vec<u64> {
 
 /// The record and the totals in the words of a session, which has to be of this phase.
 fn resumed(phase: u64, stored: &[u64]) -> Result<(Record, Secret<u64>), Refusal> {
+    check_library();
     let [version, found, rest @ ..] = stored else {
         return Err(Refusal::WrongLength);
     };
