@@ -8,11 +8,15 @@
  *   n       the number of parties, 3 to 9; t is (n - 1) / 2 rounded down
  *   own     the number of the party that a call is for, 1 to n
  *   k       the number of listed prices, 1 to 1,024; indices start from 1
+ *   last    the last round of a probe, 33 or 7: the way in which all probes of an
+ *           auction are made, the same for its parties and its dealer
  *   entry   the number of an amount in a bidder's table, 1 to 2k
  *   P       the most probes of a search over k prices: log2(k + 1) rounded up
  *   prime   2^61 - 1; shares of amounts and their coefficients are below it
  *   totals  a party's shares of total demand at each price, then of supply
- *   sheet   a party's preprocessing for one probe, 127 words
+ *   sheet   a party's preprocessing for one probe: 127 words, or 220 where last is 7
+ *   w       the words of a message: 1 in every round, but where last is 7 there are
+ *           1, 32, 16, 8, 4, 2, 1 in rounds 1 to 7
  *   bidder  a bidder's number, 1 to 1,000, the same at every party
  *   roll    the marks of the bidders whose bids a party has added, 16 words:
  *           bidder b is bit b % 64 of word b / 64, bit 0 being the lowest
@@ -35,8 +39,8 @@
  *   0 when the call is done, else the number of a refusal, for which
  *   clockivy_refusal_text has words. Each call lists its refusals in the order in
  *   which it judges them, and gives the first that applies. Where a record has not
- *   CLOCKIVY_RECORD_LEN words, what needs no record is judged all the same (n, own
- *   and k, bidder, the marks in present: 1), and then the reply is 2. A refused
+ *   CLOCKIVY_RECORD_LEN words, what needs no record is judged all the same (n, own,
+ *   k and last, bidder, the marks in present: 1), and then the reply is 2. A refused
  *   call has changed nothing.
  *
  * Before use
@@ -68,7 +72,7 @@ extern "C" {
  * grows by one whenever one of these changes. clockivy_version gives the library's
  * own; where the two differ, the library is another one than this header's.
  */
-#define CLOCKIVY_VERSION 1
+#define CLOCKIVY_VERSION 2
 
 /* The replies. */
 enum {
@@ -117,33 +121,38 @@ enum {
 #define CLOCKIVY_HIGHEST_PRICE 1000000 /* of an hour, in pence; the lowest is 1 */
 
 /*
- * The way in which a probe is made. Its number is that of the rounds of a probe. The
- * exported calls know this one alone, and take no way.
+ * The ways in which a probe is made. The number of a way is that of the rounds of a
+ * probe, and so its last round. Both come to the same verdict.
  */
 #define CLOCKIVY_ROUNDS_33 33
+#define CLOCKIVY_ROUNDS_7 7
 
-/* The rounds after those of the probes, which are 1 to 33. */
+/* The rounds after those of the probes, which are 1 to 33 or 1 to 7. */
 #define CLOCKIVY_ROUND_DEMAND 34 /* total demand at the price is opened */
 #define CLOCKIVY_ROUND_SUPPLY 35 /* total supply at the price is opened */
 #define CLOCKIVY_ROUND_OVER 36   /* there is a price, and both totals are open */
 
 /* Lengths, for n and k within their ranges; for another way they are 0. */
 #define CLOCKIVY_ROLL_LEN 16
-#define CLOCKIVY_RECORD_LEN 31
+#define CLOCKIVY_PAIRS_LEN 32
+#define CLOCKIVY_RECORD_LEN 64
+#define CLOCKIVY_MAX_MESSAGE_LEN 32 /* of either way, in any round */
 #define CLOCKIVY_THRESHOLD(n) (((n) - 1) / 2)
 #define CLOCKIVY_TABLE_LEN(k) (2 * (k))
 #define CLOCKIVY_COINS_LEN(n, k) (2 * (k) * CLOCKIVY_THRESHOLD(n))
 #define CLOCKIVY_DEAL_WORDS_LEN(n) (1 + CLOCKIVY_THRESHOLD(n))
 #define CLOCKIVY_DEAL_BYTES_LEN(n, way) \
-    ((way) == CLOCKIVY_ROUNDS_33 ? 126 * CLOCKIVY_THRESHOLD(n) + 62 : 0)
-#define CLOCKIVY_SHEET_LEN(way) ((way) == CLOCKIVY_ROUNDS_33 ? 127 : 0)
+    ((way) == CLOCKIVY_ROUNDS_33 ? 126 * CLOCKIVY_THRESHOLD(n) + 62 \
+     : (way) == CLOCKIVY_ROUNDS_7 ? 219 * CLOCKIVY_THRESHOLD(n) + 124 : 0)
+#define CLOCKIVY_SHEET_LEN(way) \
+    ((way) == CLOCKIVY_ROUNDS_33 ? 127 : (way) == CLOCKIVY_ROUNDS_7 ? 220 : 0)
 
 /* Lengths of a settlement: its amounts in words, those of its page in bytes. */
 #define CLOCKIVY_SETTLEMENT_LEN 4000
 #define CLOCKIVY_LINE_LEN 61 /* with its newline */
 #define CLOCKIVY_MAX_PAGE_LEN 122000 /* of 2,000 lines */
 
-/* The places of the record's words; the roll has 16 from its place on. */
+/* The places of the record's words; the roll has 16 from its place on, the pairs 32. */
 enum {
     CLOCKIVY_PLACE_N = 0,
     CLOCKIVY_PLACE_OWN = 1,
@@ -160,7 +169,9 @@ enum {
     CLOCKIVY_PLACE_FIRST = 27,
     CLOCKIVY_PLACE_FIRST_PROBES = 28,
     CLOCKIVY_PLACE_DEMAND = 29,
-    CLOCKIVY_PLACE_SUPPLY = 30
+    CLOCKIVY_PLACE_SUPPLY = 30,
+    CLOCKIVY_PLACE_LAST = 31,
+    CLOCKIVY_PLACE_PAIRS = 32
 };
 
 /* The library's version: CLOCKIVY_VERSION where it is this header's. */
@@ -173,12 +184,12 @@ uint64_t clockivy_version(void);
  *   record  CLOCKIVY_RECORD_LEN words, written: n, own, k, bids 0, lo 0,
  *           hi k + 1, probes 0, round 1, sum 0, carry 0, then the roll, 16
  *           words of 0, then search 1, first 0, first_probes 0, demand 0,
- *           supply 0
+ *           supply 0, last, then the pairs, 32 words of 0
  *
- *   1  n, own or k is out of range
+ *   1  n, own, k or last is out of range
  *   2  totals has not 2k words, or record not CLOCKIVY_RECORD_LEN
  */
-uint64_t clockivy_open(uint64_t n, uint64_t own, uint64_t k,
+uint64_t clockivy_open(uint64_t n, uint64_t own, uint64_t k, uint64_t last,
                        uint64_t *totals, size_t totals_len,
                        uint64_t *record, size_t record_len);
 
@@ -235,19 +246,20 @@ uint64_t clockivy_split_entry(uint64_t n, uint64_t own, uint64_t k, uint64_t ent
  *
  *   words  1 + t words: the mask, below 2^58, then its t coefficients, below
  *          the prime
- *   bytes  126t + 62 bytes: t coefficients for each of bits 1 to 33 of the
- *          mask, bit 1 being the lowest; then for each of rounds 2 to 32
- *          alpha, beta, and t coefficients each for alpha, beta and gamma,
- *          which is alpha times beta
- *   sheet  127 words, written: the mask's share, 33 bits' shares, then the
- *          shares of alpha, beta and gamma for each of rounds 2 to 32
+ *   bytes  126t + 62 bytes, or 219t + 124 where last is 7: t coefficients for
+ *          each of bits 1 to 33 of the mask, bit 1 being the lowest; then for each
+ *          product alpha, beta, and t coefficients each for alpha, beta and gamma,
+ *          which is alpha times beta. There is a product for each word that a party
+ *          says in rounds 2 to last - 1, in this order: 31, or 62 where last is 7
+ *   sheet  127 words, or 220 where last is 7, written: the mask's share, 33 bits'
+ *          shares, then the shares of alpha, beta and gamma for each product
  *
- *   1  n or own is out of range
- *   2  words has not 1 + t words, bytes not 126t + 62 bytes, or sheet not 127
- *      words
+ *   1  n, own or last is out of range
+ *   2  words has not 1 + t words, bytes not CLOCKIVY_DEAL_BYTES_LEN(n, last), or
+ *      sheet not CLOCKIVY_SHEET_LEN(last)
  *   5  the mask is at or above 2^58, or a coefficient at or above the prime
  */
-uint64_t clockivy_deal(uint64_t n, uint64_t own,
+uint64_t clockivy_deal(uint64_t n, uint64_t own, uint64_t last,
                        const uint64_t *words, size_t words_len,
                        const uint8_t *bytes, size_t bytes_len,
                        uint64_t *sheet, size_t sheet_len);
@@ -289,30 +301,33 @@ uint64_t clockivy_add(uint64_t *record, size_t record_len,
  *
  *   record   as it was last written
  *   totals   2k words
- *   sheets   127 times 2P words: the party's sheets for all probes in turn
- *   message  one word, written
+ *   sheets   2P sheets, clockivy_sheets_len(k, last) words: the party's for all
+ *            probes in turn
+ *   message  w words, written
  *
  *   1  a field of the record is out of range
- *   2  record has not CLOCKIVY_RECORD_LEN words, totals not 2k, or sheets not
- *      127 times 2P
+ *   2  record has not CLOCKIVY_RECORD_LEN words, totals not 2k, sheets not
+ *      clockivy_sheets_len(k, last), or message not w, which goes by the record's
+ *      round also when the auction is over
  *   3  the auction is over
  *   8  round 1: a word of totals at the probed index is at or above the prime;
- *      rounds 1 to 33: in the current sheet, the mask's share is at or above the
+ *      rounds 1 to last: in the current sheet, the mask's share is at or above the
  *      prime or another word above 255; rounds 34 and 35, which read no sheet:
  *      the word of totals that is said is at or above the prime
  */
 uint64_t clockivy_say(const uint64_t *record, size_t record_len,
                       const uint64_t *totals, size_t totals_len,
                       const uint64_t *sheets, size_t sheets_len,
-                      uint64_t *message);
+                      uint64_t *message, size_t message_len);
 
 /*
  * Takes the messages of the current round, of those who were present, and steps
- * the record to the next round. Round 33 opens the verdict and moves lo or hi to
- * the probed index, as in docs/CALLERS.md, "The two searches": in the first search
- * 1 moves lo, in the second 1 moves hi. Then the next probe begins, or the second
- * search in place of the first; or both have ended, and the totals at the price are
- * opened in rounds 34 and 35, or the auction is over for want of a price.
+ * the record to the next round. The last one of a probe opens the verdict and
+ * moves lo or hi to the probed index, as in docs/CALLERS.md, "The two searches": in
+ * the first search 1 moves lo, in the second 1 moves hi. Then the next probe begins,
+ * or the second search in place of the first; or both have ended, and the totals at
+ * the price are opened in rounds 34 and 35, or the auction is over for want of a
+ * price.
  *
  * Any t + 1 messages open the round. All parties hear it with the same marks,
  * and a marked party has heard every round before: see docs/CALLERS.md, "A party
@@ -320,27 +335,29 @@ uint64_t clockivy_say(const uint64_t *record, size_t record_len,
  *
  *   record    stepped
  *   totals    2k words
- *   sheets    127 times 2P words
- *   messages  n words, party 1's first; where the mark is 0, anything
+ *   sheets    clockivy_sheets_len(k, last) words
+ *   messages  n times w words: party 1's w, then party 2's, and so on; where the
+ *             mark is 0, anything
  *   present   n bytes, party 1's first: 1 for a party that was present, else 0
  *
  *   1   a field of the record is out of range, or a mark is above 1
  *   2   record has not CLOCKIVY_RECORD_LEN words, totals not 2k, sheets not
- *       127 times 2P, messages not n, or present not n bytes
+ *       clockivy_sheets_len(k, last), messages not n times w, or present not n bytes
  *   3   the auction is over
  *   15  fewer than t + 1 are marked
  *   8   as in clockivy_say; but the totals are judged only if the party itself is
  *       marked
  *   9   the party is marked, and its own place holds another message than it says
- *   10  a marked message is at or above the prime (rounds 1, 34 and 35), above
- *       65,535 (2 to 32) or above 255 (33); or no polynomial of degree at most t
- *       passes through the marked ones (rounds 2 to 32: through the low bytes,
- *       and through the high). With t + 1 of them there always is one
+ *   10  a marked word is at or above the prime (rounds 1, 34 and 35), above 65,535
+ *       (2 to last - 1) or above 255 (last); or no polynomial of degree at most t
+ *       passes through the marked messages, word by word (rounds 2 to last - 1:
+ *       through the low bytes, and through the high). With t + 1 of them there
+ *       always is one
  *   11  round 1: the opened sum is outside 2^58 + 2 to 2^59 + 2^33 - 1; rounds 34
  *       and 35: the opened total is 2^32 or more; round 34: it is below the
  *       supply in the record, which is 0 unless somebody has put it there;
  *       round 35: it is above the demand in the record
- *   12  round 33: the opened verdict is above 1
+ *   12  round last: the opened verdict is above 1
  */
 uint64_t clockivy_hear(uint64_t *record, size_t record_len,
                        const uint64_t *totals, size_t totals_len,
@@ -439,20 +456,20 @@ uint64_t clockivy_settlement_read(uint64_t price,
  * passes: see docs/CALLERS.md, "Storing a session" and "Four uses that give bids
  * away".
  *
- * A field is out of range (refusal 1) where n, own or k is; bids is not the
+ * A field is out of range (refusal 1) where n, own, k or last is; bids is not the
  * number of marks on the roll; the roll has a mark of no bidder, which is bit 0
  * of the first word or one past bidder 1,000, bits 41 to 63 of the last; round is
- * outside 34 to 36 where the searches have ended with a price, and outside 1 to 33
- * where they have not; sum is at or above 2^59 + 2^33; carry is above 255; demand
- * or supply is 2^32 or more, or supply above demand; search is neither 1 nor 2. In
- * the first search also where not lo < hi <= k + 1;
- * hi - lo is 1, since the second begins with that; probes is P or more; first
- * or first_probes is not 0. In the second where first is above k; first_probes
- * is above P or above probes; not lo < hi <= first + 1; probes - first_probes,
- * its own, are above the limit for first in place of k, or are equal to it with
- * hi - lo above 1.
+ * outside 34 to 36 where the searches have ended with a price, and outside 1 to last
+ * where they have not; sum is at or above 2^59 + 2^33; carry is above 255, or a word
+ * of pairs is, on either way; demand or supply is 2^32 or more, or supply above
+ * demand; search is neither 1 nor 2. In the first search also where not
+ * lo < hi <= k + 1; hi - lo is 1, since the second begins with that; probes is P
+ * or more; first or first_probes is not 0. In the second where first is above k;
+ * first_probes is above P or above probes; not lo < hi <= first + 1; probes -
+ * first_probes, its own, are above the limit for first in place of k, or are equal
+ * to it with hi - lo above 1.
  *
- * A probe's verdict can be read off the record that round 33 leaves. In the
+ * A probe's verdict can be read off the record that its last round leaves. In the
  * first search it is 1 where lo is the probed index now or, if that probe has
  * ended the search, where first is; in the second, where hi is.
  */
@@ -468,10 +485,10 @@ typedef struct clockivy_party {
                         than supply, or k + 1; in search 2 supply at least
                         demand, or first + 1 */
     uint64_t probes; /* probes done, of both searches */
-    uint64_t round;  /* the round to be said and heard next: 1 to 33 in a probe,
+    uint64_t round;  /* the round to be said and heard next: 1 to last in a probe,
                         then, where there is a price, 34 and 35, and 36 when over */
     uint64_t sum;    /* the opened sum of this probe's round 1, else 0 */
-    uint64_t carry;  /* this party's share of the carry, else 0 */
+    uint64_t carry;  /* where last is 33, this party's share of the carry, else 0 */
     uint64_t roll[CLOCKIVY_ROLL_LEN]; /* who is in: bidder b is bit b % 64, the
                                          lowest being bit 0, of roll[b / 64] */
     uint64_t search; /* which search is on: 1 or 2 */
@@ -479,6 +496,10 @@ typedef struct clockivy_party {
     uint64_t first_probes; /* the probes of the first search; 0 until it ends */
     uint64_t demand; /* D, total demand at the price; 0 until round 34 opens it */
     uint64_t supply; /* S, total supply at the price; 0 until round 35 opens it */
+    uint64_t last;   /* the last round of a probe: 33 or 7 */
+    uint64_t pairs[CLOCKIVY_PAIRS_LEN]; /* where last is 7, in rounds 3 to 7: this
+                                           party's shares of the pairs that are left,
+                                           then 0; else 0 */
 } clockivy_party;
 
 /* The struct is the record's words, in their order. */
@@ -539,17 +560,24 @@ CLOCKIVY_INLINE size_t clockivy_sheet_count(uint64_t k)
     return 2 * clockivy_probe_limit(k);
 }
 
+/* 1 where this is the number of a way, else 0. */
+CLOCKIVY_INLINE int clockivy_is_way(uint64_t way)
+{
+    return way == CLOCKIVY_ROUNDS_33 || way == CLOCKIVY_ROUNDS_7;
+}
+
 /* The length of a party's sheets for all probes, in words; 0 for another way. */
 CLOCKIVY_INLINE size_t clockivy_sheets_len(uint64_t k, uint64_t way)
 {
     return CLOCKIVY_SHEET_LEN(way) * clockivy_sheet_count(k);
 }
 
-/* The length of a message, in words: 1 in every round; 0 for another way. */
+/* w, the length of a message of a round, in words; 0 for another way. */
 CLOCKIVY_INLINE size_t clockivy_message_len(uint64_t way, uint64_t round)
 {
-    (void)round;
-    return way == CLOCKIVY_ROUNDS_33 ? 1 : 0;
+    if (way == CLOCKIVY_ROUNDS_7 && round >= 2 && round <= 6)
+        return (size_t)CLOCKIVY_MAX_MESSAGE_LEN >> (round - 2);
+    return clockivy_is_way(way) ? 1 : 0;
 }
 
 /*
@@ -578,14 +606,14 @@ typedef struct clockivy_seat {
     uint64_t n;
     uint64_t own;
     uint64_t k;
-    uint64_t way; /* CLOCKIVY_ROUNDS_33 */
+    uint64_t way; /* CLOCKIVY_ROUNDS_33 or CLOCKIVY_ROUNDS_7 */
 } clockivy_seat;
 
 /* 1 where n, k and the way are within their ranges, else 0. */
 CLOCKIVY_INLINE int clockivy_is_auction(uint64_t n, uint64_t k, uint64_t way)
 {
     return n >= 3 && n <= CLOCKIVY_MAX_PARTIES && k >= 1 && k <= CLOCKIVY_MAX_PRICES
-        && way == CLOCKIVY_ROUNDS_33;
+        && clockivy_is_way(way);
 }
 
 /*
@@ -602,9 +630,8 @@ typedef struct clockivy_session {
     clockivy_party party; /* where the party stands */
     uint64_t *totals;     /* the caller's, 2k words */
     size_t totals_len;
-    uint64_t *sheets;     /* the caller's, clockivy_sheets_len(k, way) words */
+    uint64_t *sheets;     /* the caller's, clockivy_sheets_len(k, last) words */
     size_t sheets_len;
-    uint64_t way;
     int dealt;  /* 1 once sheets were received since it was opened or resumed */
     int spoken; /* 1 once a message was said or a round heard: no bid is added then */
 } clockivy_session;
@@ -648,11 +675,10 @@ CLOCKIVY_INLINE uint64_t clockivy_session_open(clockivy_session *session,
         || sheets_len != clockivy_sheets_len(seat->k, seat->way)
         || clockivy_version() != CLOCKIVY_VERSION)
         return CLOCKIVY_WRONG_LENGTH;
-    reply = clockivy_open(seat->n, seat->own, seat->k, totals, totals_len,
+    reply = clockivy_open(seat->n, seat->own, seat->k, seat->way, totals, totals_len,
                           (uint64_t *)&session->party, CLOCKIVY_RECORD_LEN);
     if (reply != CLOCKIVY_DONE)
         return reply;
-    session->way = seat->way;
     session->spoken = 0;
     clockivy_session_keep(session, totals, totals_len, sheets, sheets_len);
     return CLOCKIVY_DONE;
@@ -678,7 +704,7 @@ CLOCKIVY_INLINE int clockivy_sheet_is_dealt(const uint64_t *sheet, size_t len)
  * and resumed: then they are the same again. That is nothing that a call can see;
  * see docs/CALLERS.md, "Four uses that give bids away".
  *
- *   words  clockivy_sheets_len(k, way) words
+ *   words  clockivy_sheets_len(k, last) words
  *
  *   2  words has another length
  *   3  the session has received sheets, and said a message or heard a round
@@ -690,12 +716,12 @@ CLOCKIVY_INLINE int clockivy_sheet_is_dealt(const uint64_t *sheet, size_t len)
 CLOCKIVY_INLINE uint64_t clockivy_session_receive(clockivy_session *session,
                                                   const uint64_t *words, size_t words_len)
 {
-    const size_t len = CLOCKIVY_SHEET_LEN(session->way);
+    const size_t len = CLOCKIVY_SHEET_LEN(session->party.last);
     size_t i;
     size_t j;
 
     if (words_len != session->sheets_len
-        || words_len != clockivy_sheets_len(session->party.k, session->way))
+        || words_len != clockivy_sheets_len(session->party.k, session->party.last))
         return CLOCKIVY_WRONG_LENGTH;
     if (session->dealt && session->spoken)
         return CLOCKIVY_OUT_OF_TURN;
@@ -742,32 +768,37 @@ CLOCKIVY_INLINE uint64_t clockivy_session_add(clockivy_session *session, uint64_
 }
 
 /*
+ * w, the length of everybody's message of the current round, in words. A buffer of
+ * CLOCKIVY_MAX_MESSAGE_LEN holds that of any round.
+ */
+CLOCKIVY_INLINE size_t clockivy_session_message_len(const clockivy_session *session)
+{
+    return clockivy_message_len(session->party.last, session->party.round);
+}
+
+/*
  * Writes the party's message of the current round. Until the round is heard, it is
  * the same whenever it is said. The session has spoken then, and takes no more bids.
  * Store it before the message leaves: see docs/CALLERS.md, "Storing a session".
  *
- *   message  clockivy_message_len(way, round) words, written
+ *   message  clockivy_session_message_len words, written
  *
  *   1  a field of the record is out of range
- *   2  message has not clockivy_message_len words
+ *   2  message has not clockivy_session_message_len words
  *   3  the auction is over
  *   8  as in clockivy_say; also where no sheets were received and the round reads one
  */
 CLOCKIVY_INLINE uint64_t clockivy_session_say(clockivy_session *session,
                                               uint64_t *message, size_t message_len)
 {
-    const int fits = message_len == clockivy_message_len(session->way, session->party.round);
-    uint64_t said;
-    /* With no totals the record is judged, and then the reply is 2. */
     const uint64_t reply = clockivy_say((const uint64_t *)&session->party, CLOCKIVY_RECORD_LEN,
-                                        session->totals, fits ? session->totals_len : 0,
-                                        session->sheets, session->sheets_len, &said);
+                                        session->totals, session->totals_len,
+                                        session->sheets, session->sheets_len,
+                                        message, message_len);
 
-    if (reply != CLOCKIVY_DONE)
-        return reply;
-    message[0] = said;
-    session->spoken = 1;
-    return CLOCKIVY_DONE;
+    if (reply == CLOCKIVY_DONE)
+        session->spoken = 1;
+    return reply;
 }
 
 /*
@@ -775,11 +806,12 @@ CLOCKIVY_INLINE uint64_t clockivy_session_say(clockivy_session *session,
  * the next round, as clockivy_hear. All parties hear a round with the same messages
  * and marks, and once: see docs/CALLERS.md, "A party that drops off".
  *
- *   messages  n messages, party 1's first; where the mark is 0, anything
+ *   messages  n messages of clockivy_session_message_len words each, party 1's first;
+ *             where the mark is 0, as many words of anything
  *   present   n bytes, party 1's first: 1 for a party that was present, else 0
  *
  *   1   a field of the record is out of range, or a mark is above 1
- *   2   messages has not n messages, or present not n bytes
+ *   2   messages has not the words of n messages, or present not n bytes
  *   3   the auction is over
  *   15, 8, 9, 10, 11, 12  as in clockivy_hear
  */
@@ -878,6 +910,7 @@ CLOCKIVY_INLINE uint64_t clockivy_cleared_fill(uint64_t demand, uint64_t supply,
     record[CLOCKIVY_PLACE_FIRST_PROBES] = 1;
     record[CLOCKIVY_PLACE_DEMAND] = demand;
     record[CLOCKIVY_PLACE_SUPPLY] = supply;
+    record[CLOCKIVY_PLACE_LAST] = CLOCKIVY_ROUNDS_33;
     return clockivy_fill(record, CLOCKIVY_RECORD_LEN, amount, tenths, remainder);
 }
 
@@ -918,8 +951,9 @@ CLOCKIVY_INLINE uint64_t clockivy_session_words(const clockivy_session *session,
 }
 
 /*
- * The session that was stored as these words. Its sheets are blank until they are
- * received again, the same ones as before; rounds 34 and 35 read none.
+ * The session that was stored as these words, of the way that its record tells. Its
+ * sheets are blank until they are received again, the same ones as before; rounds 34
+ * and 35 read none.
  *
  * Resume only the newest words, and those only once. No call can see whether they
  * are. Older ones, or a second session from the same, use masks and triples again:
@@ -929,12 +963,12 @@ CLOCKIVY_INLINE uint64_t clockivy_session_words(const clockivy_session *session,
  *
  *   words   clockivy_session_words_len(k) words, k being that of the record
  *   totals  2k words, written
- *   sheets  clockivy_sheets_len(k, CLOCKIVY_ROUNDS_33) words, written
+ *   sheets  clockivy_sheets_len(k, last) words, written, last being that of the record
  *
- *   1  the version is another, spoken is above 1, or k is out of range; the rest of
- *      the record is judged by the calls on it
+ *   1  the version is another or spoken is above 1, whatever follows these; k or last
+ *      is out of range; the rest of the record is judged by the calls on it
  *   2  words, totals or sheets has another length, or the library is of another
- *      version; words that are too few to hold a record are 2 whatever they say
+ *      version; in words that are too few to hold a record, k and last are not judged
  */
 CLOCKIVY_INLINE uint64_t clockivy_session_resume(clockivy_session *session,
                                                  const uint64_t *words, size_t words_len,
@@ -943,19 +977,24 @@ CLOCKIVY_INLINE uint64_t clockivy_session_resume(clockivy_session *session,
 {
     const size_t head = CLOCKIVY_STORED_HEAD + CLOCKIVY_RECORD_LEN;
     uint64_t k;
+    uint64_t last;
 
+    if (words_len < CLOCKIVY_STORED_HEAD)
+        return CLOCKIVY_WRONG_LENGTH;
+    if (words[0] != CLOCKIVY_VERSION || words[1] > 1)
+        return CLOCKIVY_OUT_OF_RANGE;
     if (words_len < head)
         return CLOCKIVY_WRONG_LENGTH;
     k = words[CLOCKIVY_STORED_HEAD + CLOCKIVY_PLACE_K];
-    if (words[0] != CLOCKIVY_VERSION || words[1] > 1 || clockivy_session_words_len(k) == 0)
+    last = words[CLOCKIVY_STORED_HEAD + CLOCKIVY_PLACE_LAST];
+    if (clockivy_session_words_len(k) == 0 || !clockivy_is_way(last))
         return CLOCKIVY_OUT_OF_RANGE;
     if (words_len != clockivy_session_words_len(k) || totals_len != words_len - head
-        || sheets_len != clockivy_sheets_len(k, CLOCKIVY_ROUNDS_33)
+        || sheets_len != clockivy_sheets_len(k, last)
         || clockivy_version() != CLOCKIVY_VERSION)
         return CLOCKIVY_WRONG_LENGTH;
     memcpy(&session->party, words + CLOCKIVY_STORED_HEAD, sizeof session->party);
     memcpy(totals, words + head, totals_len * sizeof words[0]);
-    session->way = CLOCKIVY_ROUNDS_33;
     session->spoken = (int)words[1];
     clockivy_session_keep(session, totals, totals_len, sheets, sheets_len);
     return CLOCKIVY_DONE;

@@ -171,6 +171,7 @@ CLOCKIVY_INLINE uint64_t clockivy_draw_bid(uint64_t n, uint64_t k,
     uint64_t reply = CLOCKIVY_DONE;
     uint64_t entry;
 
+    /* A bid is split alike on either way. */
     if (!clockivy_is_auction(n, k, CLOCKIVY_ROUNDS_33))
         return CLOCKIVY_OUT_OF_RANGE;
     if (table_len != CLOCKIVY_TABLE_LEN(k) || shares_len != n * CLOCKIVY_TABLE_LEN(k)
@@ -186,10 +187,13 @@ CLOCKIVY_INLINE uint64_t clockivy_draw_bid(uint64_t n, uint64_t k,
     return reply;
 }
 
-/* What the dealer draws for one probe: for nine parties, and less for fewer. */
+/*
+ * What the dealer draws for one probe: for nine parties and 7 rounds, and less for
+ * fewer parties or for 33.
+ */
 typedef struct clockivy_drawn {
     uint64_t words[CLOCKIVY_DEAL_WORDS_LEN(CLOCKIVY_MAX_PARTIES)];
-    uint8_t bytes[CLOCKIVY_DEAL_BYTES_LEN(CLOCKIVY_MAX_PARTIES, CLOCKIVY_ROUNDS_33)];
+    uint8_t bytes[CLOCKIVY_DEAL_BYTES_LEN(CLOCKIVY_MAX_PARTIES, CLOCKIVY_ROUNDS_7)];
 } clockivy_drawn;
 
 /* Draws for one probe. Gives 1, or 0 where the source failed or gave zeros alone. */
@@ -227,7 +231,7 @@ CLOCKIVY_INLINE uint64_t clockivy_draw_sheet(uint64_t n, uint64_t way,
     if (clockivy_draw_probe(n, way, &drawn, source, state))
         reply = CLOCKIVY_DONE;
     for (own = 1; own <= n && reply == CLOCKIVY_DONE; own++)
-        reply = clockivy_deal(n, own, drawn.words, (size_t)CLOCKIVY_DEAL_WORDS_LEN(n),
+        reply = clockivy_deal(n, own, way, drawn.words, (size_t)CLOCKIVY_DEAL_WORDS_LEN(n),
                               drawn.bytes, (size_t)CLOCKIVY_DEAL_BYTES_LEN(n, way),
                               sheet + (own - 1) * further, CLOCKIVY_SHEET_LEN(way));
     clockivy_wipe(&drawn, sizeof drawn);

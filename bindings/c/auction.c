@@ -1,14 +1,14 @@
 /*
- * A whole auction of five parties in one process: four bids, eight listed
- * prices. One bid is split entry by entry. A line drops while a bid is sent, and
- * the bid is sent again when the others are in. A party drops off in the middle
- * of a probe; the others go on, and it hears what it has missed when it comes
- * back. Demand equals supply at four neighbouring prices, and the middle one is
- * taken, rounded down; the totals there are opened, each fleet works out its
- * hours, and the settlement page has those of all. Prints the bid sent again, each
- * probe, the party that comes back, the price, the totals and the page, and checks
- * all of it against the tables, which only a program that plays every role can add
- * up.
+ * A whole auction of five parties in one process, held with 33 rounds a probe and
+ * again with 7: four bids, eight listed prices. One bid is split entry by entry. A
+ * line drops while a bid is sent, and the bid is sent again when the others are in.
+ * A party drops off in the middle of a probe; the others go on, and it hears what it
+ * has missed when it comes back. Demand equals supply at four neighbouring prices,
+ * and the middle one is taken, rounded down; the totals there are opened, each fleet
+ * works out its hours, and the settlement page has those of all. Prints the bid sent
+ * again, each probe, the party that comes back, the price, the totals and the page,
+ * and checks all of it against the tables, which only a program that plays every role
+ * can add up.
  *
  *   make
  *   cc -O2 -I../../include auction.c -L../../target/staticlib -lclockivy -o auction
@@ -23,10 +23,10 @@ enum {
     N = 5,
     K = 8,
     BIDS = 4,
-    WAY = CLOCKIVY_ROUNDS_33,
     TABLE = CLOCKIVY_TABLE_LEN(K),
     T = CLOCKIVY_THRESHOLD(N),
-    SHEETS_LEN = 8 * CLOCKIVY_SHEET_LEN(WAY) /* for 8 probes of both searches */
+    /* for 8 probes of both searches, on the way whose sheets are the longer ones */
+    MAX_SHEETS_LEN = 8 * CLOCKIVY_SHEET_LEN(CLOCKIVY_ROUNDS_7)
 };
 
 static const uint64_t prices[K] = {80, 90, 100, 110, 120, 130, 140, 150};
@@ -48,11 +48,24 @@ enum { BY_ENTRIES = 2 };
 /* The bid whose line drops, and the parties that it has reached by then. */
 enum { DROPPED = 1, REACHED = 2 };
 
+/* The party that drops off, from 0, and the most rounds that it misses. */
+enum { AWAY = 3, MOST_MISSED = 25 };
+
 /*
- * The party that drops off, from 0, and for which rounds, counted from 0 over all
- * probes: from the middle of the first probe into the second.
+ * How the auction is held: with how many rounds a probe, and for which of them the
+ * party is away, counted from 0 over all probes: from the middle of the first probe
+ * into the second.
  */
-enum { AWAY = 3, FROM = 20, UNTIL = 45 };
+struct course {
+    uint64_t way;
+    size_t from;
+    size_t until;
+};
+
+static const struct course courses[] = {
+    {CLOCKIVY_ROUNDS_33, 20, 45},
+    {CLOCKIVY_ROUNDS_7, 3, 10}
+};
 
 /* What a desk keeps until every party has its bid. */
 struct desk {
@@ -64,25 +77,26 @@ struct desk {
 struct kept {
     clockivy_session session;
     uint64_t totals[TABLE];
-    uint64_t sheets[SHEETS_LEN];
+    uint64_t sheets[MAX_SHEETS_LEN];
 };
 
 static struct kept parties[N];
 
-/* A round, as it is kept for a party that comes back. */
+/* A round, as it is kept for a party that comes back. Messages have no gaps between. */
 struct heard {
-    uint64_t messages[N];
+    uint64_t messages[N * CLOCKIVY_MAX_MESSAGE_LEN];
     uint8_t present[N];
 };
 
-static struct heard missed[UNTIL - FROM];
+static struct heard missed[MOST_MISSED];
 
 /* Each party opens its session. */
-static void open_sessions(void)
+static void open_sessions(uint64_t way)
 {
+    const size_t sheets_len = clockivy_sheets_len(K, way);
     size_t i;
 
-    check(clockivy_sheets_len(K, WAY) == SHEETS_LEN, "the sheets are too few");
+    check(sheets_len <= MAX_SHEETS_LEN, "there is no room for the sheets");
     for (i = 0; i < N; i++) {
         struct kept *const kept = &parties[i];
         clockivy_seat seat;
@@ -90,9 +104,9 @@ static void open_sessions(void)
         seat.n = N;
         seat.own = i + 1;
         seat.k = K;
-        seat.way = WAY;
+        seat.way = way;
         done(clockivy_session_open(&kept->session, &seat, kept->totals, TABLE,
-                                   kept->sheets, SHEETS_LEN), "open");
+                                   kept->sheets, sheets_len), "open");
     }
 }
 
@@ -208,32 +222,35 @@ static void collect_bids(void)
 }
 
 /* The dealer draws and writes every party's sheets, and each receives its own. */
-static void deal(void)
+static void deal(uint64_t way)
 {
-    static uint64_t sheets[N * SHEETS_LEN];
+    static uint64_t sheets[N * MAX_SHEETS_LEN];
+    const size_t len = clockivy_sheets_len(K, way);
     size_t i;
 
-    done(clockivy_draw_sheets(N, K, WAY, sheets, N * SHEETS_LEN,
-                              clockivy_system_source, NULL), "draw_sheets");
+    done(clockivy_draw_sheets(N, K, way, sheets, N * len, clockivy_system_source, NULL),
+         "draw_sheets");
     for (i = 0; i < N; i++)
-        done(clockivy_session_receive(&parties[i].session, sheets + i * SHEETS_LEN, SHEETS_LEN),
-             "receive");
+        done(clockivy_session_receive(&parties[i].session, sheets + i * len, len), "receive");
     clockivy_wipe(sheets, sizeof sheets);
 }
 
-/* A party says its message of the round, which is one word. */
-static uint64_t say(size_t i)
+/* A party says its message of the round, in its own place. */
+static void say(size_t i, struct heard *round)
 {
-    uint64_t message;
+    clockivy_session *const session = &parties[i].session;
+    const size_t len = clockivy_session_message_len(session);
 
-    done(clockivy_session_say(&parties[i].session, &message, 1), "say");
-    return message;
+    done(clockivy_session_say(session, round->messages + i * len, len), "say");
 }
 
 /* A party hears a round. */
 static void hear(size_t i, const struct heard *round)
 {
-    done(clockivy_session_hear(&parties[i].session, round->messages, N, round->present, N),
+    clockivy_session *const session = &parties[i].session;
+
+    done(clockivy_session_hear(session, round->messages,
+                               N * clockivy_session_message_len(session), round->present, N),
          "hear");
 }
 
@@ -242,40 +259,42 @@ static void hear(size_t i, const struct heard *round)
  * the messages and the marks with which the others have heard it. Then it stands
  * where they do, and may be marked again.
  */
-static void come_back(void)
+static void come_back(size_t late)
 {
     const clockivy_party *const back = &parties[AWAY].session.party;
     const clockivy_party *const other = &parties[0].session.party;
     size_t i;
 
-    for (i = 0; i < UNTIL - FROM; i++)
+    for (i = 0; i < late; i++)
         hear(AWAY, &missed[i]);
     check(back->probes == other->probes && back->round == other->round,
           "a party has not come back to where the others are");
-    printf("party %d back: %d rounds heard late\n", AWAY + 1, UNTIL - FROM);
+    printf("party %d back: %d rounds heard late\n", AWAY + 1, (int)late);
 }
 
 /*
  * Each party that is there says its message, and each hears those of all who are.
  * While one is away, the round is kept for it.
  */
-static void exchange_round(size_t number)
+static void exchange_round(const struct course *course, size_t number)
 {
-    const int without = number >= FROM && number < UNTIL;
+    const int without = number >= course->from && number < course->until;
     struct heard round;
     size_t i;
 
-    if (number == UNTIL)
-        come_back();
+    if (number == course->until)
+        come_back(course->until - course->from);
+    memset(&round, 0, sizeof round);
     for (i = 0; i < N; i++) {
         round.present[i] = without && i == AWAY ? 0 : 1;
-        round.messages[i] = round.present[i] ? say(i) : 0;
+        if (round.present[i])
+            say(i, &round);
     }
     for (i = 0; i < N; i++)
         if (round.present[i])
             hear(i, &round);
     if (without)
-        missed[number - FROM] = round;
+        missed[number - course->from] = round;
 }
 
 /* The sum of all bids at a place of their tables. */
@@ -331,7 +350,7 @@ static uint64_t expected_index(void)
 }
 
 /* Probe after probe and then the totals, until party 1 says that it is over. */
-static clockivy_outcome run_rounds(size_t *rounds)
+static clockivy_outcome run_rounds(const struct course *course, size_t *rounds)
 {
     const clockivy_party *const party = &parties[0].session.party;
     clockivy_outcome outcome;
@@ -346,11 +365,11 @@ static clockivy_outcome run_rounds(size_t *rounds)
 
         if (party->round >= CLOCKIVY_ROUND_DEMAND) {
             /* There is a price: two more rounds, for the totals. */
-            exchange_round((*rounds)++);
+            exchange_round(course, (*rounds)++);
             continue;
         }
-        for (i = 0; i < WAY; i++)
-            exchange_round((*rounds)++);
+        for (i = 0; i < course->way; i++)
+            exchange_round(course, (*rounds)++);
         opened = verdict(search, probed, party);
         printf("probe %d index %d verdict %d\n", (int)party->probes, (int)probed, opened);
         check(opened == compared(search, probed), "the verdict is wrong");
@@ -360,7 +379,7 @@ static clockivy_outcome run_rounds(size_t *rounds)
 }
 
 /* Every party has come to the same, and it is what the tables say. */
-static void check_outcomes(const clockivy_outcome *outcome, size_t rounds)
+static void check_outcomes(uint64_t way, const clockivy_outcome *outcome, size_t rounds)
 {
     const uint64_t index = outcome->index;
     size_t i;
@@ -368,7 +387,7 @@ static void check_outcomes(const clockivy_outcome *outcome, size_t rounds)
     check(index == expected_index(), "the answer is wrong");
     check(index == 0 || (outcome->demand == demand(index) && outcome->supply == supply(index)),
           "the totals are wrong");
-    check(rounds == WAY * outcome->probes + (index == 0 ? 0 : 2),
+    check(rounds == way * outcome->probes + (index == 0 ? 0 : 2),
           "the number of rounds is wrong");
     for (i = 0; i < N; i++) {
         clockivy_outcome other;
@@ -424,7 +443,8 @@ static void pin_up(uint64_t price, const uint64_t *amounts)
     check(memcmp(found, amounts, sizeof found) == 0, "the page gives other amounts");
 }
 
-int main(void)
+/* The whole auction. */
+static void hold(const struct course *course)
 {
     static uint64_t amounts[CLOCKIVY_SETTLEMENT_LEN];
     clockivy_outcome outcome;
@@ -432,17 +452,17 @@ int main(void)
     uint64_t reply;
     size_t rounds = 0;
 
-    open_sessions();
+    open_sessions(course->way);
     collect_bids();
-    deal();
-    outcome = run_rounds(&rounds);
-    check_outcomes(&outcome, rounds);
+    deal(course->way);
+    outcome = run_rounds(course, &rounds);
+    check_outcomes(course->way, &outcome, rounds);
 
     reply = clockivy_outcome_price(&outcome, prices, K, &price);
     if (reply == CLOCKIVY_NOT_CLEARED) {
         printf("clears 0 none\n");
         printf("rounds %d\n", (int)rounds);
-        return EXIT_SUCCESS;
+        return;
     }
     done(reply, "outcome_price");
     printf("clears %d %d\n", (int)outcome.index, (int)price);
@@ -450,5 +470,15 @@ int main(void)
     printf("rounds %d\n", (int)rounds);
     share_out(&outcome, amounts);
     pin_up(price, amounts);
+}
+
+int main(void)
+{
+    size_t i;
+
+    for (i = 0; i < sizeof courses / sizeof courses[0]; i++) {
+        printf("%d rounds a probe\n", (int)courses[i].way);
+        hold(&courses[i]);
+    }
     return EXIT_SUCCESS;
 }

@@ -2,20 +2,19 @@
  * Tries clockivy_coins.h: clockivy_draw_below at its edges, with sources whose words
  * are known, that fail at some word, or that are of no use; every refusal of
  * clockivy_draw_bid and clockivy_draw_sheets, and what each leaves; and that drawn bids
- * and sheets, of all numbers of parties, open to what was split and to whole sheets.
+ * and sheets, of all numbers of parties and either way, open to what was split and to
+ * whole sheets.
  */
 #include "check.h"
 #include "clockivy_coins.h"
 #include "field.h"
 
 enum {
-    WAY = CLOCKIVY_ROUNDS_33,
     K = 2,
     MAX_N = CLOCKIVY_MAX_PARTIES,
     TABLE = CLOCKIVY_TABLE_LEN(K),
-    SHEET = CLOCKIVY_SHEET_LEN(WAY),
     SHEETS = 4,
-    SHEETS_LEN = SHEETS * SHEET,
+    MAX_SHEETS_LEN = SHEETS * CLOCKIVY_SHEET_LEN(CLOCKIVY_ROUNDS_7),
     DRAWS = 4096 /* from the system at each limit */
 };
 
@@ -171,7 +170,7 @@ static void try_wipe(void)
 }
 
 static uint64_t shares[MAX_N * TABLE];
-static uint64_t sheets[MAX_N * SHEETS_LEN];
+static uint64_t sheets[MAX_N * MAX_SHEETS_LEN];
 
 /* Whether every word is this one. */
 static int all_are(const uint64_t *words, size_t len, uint64_t word)
@@ -248,44 +247,48 @@ static void no_sheets(uint64_t n, uint64_t k, uint64_t way, size_t len,
     const uint64_t left = number == CLOCKIVY_COIN_OUT_OF_RANGE ? UINT64_MAX : 88;
     size_t i;
 
-    for (i = 0; i < MAX_N * SHEETS_LEN; i++)
+    for (i = 0; i < MAX_N * MAX_SHEETS_LEN; i++)
         sheets[i] = 88;
     check(clockivy_draw_sheets(n, k, way, sheets, len, source, state) == number,
           "sheets are drawn, or refused with another number");
     check(all_are(sheets, len, left), "refused sheets have left something else");
-    check(all_are(sheets + len, MAX_N * SHEETS_LEN - len, 88),
+    check(all_are(sheets + len, MAX_N * MAX_SHEETS_LEN - len, 88),
           "refused sheets have written past what was lent");
     cases++;
 }
 
-static void try_sheets(void)
+static void try_sheets(uint64_t way)
 {
-    enum { N = 5, LEN = N * SHEETS_LEN };
+    enum { N = 5 };
+    const uint64_t other = way == CLOCKIVY_ROUNDS_7 ? CLOCKIVY_ROUNDS_33 : CLOCKIVY_ROUNDS_7;
+    const size_t len = N * clockivy_sheets_len(K, way);
     /* The words that the source is asked for at each probe; eight bytes make one. */
-    const unsigned long each = CLOCKIVY_DEAL_WORDS_LEN(N)
-        + (CLOCKIVY_DEAL_BYTES_LEN(N, WAY) + 7) / 8;
+    const unsigned long each = (unsigned long)(CLOCKIVY_DEAL_WORDS_LEN(N)
+        + (CLOCKIVY_DEAL_BYTES_LEN(N, way) + 7) / 8);
     struct fixed fixed = {0, 0, 0};
     unsigned long i;
 
-    no_sheets(2, K, WAY, 0, fixed_source, &fixed, CLOCKIVY_OUT_OF_RANGE);
-    no_sheets(10, K, WAY, LEN, fixed_source, &fixed, CLOCKIVY_OUT_OF_RANGE);
-    no_sheets(N, 0, WAY, 0, fixed_source, &fixed, CLOCKIVY_OUT_OF_RANGE);
-    no_sheets(N, CLOCKIVY_MAX_PRICES + 1, WAY, 0, fixed_source, &fixed, CLOCKIVY_OUT_OF_RANGE);
-    no_sheets(N, K, WAY + 1, 0, fixed_source, &fixed, CLOCKIVY_OUT_OF_RANGE);
-    no_sheets(N, K, WAY, 0, fixed_source, &fixed, CLOCKIVY_WRONG_LENGTH);
-    no_sheets(N, K, WAY, LEN - 1, fixed_source, &fixed, CLOCKIVY_WRONG_LENGTH);
-    no_sheets(N, K, WAY, LEN + 1, fixed_source, &fixed, CLOCKIVY_WRONG_LENGTH);
-    no_sheets(N, K, WAY, SHEETS_LEN, fixed_source, &fixed, CLOCKIVY_WRONG_LENGTH);
+    no_sheets(2, K, way, 0, fixed_source, &fixed, CLOCKIVY_OUT_OF_RANGE);
+    no_sheets(10, K, way, len, fixed_source, &fixed, CLOCKIVY_OUT_OF_RANGE);
+    no_sheets(N, 0, way, 0, fixed_source, &fixed, CLOCKIVY_OUT_OF_RANGE);
+    no_sheets(N, CLOCKIVY_MAX_PRICES + 1, way, 0, fixed_source, &fixed, CLOCKIVY_OUT_OF_RANGE);
+    no_sheets(N, K, way + 1, 0, fixed_source, &fixed, CLOCKIVY_OUT_OF_RANGE);
+    no_sheets(N, K, way - 1, len, fixed_source, &fixed, CLOCKIVY_OUT_OF_RANGE);
+    no_sheets(N, K, way, 0, fixed_source, &fixed, CLOCKIVY_WRONG_LENGTH);
+    no_sheets(N, K, way, len - 1, fixed_source, &fixed, CLOCKIVY_WRONG_LENGTH);
+    no_sheets(N, K, way, len + 1, fixed_source, &fixed, CLOCKIVY_WRONG_LENGTH);
+    no_sheets(N, K, way, len / N, fixed_source, &fixed, CLOCKIVY_WRONG_LENGTH);
+    no_sheets(N, K, other, len, fixed_source, &fixed, CLOCKIVY_WRONG_LENGTH);
     check(fixed.asked == 0, "coins are drawn for a call that is refused");
-    no_sheets(N, K, WAY, LEN, fixed_source, &fixed, CLOCKIVY_COIN_OUT_OF_RANGE);
+    no_sheets(N, K, way, len, fixed_source, &fixed, CLOCKIVY_COIN_OUT_OF_RANGE);
     check(fixed.asked == each, "a probe of zeros is not the last");
     fixed.word = UINT64_MAX;
-    no_sheets(N, K, WAY, LEN, fixed_source, &fixed, CLOCKIVY_COIN_OUT_OF_RANGE);
+    no_sheets(N, K, way, len, fixed_source, &fixed, CLOCKIVY_COIN_OUT_OF_RANGE);
     for (i = 1; i <= SHEETS * each; i++) {
         struct faulty fails = {0, 0, 0, 0};
 
         fails.fails_at = i;
-        no_sheets(N, K, WAY, LEN, faulty_source, &fails, CLOCKIVY_COIN_OUT_OF_RANGE);
+        no_sheets(N, K, way, len, faulty_source, &fails, CLOCKIVY_COIN_OUT_OF_RANGE);
         check(fails.asked == i, "a source that has failed is asked again");
     }
     /* Zeros for one of the probes, and all but one of its words. */
@@ -294,10 +297,10 @@ static void try_sheets(void)
 
         zeros.zeros_from = i * each + 1;
         zeros.zeros_to = (i + 1) * each;
-        no_sheets(N, K, WAY, LEN, faulty_source, &zeros, CLOCKIVY_COIN_OUT_OF_RANGE);
+        no_sheets(N, K, way, len, faulty_source, &zeros, CLOCKIVY_COIN_OUT_OF_RANGE);
         zeros.asked = 0;
         zeros.zeros_from++;
-        done(clockivy_draw_sheets(N, K, WAY, sheets, LEN, faulty_source, &zeros),
+        done(clockivy_draw_sheets(N, K, way, sheets, len, faulty_source, &zeros),
              "draw_sheets");
         check(zeros.asked == SHEETS * each, "another number of words is drawn");
     }
@@ -341,25 +344,30 @@ static uint8_t opened_byte(const uint64_t *words, size_t further, uint64_t first
 }
 
 /* A sheet opens to a mask below 2^58, the bits of the mask, and triples. */
-static void check_sheet(const uint64_t *sheet, uint64_t first, uint64_t t, uint64_t mask)
+static void check_sheet(const uint64_t *sheet, uint64_t way, uint64_t first, uint64_t t,
+                        uint64_t mask)
 {
+    const size_t len = CLOCKIVY_SHEET_LEN(way);
+    const size_t further = clockivy_sheets_len(K, way);
     size_t i;
 
-    check(opened(sheet, SHEETS_LEN, first, t) == mask && mask < CLOCKIVY_MASK_LIMIT,
+    check(opened(sheet, further, first, t) == mask && mask < CLOCKIVY_MASK_LIMIT,
           "the masks do not open");
     for (i = 1; i <= 33; i++)
-        check(opened_byte(sheet + i, SHEETS_LEN, first, t) == ((mask >> (i - 1)) & 1),
+        check(opened_byte(sheet + i, further, first, t) == ((mask >> (i - 1)) & 1),
               "a bit of the mask is another");
-    for (i = 34; i < SHEET; i += 3)
-        check(byte_times(opened_byte(sheet + i, SHEETS_LEN, first, t),
-                         opened_byte(sheet + i + 1, SHEETS_LEN, first, t))
-              == opened_byte(sheet + i + 2, SHEETS_LEN, first, t), "a triple is none");
+    for (i = 34; i < len; i += 3)
+        check(byte_times(opened_byte(sheet + i, further, first, t),
+                         opened_byte(sheet + i + 1, further, first, t))
+              == opened_byte(sheet + i + 2, further, first, t), "a triple is none");
 }
 
 /* Whichever t + 1 neighbours open, what they open is the same. */
-static void try_opening(uint64_t n)
+static void try_opening(uint64_t n, uint64_t way)
 {
     const uint64_t t = CLOCKIVY_THRESHOLD(n);
+    const size_t len = CLOCKIVY_SHEET_LEN(way);
+    const size_t further = clockivy_sheets_len(K, way);
     uint64_t masks[SHEETS];
     uint64_t first;
     size_t i;
@@ -367,10 +375,10 @@ static void try_opening(uint64_t n)
 
     done(clockivy_draw_bid(n, K, table, TABLE, shares, (size_t)n * TABLE,
                            clockivy_system_source, NULL), "draw_bid");
-    done(clockivy_draw_sheets(n, K, WAY, sheets, (size_t)n * SHEETS_LEN,
+    done(clockivy_draw_sheets(n, K, way, sheets, (size_t)n * further,
                               clockivy_system_source, NULL), "draw_sheets");
     for (i = 0; i < SHEETS; i++) {
-        masks[i] = opened(sheets + i * SHEET, SHEETS_LEN, 1, t);
+        masks[i] = opened(sheets + i * len, further, 1, t);
         for (j = 0; j < i; j++)
             check(masks[i] != masks[j], "two probes have one mask");
     }
@@ -378,7 +386,7 @@ static void try_opening(uint64_t n)
         for (i = 0; i < TABLE; i++)
             check(opened(shares + i, TABLE, first, t) == table[i], "a bid is another");
         for (i = 0; i < SHEETS; i++)
-            check_sheet(sheets + i * SHEET, first, t, masks[i]);
+            check_sheet(sheets + i * len, way, first, t, masks[i]);
         cases++;
     }
 }
@@ -391,9 +399,12 @@ int main(void)
     try_system();
     try_wipe();
     try_bids();
-    try_sheets();
-    for (n = 3; n <= MAX_N; n++)
-        try_opening(n);
+    try_sheets(CLOCKIVY_ROUNDS_33);
+    try_sheets(CLOCKIVY_ROUNDS_7);
+    for (n = 3; n <= MAX_N; n++) {
+        try_opening(n, CLOCKIVY_ROUNDS_33);
+        try_opening(n, CLOCKIVY_ROUNDS_7);
+    }
     printf("%d cases of drawing\n", cases);
     return EXIT_SUCCESS;
 }

@@ -1,9 +1,9 @@
 /*
  * What buyers get at the price. Runs whole auctions of three parties and four
- * prices: the paper's bids, buyers who get a part each, no bids, no demand at the
- * price, and no price. Each fill is held against the tables, by a record and by the
- * totals alone, and before the end there is none. Then tries every refusal of
- * clockivy_fill and clockivy_cleared_fill, in their order, and what comes before the
+ * prices, on either way: the paper's bids, buyers who get a part each, no bids, no
+ * demand at the price, and no price. Each fill is held against the tables, by a record
+ * and by the totals alone, and before the end there is none. Then tries every refusal
+ * of clockivy_fill and clockivy_cleared_fill, in their order, and what comes before the
  * length of a record that clockivy_add and clockivy_hear are lent.
  */
 #include "check.h"
@@ -12,17 +12,17 @@
 enum {
     N = 3,
     K = 4,
-    WAY = CLOCKIVY_ROUNDS_33,
     TABLE = CLOCKIVY_TABLE_LEN(K),
-    SHEETS_LEN = 6 * CLOCKIVY_SHEET_LEN(WAY),
-    MOST = 4
+    MAX_SHEETS_LEN = 6 * CLOCKIVY_SHEET_LEN(CLOCKIVY_ROUNDS_7),
+    MOST = 4,
+    LONGER = CLOCKIVY_RECORD_LEN + 1
 };
 
 /* What one party keeps. */
 struct kept {
     clockivy_session session;
     uint64_t totals[TABLE];
-    uint64_t sheets[SHEETS_LEN];
+    uint64_t sheets[MAX_SHEETS_LEN];
 };
 
 static struct kept parties[N];
@@ -74,27 +74,27 @@ static int fills;
 static int refusals;
 
 /* All parties with the bids added and the sheets dealt. */
-static void open_all(size_t number)
+static void open_all(size_t number, uint64_t way)
 {
     static uint64_t shares[N * TABLE];
-    static uint64_t sheets[N * SHEETS_LEN];
+    static uint64_t sheets[N * MAX_SHEETS_LEN];
+    const size_t len = clockivy_sheets_len(K, way);
     clockivy_seat seat;
     size_t i;
     size_t j;
 
     seat.n = N;
     seat.k = K;
-    seat.way = WAY;
-    done(clockivy_draw_sheets(N, K, WAY, sheets, N * SHEETS_LEN,
-                              clockivy_system_source, NULL), "draw_sheets");
+    seat.way = way;
+    done(clockivy_draw_sheets(N, K, way, sheets, N * len, clockivy_system_source, NULL),
+         "draw_sheets");
     for (i = 0; i < N; i++) {
         struct kept *const kept = &parties[i];
 
         seat.own = i + 1;
         done(clockivy_session_open(&kept->session, &seat, kept->totals, TABLE,
-                                   kept->sheets, SHEETS_LEN), "open");
-        done(clockivy_session_receive(&kept->session, sheets + i * SHEETS_LEN, SHEETS_LEN),
-             "receive");
+                                   kept->sheets, len), "open");
+        done(clockivy_session_receive(&kept->session, sheets + i * len, len), "receive");
     }
     for (j = 0; j < cases[number].bids; j++) {
         done(clockivy_draw_bid(N, K, cases[number].tables[j], TABLE, shares, N * TABLE,
@@ -109,13 +109,14 @@ static void open_all(size_t number)
 static void exchange_round(void)
 {
     static const uint8_t present[N] = {1, 1, 1};
-    uint64_t messages[N];
+    const size_t len = clockivy_session_message_len(&parties[0].session);
+    uint64_t messages[N * CLOCKIVY_MAX_MESSAGE_LEN];
     size_t i;
 
     for (i = 0; i < N; i++)
-        done(clockivy_session_say(&parties[i].session, &messages[i], 1), "say");
+        done(clockivy_session_say(&parties[i].session, messages + i * len, len), "say");
     for (i = 0; i < N; i++)
-        done(clockivy_session_hear(&parties[i].session, messages, N, present, N), "hear");
+        done(clockivy_session_hear(&parties[i].session, messages, N * len, present, N), "hear");
 }
 
 /* What was written by a call that is refused with this number: nothing. */
@@ -206,15 +207,26 @@ static void fill_all(size_t number, const clockivy_party *party)
     refused_by(party, CLOCKIVY_MAX_AMOUNT + 1, CLOCKIVY_AMOUNT_TOO_LARGE);
 }
 
+/* Whether a record holds no share and no opened sum. */
+static int holds_none(const clockivy_party *party)
+{
+    uint64_t any = party->sum | party->carry;
+    size_t i;
+
+    for (i = 0; i < CLOCKIVY_PAIRS_LEN; i++)
+        any |= party->pairs[i];
+    return any == 0;
+}
+
 /* One of the auctions, to its end. */
-static void run(size_t number)
+static void run(size_t number, uint64_t way)
 {
     const uint64_t index = cases[number].index;
     clockivy_outcome outcome;
     uint64_t rounds = 0;
     size_t i;
 
-    open_all(number);
+    open_all(number, way);
     while (clockivy_session_outcome(&parties[0].session, &outcome) == CLOCKIVY_OUT_OF_TURN) {
         refused_by(&parties[0].session.party, 0, CLOCKIVY_NOT_CLEARED);
         exchange_round();
@@ -225,11 +237,11 @@ static void run(size_t number)
 
         done(clockivy_session_outcome(&parties[i].session, &outcome), "outcome");
         check(outcome.index == index, "the answer is wrong");
-        check(rounds == WAY * outcome.probes + (index == 0 ? 0 : 2),
+        check(rounds == way * outcome.probes + (index == 0 ? 0 : 2),
               "the number of rounds is wrong");
         check(outcome.demand == cases[number].demand && outcome.supply == cases[number].supply,
               "the totals are wrong");
-        check(party->sum == 0 && party->carry == 0, "a record that is over holds a share");
+        check(holds_none(party), "a record that is over holds a share");
         if (index == 0) {
             check(party->round == 1, "there are totals without a price");
             refused_by(party, 0, CLOCKIVY_NOT_CLEARED);
@@ -241,38 +253,65 @@ static void run(size_t number)
     }
 }
 
-/* Every refusal by a record, and which comes first. */
-static void try_refusals(void)
+/* Records of another length, that of version 1 among them. */
+static const size_t lengths[] = {0, 10, 31, CLOCKIVY_RECORD_LEN - 1, LONGER};
+
+enum { LENGTHS = sizeof lengths / sizeof lengths[0] };
+
+/* Fields of a record that is over which are out of range, each by itself. */
+static void try_fields(const clockivy_party *over)
 {
-    static const size_t lengths[] = {0, 10, 26, 29, 30, 32};
+    static const uint64_t rounds[] = {0, 1, 7, 8, 33, 37, UINT64_MAX};
+    static const uint64_t no_ways[] = {0, 1, 6, 8, 32, 34, UINT64_MAX};
+    clockivy_party party = *over;
+    size_t i;
+
+    for (i = 0; i < sizeof rounds / sizeof rounds[0]; i++) {
+        party.round = rounds[i];
+        refused_by(&party, CLOCKIVY_MAX_AMOUNT + 1, CLOCKIVY_OUT_OF_RANGE);
+    }
+    party = *over;
+    for (i = 0; i < sizeof no_ways / sizeof no_ways[0]; i++) {
+        party.last = no_ways[i];
+        refused_by(&party, CLOCKIVY_MAX_AMOUNT + 1, CLOCKIVY_OUT_OF_RANGE);
+    }
+    party = *over;
+    for (i = 0; i < CLOCKIVY_PAIRS_LEN; i++) {
+        party.pairs[i] = 256;
+        refused_by(&party, CLOCKIVY_MAX_AMOUNT + 1, CLOCKIVY_OUT_OF_RANGE);
+        party.pairs[i] = 255; /* which is a share */
+    }
+    filled(&party, 7, 5, 5);
+    party = *over;
+    party.demand = 14;
+    refused_by(&party, 0, CLOCKIVY_OUT_OF_RANGE);
+}
+
+/* Every refusal by a record, and which comes first. */
+static void try_refusals(uint64_t way)
+{
     const uint64_t large = CLOCKIVY_MAX_AMOUNT + 1;
-    uint64_t words[32];
+    uint64_t words[LONGER];
     clockivy_party party;
     size_t i;
 
     memset(words, 0xFF, sizeof words);
-    for (i = 0; i < sizeof lengths / sizeof lengths[0]; i++)
+    for (i = 0; i < LENGTHS; i++)
         refused(words, lengths[i], large, CLOCKIVY_WRONG_LENGTH);
 
     /* The paper's auction, in which 20 are wanted and 15 for sale. */
-    run(0);
+    run(0, way);
     party = parties[0].session.party;
     filled(&party, 20, 15, 0);
     filled(&party, 7, 5, 5);
     filled(&party, CLOCKIVY_MAX_AMOUNT, 3145727, 5);
     refused_by(&party, large, CLOCKIVY_AMOUNT_TOO_LARGE);
     refused_by(&party, UINT64_MAX, CLOCKIVY_AMOUNT_TOO_LARGE);
+    try_fields(&party);
     party.round = CLOCKIVY_ROUND_DEMAND;
     refused_by(&party, large, CLOCKIVY_NOT_CLEARED);
     party.round = CLOCKIVY_ROUND_SUPPLY;
     refused_by(&party, large, CLOCKIVY_NOT_CLEARED);
-    party.round = WAY;
-    refused_by(&party, large, CLOCKIVY_OUT_OF_RANGE);
-    party.round = CLOCKIVY_ROUND_OVER + 1;
-    refused_by(&party, large, CLOCKIVY_OUT_OF_RANGE);
-    party.round = CLOCKIVY_ROUND_OVER;
-    party.demand = 14;
-    refused_by(&party, 0, CLOCKIVY_OUT_OF_RANGE);
 }
 
 /* The same by D and S: where they are no totals, that comes first. */
@@ -303,17 +342,16 @@ static void try_totals(void)
 /* A bidder's number and marks need no record: 1 where they are none, and then 2. */
 static void try_lengths(void)
 {
-    static const size_t lengths[] = {0, 10, 26, 29, 30, 32};
     static const uint64_t bidders[] = {1, 1000, 0, 1001};
     static const uint8_t marks[] = {0, 1, 2, 7};
     const uint64_t word = 0;
-    uint64_t words[32];
+    uint64_t words[LONGER];
     uint64_t total = 0;
     size_t i;
     size_t j;
 
     memset(words, 0xFF, sizeof words);
-    for (i = 0; i < sizeof lengths / sizeof lengths[0]; i++)
+    for (i = 0; i < LENGTHS; i++)
         for (j = 0; j < sizeof marks; j++) {
             const uint64_t number = j < 2 ? CLOCKIVY_WRONG_LENGTH : CLOCKIVY_OUT_OF_RANGE;
 
@@ -324,19 +362,23 @@ static void try_lengths(void)
                   "a hearing was not refused, or with another number");
             refusals += 2;
         }
-    for (i = 0; i < 32; i++)
+    for (i = 0; i < LONGER; i++)
         check(words[i] == UINT64_MAX && total == 0, "a refused call has written something");
 }
 
 int main(void)
 {
+    static const uint64_t ways[] = {CLOCKIVY_ROUNDS_33, CLOCKIVY_ROUNDS_7};
     size_t number;
+    size_t i;
 
-    for (number = 0; number < CASES; number++)
-        run(number);
-    try_refusals();
+    for (i = 0; i < sizeof ways / sizeof ways[0]; i++) {
+        for (number = 0; number < CASES; number++)
+            run(number, ways[i]);
+        try_refusals(ways[i]);
+    }
     try_totals();
     try_lengths();
-    printf("%d auctions, %d fills, %d refusals\n", (int)CASES, fills, refusals);
+    printf("%d auctions on either way, %d fills, %d refusals\n", (int)CASES, fills, refusals);
     return EXIT_SUCCESS;
 }

@@ -3,12 +3,12 @@
  *
  *   make gfshare
  *
- * A sheet holds a party's shares of 126 bytes, each made from t coefficients.
- * libgfshare makes as many: one share of a secret of 126 bytes, where t + 1
- * shares give the secret back. Its coefficients and those of the sheet are drawn
- * before the clock starts. clockivy_deal does more than that: it judges its
- * lengths and coins, shares the mask as an amount, and multiplies alpha and beta
- * of 31 triples.
+ * A sheet holds a party's shares of 126 bytes, or of 219 for 7 rounds a probe, each
+ * made from t coefficients. libgfshare makes as many: one share of a secret of so
+ * many bytes, where t + 1 shares give the secret back. Its coefficients and those of
+ * the sheet are drawn before the clock starts. clockivy_deal does more than that: it
+ * judges its lengths and coins, shares the mask as an amount, and multiplies alpha
+ * and beta of 31 triples, or of 62.
  *
  * In each repeat the two take turns, one short batch of calls after the other,
  * and the shortest batch of each is kept: the one that the rest of the machine
@@ -32,9 +32,8 @@
 enum {
     OWN = 2, /* the party whose shares are timed */
     MAX_N = CLOCKIVY_MAX_PARTIES,
-    WAY = CLOCKIVY_ROUNDS_33,
-    SHEET = CLOCKIVY_SHEET_LEN(WAY),
-    BYTES = SHEET - 1, /* shared in a sheet, after the mask */
+    MAX_SHEET = CLOCKIVY_SHEET_LEN(CLOCKIVY_ROUNDS_7),
+    MAX_BYTES = MAX_SHEET - 1, /* shared in a sheet, after the mask */
     REPEATS = 31,
     BATCHES = 25 /* of each side in a repeat */
 };
@@ -46,11 +45,14 @@ static const long most_calls = 1L << 20;
 /* What the calls are given and lent. */
 struct inputs {
     uint64_t n;
+    uint64_t way;
+    size_t sheet_len;
+    unsigned int shared; /* bytes in a sheet */
     uint64_t words[CLOCKIVY_DEAL_WORDS_LEN(MAX_N)];
-    uint8_t bytes[CLOCKIVY_DEAL_BYTES_LEN(MAX_N, WAY)];
-    uint64_t sheet[SHEET];
+    uint8_t bytes[CLOCKIVY_DEAL_BYTES_LEN(MAX_N, CLOCKIVY_ROUNDS_7)];
+    uint64_t sheet[MAX_SHEET];
     gfshare_ctx *sharing;
-    unsigned char share[BYTES];
+    unsigned char share[MAX_BYTES];
 };
 
 /* Marsaglia's xorshift64, with a fixed seed: the times do not ask for more. */
@@ -77,10 +79,11 @@ static void draw_bytes(unsigned char *bytes, unsigned int count)
 static void deal(struct inputs *inputs)
 {
     const uint64_t n = inputs->n;
+    const uint64_t way = inputs->way;
 
-    done(clockivy_deal(n, OWN, inputs->words, CLOCKIVY_DEAL_WORDS_LEN(n),
-                       inputs->bytes, CLOCKIVY_DEAL_BYTES_LEN(n, WAY),
-                       inputs->sheet, SHEET), "clockivy_deal");
+    done(clockivy_deal(n, OWN, way, inputs->words, CLOCKIVY_DEAL_WORDS_LEN(n),
+                       inputs->bytes, CLOCKIVY_DEAL_BYTES_LEN(n, way),
+                       inputs->sheet, inputs->sheet_len), "clockivy_deal");
 }
 
 static void share(struct inputs *inputs)
@@ -89,21 +92,24 @@ static void share(struct inputs *inputs)
 }
 
 /* Draws what both are given. */
-static void draw_inputs(struct inputs *inputs, uint64_t n, unsigned char *points,
-                        unsigned char *secret)
+static void draw_inputs(struct inputs *inputs, uint64_t n, uint64_t way,
+                        unsigned char *points, unsigned char *secret)
 {
     const uint64_t t = CLOCKIVY_THRESHOLD(n);
     uint64_t i;
 
     inputs->n = n;
+    inputs->way = way;
+    inputs->sheet_len = CLOCKIVY_SHEET_LEN(way);
+    inputs->shared = (unsigned int)inputs->sheet_len - 1;
     inputs->words[0] = draw() % CLOCKIVY_MASK_LIMIT;
     for (i = 1; i <= t; i++)
         inputs->words[i] = draw() % CLOCKIVY_PRIME;
-    draw_bytes(inputs->bytes, (unsigned int)CLOCKIVY_DEAL_BYTES_LEN(n, WAY));
+    draw_bytes(inputs->bytes, (unsigned int)CLOCKIVY_DEAL_BYTES_LEN(n, way));
 
-    draw_bytes(secret, BYTES);
+    draw_bytes(secret, inputs->shared);
     inputs->sharing = gfshare_ctx_init_enc(points, (unsigned int)n, (unsigned char)(t + 1),
-                                           BYTES);
+                                           inputs->shared);
     check(inputs->sharing != NULL, "libgfshare makes no sharing");
     gfshare_ctx_enc_setsecret(inputs->sharing, secret);
 }
@@ -113,10 +119,10 @@ static void check_deal(struct inputs *inputs)
 {
     size_t i;
 
-    clockivy_blank(inputs->sheet, SHEET);
+    clockivy_blank(inputs->sheet, inputs->sheet_len);
     deal(inputs);
     check(inputs->sheet[0] < CLOCKIVY_PRIME, "no share of the mask was dealt");
-    for (i = 1; i < SHEET; i++)
+    for (i = 1; i < inputs->sheet_len; i++)
         check(inputs->sheet[i] <= 255, "a share of a byte was not dealt");
 }
 
@@ -125,13 +131,13 @@ static void check_share(struct inputs *inputs, unsigned char *points,
                         const unsigned char *secret)
 {
     const unsigned int needed = (unsigned int)CLOCKIVY_THRESHOLD(inputs->n) + 1;
-    gfshare_ctx *opening = gfshare_ctx_init_dec(points, needed, BYTES);
-    unsigned char opened[BYTES];
+    gfshare_ctx *opening = gfshare_ctx_init_dec(points, needed, inputs->shared);
+    unsigned char opened[MAX_BYTES];
     unsigned int i;
 
     check(opening != NULL, "libgfshare makes no opening");
     for (i = 0; i < needed; i++) {
-        unsigned char other[BYTES];
+        unsigned char other[MAX_BYTES];
 
         gfshare_ctx_enc_getshare(inputs->sharing, (unsigned char)i, other);
         gfshare_ctx_dec_giveshare(opening, (unsigned char)i, other);
@@ -142,7 +148,7 @@ static void check_share(struct inputs *inputs, unsigned char *points,
     memset(opened, 0, sizeof opened);
     gfshare_ctx_dec_extract(opening, opened);
     gfshare_ctx_free(opening);
-    check(memcmp(opened, secret, BYTES) == 0,
+    check(memcmp(opened, secret, inputs->shared) == 0,
           "libgfshare's shares do not give the secret back");
 }
 
@@ -230,24 +236,33 @@ static void measure(struct inputs *inputs)
     printf("\n");
 }
 
-int main(void)
+/* The table of a way. */
+static void print_table(uint64_t way)
 {
     uint64_t n;
 
-    gfshare_fill_rand = draw_bytes;
-    printf("A party's sheet beside a share of %d bytes, one thread\n\n", (int)BYTES);
+    printf("A party's sheet for %d rounds a probe beside a share of %d bytes, one thread\n\n",
+           (int)way, CLOCKIVY_SHEET_LEN(way) - 1);
     printf("| parties | clockivy_deal | libgfshare | ratio | least | greatest |\n");
     printf("|---:|---:|---:|---:|---:|---:|\n");
     for (n = 3; n <= MAX_N; n += 2) {
         unsigned char points[MAX_N] = {1, 2, 3, 4, 5, 6, 7, 8, 9};
-        unsigned char secret[BYTES];
+        unsigned char secret[MAX_BYTES];
         struct inputs inputs;
 
-        draw_inputs(&inputs, n, points, secret);
+        draw_inputs(&inputs, n, way, points, secret);
         check_deal(&inputs);
         check_share(&inputs, points, secret);
         measure(&inputs);
         gfshare_ctx_free(inputs.sharing);
     }
+}
+
+int main(void)
+{
+    gfshare_fill_rand = draw_bytes;
+    print_table(CLOCKIVY_ROUNDS_33);
+    printf("\n");
+    print_table(CLOCKIVY_ROUNDS_7);
     return EXIT_SUCCESS;
 }

@@ -521,7 +521,7 @@ static void deal(struct auction *auction, size_t probe, const clockivy_drawn *dr
     uint64_t own;
 
     for (own = 1; own <= n; own++)
-        done(clockivy_deal(n, own, drawn->words, 1 + t, drawn->bytes,
+        done(clockivy_deal(n, own, WAY, drawn->words, 1 + t, drawn->bytes,
                            (size_t)CLOCKIVY_DEAL_BYTES_LEN(n, WAY),
                            auction->dealt[own - 1] + probe * SHEET, SHEET), "deal");
 }

@@ -1,12 +1,12 @@
-//! A whole auction of five parties in one process: four bids, eight listed
-//! prices. A line drops while a bid is sent, and the bid is sent again when the
-//! others are in. A party drops off in the middle of a probe; the others go on, and
-//! it hears what it has missed when it comes back. Demand equals supply at four
-//! neighbouring prices, and the middle one is taken, rounded down; the totals there
-//! are opened, each fleet works out its hours, and the settlement page has those of
-//! all. Prints the bid sent again, each probe, the party that comes back, the price,
-//! the totals and the page, and checks all of it against the tables, which only a
-//! program that plays every role can add up.
+//! A whole auction of five parties in one process, held with 33 rounds a probe and
+//! again with 7: four bids, eight listed prices. A line drops while a bid is sent, and
+//! the bid is sent again when the others are in. A party drops off in the middle of a
+//! probe; the others go on, and it hears what it has missed when it comes back. Demand
+//! equals supply at four neighbouring prices, and the middle one is taken, rounded
+//! down; the totals there are opened, each fleet works out its hours, and the
+//! settlement page has those of all. Prints the bid sent again, each probe, the party
+//! that comes back, the price, the totals and the page, and checks all of it against
+//! the tables, which only a program that plays every role can add up.
 //!
 //! The coins come from the operating system, so that no two auctions have the same
 //! shares. What is printed does not depend on them.
@@ -21,7 +21,6 @@ use clockivy::{
 
 const N: u64 = 5;
 const K: u64 = 8;
-const WAY: Way = Way::Rounds33;
 const PRICES: [u64; K as usize] = [80, 90, 100, 110, 120, 130, 140, 150];
 /// Demand at each price, then supply at each, in tenths of an hour.
 const BIDS: [[u64; 2 * K as usize]; 4] = [
@@ -36,16 +35,27 @@ const BIDDERS: [u64; BIDS.len()] = [17, 4, 640, MAX_BIDS];
 /// The bid whose line drops, and the parties that it has reached by then.
 const DROPPED: usize = 1;
 const REACHED: usize = 2;
-/// The party that drops off, from 0, and for which rounds, counted from 0 over all
-/// probes: from the middle of the first probe into the second.
+/// The party that drops off, from 0.
 const AWAY: usize = 3;
-const WITHOUT: Range<u64> = 20..45;
+/// In how many rounds a probe comes to its verdict, and for which of them the party is
+/// away, counted from 0 over all probes: from the middle of the first probe into the
+/// second. In 7 rounds that is between two levels.
+const COURSES: [(Way, Range<u64>); 2] = [(Way::Rounds33, 20..45), (Way::Rounds7, 3..10)];
 
 fn main() -> Result<(), Refusal> {
-    let sessions = collect_bids()?;
-    let mut meeting = Meeting::new(sessions)?;
+    for (way, without) in COURSES {
+        println!("{} rounds a probe", way.rounds());
+        hold(way, without)?;
+    }
+    Ok(())
+}
+
+/// The whole auction, without one party in these rounds.
+fn hold(way: Way, without: Range<u64>) -> Result<(), Refusal> {
+    let sessions = collect_bids(way)?;
+    let mut meeting = Meeting::new(sessions, way, without)?;
     while let Some((search, index)) = meeting.probe_to_come() {
-        for _ in 0..WAY.rounds() {
+        for _ in 0..way.rounds() {
             meeting.exchange()?;
         }
         report_probe(search, index, meeting.parties[0].record());
@@ -58,16 +68,11 @@ fn main() -> Result<(), Refusal> {
 }
 
 /// Every party opens its session, and every desk sends its bid to all of them.
-fn collect_bids() -> Result<Vec<Collecting>, Refusal> {
+fn collect_bids(way: Way) -> Result<Vec<Collecting>, Refusal> {
+    let (n, k) = (N, K);
     let mut sessions = Vec::new();
-    for own in 1..=N {
-        let seat = Seat {
-            n: N,
-            own,
-            k: K,
-            way: WAY,
-        };
-        sessions.push(Collecting::open(seat)?);
+    for own in 1..=n {
+        sessions.push(Collecting::open(Seat { n, own, k, way })?);
     }
     // What each desk keeps until every party has its bid.
     let desks = BIDS.iter().map(split_bid).collect::<Result<Vec<_>, _>>()?;
@@ -128,6 +133,9 @@ type Round = Vec<Option<Message>>;
 /// The parties while they speak.
 struct Meeting {
     parties: Vec<Speaking>,
+    way: Way,
+    /// The rounds in which a party is away.
+    without: Range<u64>,
     /// The rounds that were held, of all probes.
     rounds: u64,
     /// Those that the party which is away has missed.
@@ -137,13 +145,15 @@ struct Meeting {
 impl Meeting {
     /// The dealer deals every party its sheets, and from here on there are no more
     /// bids.
-    fn new(sessions: Vec<Collecting>) -> Result<Meeting, Refusal> {
-        let dealt = Dealing::new(N, K, WAY, &mut System)?.deal_all()?;
+    fn new(sessions: Vec<Collecting>, way: Way, without: Range<u64>) -> Result<Meeting, Refusal> {
+        let dealt = Dealing::new(N, K, way, &mut System)?.deal_all()?;
         let dealt = sessions.into_iter().zip(dealt);
         Ok(Meeting {
             parties: dealt
                 .map(|(session, sheets)| session.speak(sheets))
                 .collect(),
+            way,
+            without,
             rounds: 0,
             missed: Vec::new(),
         })
@@ -153,17 +163,17 @@ impl Meeting {
     fn probe_to_come(&self) -> Option<(u64, u64)> {
         let party = &self.parties[0];
         let is_over = matches!(party.outcome(), Ok(Some(_)));
-        let is_searching = party.record().round <= WAY.rounds() && !is_over;
+        let is_searching = party.record().round <= self.way.rounds() && !is_over;
         is_searching.then(|| (party.record().search, party.index()))
     }
 
     /// Each party that is there says its message, and each hears those of all who are.
     /// While one is away, the round is kept for it.
     fn exchange(&mut self) -> Result<(), Refusal> {
-        if self.rounds == WITHOUT.end {
+        if self.rounds == self.without.end {
             self.come_back()?;
         }
-        let without = WITHOUT.contains(&self.rounds);
+        let without = self.without.contains(&self.rounds);
         let is_there = |place: usize| !(without && place == AWAY);
         let say = |(place, party): (usize, &Speaking)| match is_there(place) {
             true => party.say().map(Some),
@@ -226,7 +236,7 @@ fn report_outcome(meeting: &Meeting) -> Result<(), Refusal> {
         return Ok(());
     };
     assert_eq!(index.get(), expected_index());
-    assert_eq!(meeting.rounds, WAY.rounds() * probes + 2);
+    assert_eq!(meeting.rounds, meeting.way.rounds() * probes + 2);
     let [wanted, offered] = [cleared.demand(), cleared.supply()];
     assert_eq!(
         [wanted, offered],

@@ -69,9 +69,9 @@
 //! * A **party** has a [`Seat`] and keeps a session. The session is [`Collecting`]
 //!   first, and adds each bid's shares, once for each bidder: it keeps a roll of who is
 //!   in. Then it is [`Speaking`]: it says a [`Message`] and hears those of all who are
-//!   present, t + 1 or more of the n, in the rounds of each probe of [two
-//!   searches](callers#the-two-searches) and two more for the totals, until there is an
-//!   [`Outcome`].
+//!   present, t + 1 or more of the n, in the rounds, 33 or 7 by the [`Way`], of each
+//!   probe of [two searches](callers#the-two-searches) and two more for the totals,
+//!   until there is an [`Outcome`].
 //! * A bidder that **buys** at the price is told the totals there ([`Cleared`]), and
 //!   works out by them how many hours it gets.
 //! * Whoever may see every bidder's hours lays them out as a page for a board
@@ -129,7 +129,7 @@ const _: () = assert!(usize::BITS == u64::BITS, "libexchange.a is for x86-64");
 
 /// The version of the calls and of the record's words that this crate is for. With a
 /// library of another one no session, bid or dealing begins.
-pub const VERSION: u64 = 1;
+pub const VERSION: u64 = 2;
 /// What is no share, no coin and no word of a sheet, and is refused wherever it is lent
 /// as one. Whatever is to be written starts from it, and not from zeros, which pass.
 pub const BLANK: u64 = u64::MAX;
@@ -159,8 +159,12 @@ pub const OVER_ROUND: u64 = 36;
 pub const TOTAL_LIMIT: u64 = 1 << 32;
 /// The words of a roll, with a bit for each bidder's number.
 pub const ROLL_LEN: usize = 16;
-/// The words of a party's record: ten numbers, the roll, then five numbers.
-pub const RECORD_LEN: usize = 10 + ROLL_LEN + 5;
+/// The words of a record that keep a party's shares of pairs, on the way of 7 rounds.
+pub const PAIRS_LEN: usize = 32;
+/// The words of a party's record: ten numbers, the roll, six numbers, then the pairs.
+pub const RECORD_LEN: usize = 10 + ROLL_LEN + 6 + PAIRS_LEN;
+/// The words of the longest message.
+pub const MAX_MESSAGE_LEN: usize = Way::Rounds7.message_len(2);
 /// The words of a stored session before its record: the version, and which of the two
 /// types it is.
 pub const STORED_HEAD: usize = 2;
@@ -205,8 +209,8 @@ pub const fn deal_words_len(n: u64) -> usize {
     1 + threshold(n)
 }
 
-/// The number of bytes that the dealer draws for one probe, or `usize::MAX` where that
-/// is no length: 126t + 62 where it takes 33 rounds.
+/// The number of bytes that the dealer draws for one probe of this [`Way`], or
+/// `usize::MAX` where that is no length.
 pub const fn deal_bytes_len(n: u64, way: Way) -> usize {
     way.deal_bytes_len(threshold(n))
 }
@@ -296,7 +300,7 @@ pub fn split_entry(
 ///
 /// `words` are the mask, below [`MASK_LIMIT`], and its t coefficients below
 /// [`PRIME`]. `bytes` are t coefficients for each of bits 1 to 33 of the mask;
-/// then, for each of rounds 2 to 32, alpha, beta and t coefficients each for
+/// then, for each product of the way, alpha, beta and t coefficients each for
 /// alpha, beta and their product. Call this once for each party with the same
 /// words and bytes, and draw new ones for each of [`sheet_count`]`(k)` probes: used
 /// again, or not drawn at all, they
@@ -306,9 +310,9 @@ pub fn split_entry(
 /// [`WrongLength`](Refusal::WrongLength),
 /// [`CoinOutOfRange`](Refusal::CoinOutOfRange), also where all words and bytes are 0.
 pub fn deal(seat: Seat, words: &[u64], bytes: &[u8], sheet: &mut [u64]) -> Result<(), Refusal> {
-    let Seat { n, own, .. } = seat;
+    let Seat { n, own, k: _, way } = seat;
     let words = blank_unless_drawn(words, bytes);
-    result(words::deal(n, own, &words, bytes, sheet))
+    result(words::deal(n, own, way.rounds(), &words, bytes, sheet))
 }
 
 /// The words or, where they and the bytes are all 0, as many blanks: zeros alone were

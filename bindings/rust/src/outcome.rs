@@ -5,7 +5,7 @@ use std::num::NonZeroU64;
 
 use crate::record::Record;
 use crate::refusal::{result, Refusal};
-use crate::{words, OVER_ROUND, RECORD_LEN, ROLL_LEN};
+use crate::{words, Way, OVER_ROUND, PAIRS_LEN, RECORD_LEN, ROLL_LEN};
 
 /// What an auction comes to. The highest index at which total demand is at least total
 /// supply is in the record, as [`first`](Record::first).
@@ -191,6 +191,8 @@ impl Cleared {
             first_probes: 1,
             demand: self.demand,
             supply: self.supply,
+            last: Way::Rounds33.rounds(),
+            pairs: [0; PAIRS_LEN],
         }
         .to_words()
     }

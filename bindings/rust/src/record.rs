@@ -1,20 +1,21 @@
 use std::fmt;
 
 use crate::refusal::{result, Refusal};
-use crate::{DEMAND_ROUND, RECORD_LEN, ROLL_LEN};
+use crate::words::place;
+use crate::{Way, DEMAND_ROUND, PAIRS_LEN, RECORD_LEN, ROLL_LEN};
 
 /// Where a party stands in an auction, for reading: a session shows its record
 /// and keeps it.
 ///
 /// What stands here is no secret among the parties, and before they speak they compare
-/// their rolls, which have to be the same. The record's words have two numbers more,
-/// which a session shows to nobody: the opened sum of the probe, which the dealer must
-/// not see, and this party's share of the carry. Both are 0 again when the auction is
-/// over.
+/// their rolls, which have to be the same. The record's words have more, which a
+/// session shows to nobody: the opened sum of the probe, which the dealer must not see,
+/// and this party's shares of the carry and of pairs. All are 0 again when the auction
+/// is over.
 ///
 /// What `lo` and `hi` tell depends on which of [the two
 /// searches](crate::callers#the-two-searches) is on. A probe's verdict can be read off
-/// the record that round 33 leaves. In the first search it is 1 where `lo` is
+/// the record that its last round leaves. In the first search it is 1 where `lo` is
 /// the probed index now or, if that probe has ended the search, where `first`
 /// is; in the second, where `hi` is.
 #[derive(PartialEq, Eq)]
@@ -38,13 +39,13 @@ pub struct Record {
     pub hi: u64,
     /// Probes done, of both searches.
     pub probes: u64,
-    /// The round to be said and heard next: 1 to 33 in a probe, then, where the
+    /// The round to be said and heard next: 1 to `last` in a probe, then, where the
     /// searches have ended with a price, [34](crate::DEMAND_ROUND) and
     /// [35](crate::SUPPLY_ROUND), and [36](crate::OVER_ROUND) when it is over.
     pub round: u64,
     /// The opened sum of this probe's round 1, else 0.
     pub(crate) sum: u64,
-    /// This party's share of the carry, else 0.
+    /// This party's share of the carry, else 0: on the way of 33 rounds.
     pub(crate) carry: u64,
     /// Who is in: bidder b is bit b % 64 of word b / 64, the lowest being bit
     /// 0. See [`has_bid`](Record::has_bid).
@@ -60,9 +61,19 @@ pub struct Record {
     pub demand: u64,
     /// Total supply at the price, at most `demand`; 0 until round 35 opens it.
     pub supply: u64,
+    /// The last round of a probe, 33 or 7. See [`way`](Record::way).
+    pub last: u64,
+    /// This party's shares of pairs, and zeros behind them: on the way of 7 rounds.
+    pub(crate) pairs: [u64; PAIRS_LEN],
 }
 
 impl Record {
+    /// In how many rounds a probe comes to its verdict. There is no way where `last` is
+    /// out of range, and then every call refuses the record.
+    pub fn way(&self) -> Option<Way> {
+        Way::from_rounds(self.last)
+    }
+
     /// Whether the roll marks this bidder. Any number may be asked about.
     pub fn has_bid(&self, bidder: u64) -> bool {
         let word = self.roll.get((bidder / 64) as usize);
@@ -79,11 +90,18 @@ impl Record {
         }
     }
 
+    /// The words of a message of the current round. Where there is no way, any number
+    /// of them is refused.
+    pub(crate) fn message_len(&self) -> usize {
+        self.way().map_or(1, |way| way.message_len(self.round))
+    }
+
     /// The record as words, in the order of the fields.
     pub(crate) fn to_words(&self) -> [u64; RECORD_LEN] {
         let mut words = [0; RECORD_LEN];
-        let (numbers, rest) = words.split_at_mut(10);
-        let (roll, others) = rest.split_at_mut(ROLL_LEN);
+        let (numbers, rest) = words.split_at_mut(place::ROLL);
+        let (roll, rest) = rest.split_at_mut(ROLL_LEN);
+        let (others, pairs) = rest.split_at_mut(place::PAIRS - place::SEARCH);
         numbers.copy_from_slice(&[
             self.n,
             self.own,
@@ -103,31 +121,33 @@ impl Record {
             self.first_probes,
             self.demand,
             self.supply,
+            self.last,
         ]);
+        pairs.copy_from_slice(&self.pairs);
         words
     }
 
     /// The record of these words. Each call judges what they say.
     pub(crate) fn from_words(words: [u64; RECORD_LEN]) -> Record {
-        let [n, own, k, bids, lo, hi, probes, round, sum, carry, rest @ ..] = words;
-        let [roll @ .., search, first, first_probes, demand, supply] = rest;
         Record {
-            n,
-            own,
-            k,
-            bids,
-            lo,
-            hi,
-            probes,
-            round,
-            sum,
-            carry,
-            roll,
-            search,
-            first,
-            first_probes,
-            demand,
-            supply,
+            n: words[place::N],
+            own: words[place::OWN],
+            k: words[place::K],
+            bids: words[place::BIDS],
+            lo: words[place::LO],
+            hi: words[place::HI],
+            probes: words[place::PROBES],
+            round: words[place::ROUND],
+            sum: words[place::SUM],
+            carry: words[place::CARRY],
+            roll: std::array::from_fn(|offset| words[place::ROLL + offset]),
+            search: words[place::SEARCH],
+            first: words[place::FIRST],
+            first_probes: words[place::FIRST_PROBES],
+            demand: words[place::DEMAND],
+            supply: words[place::SUPPLY],
+            last: words[place::LAST],
+            pairs: std::array::from_fn(|offset| words[place::PAIRS + offset]),
         }
     }
 
@@ -140,7 +160,7 @@ impl Record {
     }
 }
 
-/// Shows neither the sum nor the carry.
+/// Shows neither the sum nor the shares of the carry and of pairs.
 impl fmt::Debug for Record {
     fn fmt(&self, f: &mut fmt::Formatter<'_>) -> fmt::Result {
         f.debug_struct("Record")
@@ -157,6 +177,7 @@ impl fmt::Debug for Record {
             .field("first_probes", &self.first_probes)
             .field("demand", &self.demand)
             .field("supply", &self.supply)
+            .field("last", &self.last)
             .finish_non_exhaustive()
     }
 }

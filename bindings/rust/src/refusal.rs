@@ -9,14 +9,14 @@ use crate::{words, VERSION};
 #[derive(Clone, Copy, Debug, PartialEq, Eq, Hash)]
 #[non_exhaustive]
 pub enum Refusal {
-    /// 1: `n`, `own`, `k`, the entry's or the bidder's number is outside its
-    /// range, or a field of the record is, or the version or the type of a
-    /// stored session, or a mark of who was present is above 1, or the price of a
-    /// settlement page; `bids` is not the number of marks on the roll, or the roll
-    /// marks a number outside 1 to 1,000; the numbers of the two searches do not
-    /// fit, as where the first has ended and the second has not begun; the round is
-    /// none of those that the searches have come to; or total supply is above total
-    /// demand.
+    /// 1: `n`, `own`, `k`, the last round of a probe, the entry's or the bidder's
+    /// number is outside its range, or a field of the record is, or the version or
+    /// the type of a stored session, or a mark of who was present is above 1, or the
+    /// price of a settlement page; `bids` is not the number of marks on the roll, or
+    /// the roll marks a number outside 1 to 1,000; the numbers of the two searches do
+    /// not fit, as where the first has ended and the second has not begun; the round
+    /// is none of those that the searches have come to; or total supply is above
+    /// total demand.
     OutOfRange = 1,
     /// 2: a slice has not the length that the call states.
     WrongLength = 2,
@@ -37,8 +37,8 @@ pub enum Refusal {
     /// 9: the message in the party's own place is not what the party says, and
     /// the party is marked as present.
     OwnMessageDiffers = 9,
-    /// 10: a message of those who were present is out of range, or no polynomial
-    /// of degree at most t passes through all of theirs.
+    /// 10: a word of those who were present is out of range, or no polynomial of degree
+    /// at most t passes through what they said.
     Inconsistent = 10,
     /// 11: the opened sum of round 1 is outside its range; or a total that is
     /// opened in round 34 or 35 is 2^32 or more, or supply would be above demand.

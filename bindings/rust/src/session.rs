@@ -9,10 +9,7 @@ use crate::outcome::Outcome;
 use crate::record::Record;
 use crate::refusal::{check_library, result, Refusal};
 use crate::secret::Secret;
-use crate::{table_len, words, Seat, Sheets, MAX_PRICES, RECORD_LEN, VERSION};
-
-/// The words of a message.
-const MESSAGE_LEN: usize = 1;
+use crate::{table_len, words, Seat, Sheets, MAX_MESSAGE_LEN, MAX_PRICES, RECORD_LEN, VERSION};
 
 /// What a stored session says of itself where it collects.
 const COLLECTING: u64 = 0;
@@ -82,13 +79,14 @@ impl Collecting {
     ///
     /// Where the library that was linked is of another [version](VERSION).
     pub fn open(seat: Seat) -> Result<Collecting, Refusal> {
-        let Seat { n, own, k, way: _ } = seat;
+        let Seat { n, own, k, way } = seat;
         check_library();
         // What is out of range is judged before the length, so no room is made for it.
         let length = if k > MAX_PRICES { 0 } else { table_len(k) };
         let mut totals = Secret::filled(0, length);
         let mut record = [0; RECORD_LEN];
-        result(words::open(n, own, k, &mut totals, &mut record))?;
+        let last = way.rounds();
+        result(words::open(n, own, k, last, &mut totals, &mut record))?;
         Ok(Collecting {
             record: Record::from_words(record),
             totals,
@@ -200,16 +198,27 @@ pub struct Speaking {
     sheets: Sheets,
 }
 
-/// What a party says in one round: its words, which every party hears and the dealer
-/// must not see.
-#[derive(Clone, Copy, Debug, PartialEq, Eq)]
-pub struct Message([u64; MESSAGE_LEN]);
+/// What a party says in one round: its words, as many as the [way](crate::Way) has for
+/// the round, which every party hears and the dealer must not see.
+#[derive(Clone, Copy, PartialEq, Eq)]
+pub struct Message {
+    /// The words, and zeros behind them.
+    words: [u64; MAX_MESSAGE_LEN],
+    length: usize,
+}
 
 impl Deref for Message {
     type Target = [u64];
 
     fn deref(&self) -> &[u64] {
-        &self.0
+        &self.words[..self.length]
+    }
+}
+
+/// Shows the words.
+impl fmt::Debug for Message {
+    fn fmt(&self, f: &mut fmt::Formatter<'_>) -> fmt::Result {
+        f.debug_tuple("Message").field(&&self[..]).finish()
     }
 }
 
@@ -219,15 +228,16 @@ impl Speaking {
     ///
     /// Refused: [`OutOfRange`](Refusal::OutOfRange),
     /// [`WrongLength`](Refusal::WrongLength) where the sheets are those of another
-    /// number of prices,
+    /// number of prices or of the other way,
     /// [`OutOfTurn`](Refusal::OutOfTurn),
     /// [`ShareOutOfRange`](Refusal::ShareOutOfRange).
     pub fn say(&self) -> Result<Message, Refusal> {
         let record = self.record.to_words();
-        let mut message = 0;
-        let reply = words::say(&record, &self.totals, self.sheets.words(), &mut message);
+        let (mut words, length) = ([0; MAX_MESSAGE_LEN], self.record.message_len());
+        let said = &mut words[..length];
+        let reply = words::say(&record, &self.totals, self.sheets.words(), said);
         result(reply)?;
-        Ok(Message([message]))
+        Ok(Message { words, length })
     }
 
     /// Takes the messages of the current round, of those who were present, and
@@ -238,8 +248,9 @@ impl Speaking {
     /// totals](crate::callers#hours-at-the-price).
     ///
     /// There is a place for each of the n parties, party 1's first: its message, as a
-    /// [`Message`] or as the words that were received, or `None` where it was away. Any t + 1 messages open the round. All parties hear
-    /// it with the same ones present, each of which has heard every round before: see
+    /// [`Message`] or as the words that were received, or `None` where it was away. Any
+    /// t + 1 messages open the round. All parties hear it with the same ones present,
+    /// each of which has heard every round before: see
     /// [a party that drops off](crate::callers#a-party-that-drops-off).
     ///
     /// ```
@@ -268,7 +279,8 @@ impl Speaking {
     /// ```
     ///
     /// Refused: [`OutOfRange`](Refusal::OutOfRange),
-    /// [`WrongLength`](Refusal::WrongLength),
+    /// [`WrongLength`](Refusal::WrongLength), also where a message has not as many words
+    /// as the round,
     /// [`OutOfTurn`](Refusal::OutOfTurn),
     /// [`TooFewPresent`](Refusal::TooFewPresent),
     /// [`ShareOutOfRange`](Refusal::ShareOutOfRange), for the totals only where
@@ -279,7 +291,7 @@ impl Speaking {
     /// [`VerdictNotBit`](Refusal::VerdictNotBit).
     pub fn hear(&mut self, round: &[Option<impl Deref<Target = [u64]>>]) -> Result<(), Refusal> {
         let present: Vec<u8> = round.iter().map(|said| said.is_some().into()).collect();
-        let messages = side_by_side(round);
+        let messages = side_by_side(round, self.record.message_len());
         let (totals, sheets) = (&self.totals, self.sheets.words());
         self.record
             .step(|record| words::hear(record, totals, sheets, &messages, &present))
@@ -362,15 +374,16 @@ impl fmt::Debug for Speaking {
     }
 }
 
-/// All messages of a round, with something in the places of those who were away. Where
-/// a message has another length there are none, so that the call refuses them.
-fn side_by_side(round: &[Option<impl Deref<Target = [u64]>>]) -> Vec<u64> {
-    let mut messages = Vec::with_capacity(round.len() * MESSAGE_LEN);
+/// All messages of a round, each of this length, with something in the places of those
+/// who were away. Where a message has another length there are none, so that the call
+/// refuses them.
+fn side_by_side(round: &[Option<impl Deref<Target = [u64]>>], length: usize) -> Vec<u64> {
+    let mut messages = Vec::with_capacity(round.len() * length);
     for said in round {
         match said.as_deref() {
-            Some(words) if words.len() != MESSAGE_LEN => return Vec::new(),
+            Some(words) if words.len() != length => return Vec::new(),
             Some(words) => messages.extend_from_slice(words),
-            None => messages.extend([0; MESSAGE_LEN]),
+            None => messages.extend(std::iter::repeat_n(0, length)),
         }
     }
     messages

@@ -21,7 +21,8 @@
 #![allow(unsafe_code)]
 
 /// The places of a record's words. The roll has [`ROLL_LEN`](crate::ROLL_LEN) words
-/// from its place on, and each of the others one.
+/// from its place on, the pairs [`PAIRS_LEN`](crate::PAIRS_LEN), and each of the others
+/// one.
 pub mod place {
     use crate::ROLL_LEN;
 
@@ -57,6 +58,10 @@ pub mod place {
     pub const DEMAND: usize = SEARCH + 3;
     /// Total supply at the price, or 0.
     pub const SUPPLY: usize = SEARCH + 4;
+    /// The last round of a probe, 33 or 7.
+    pub const LAST: usize = SEARCH + 5;
+    /// The first word of the party's shares of pairs.
+    pub const PAIRS: usize = LAST + 1;
 }
 
 extern "C" {
@@ -65,6 +70,7 @@ extern "C" {
         n: u64,
         own: u64,
         k: u64,
+        last: u64,
         totals: *mut u64,
         totals_len: usize,
         record: *mut u64,
@@ -96,6 +102,7 @@ extern "C" {
     fn clockivy_deal(
         n: u64,
         own: u64,
+        last: u64,
         words: *const u64,
         words_len: usize,
         bytes: *const u8,
@@ -119,7 +126,8 @@ extern "C" {
         totals_len: usize,
         sheets: *const u64,
         sheets_len: usize,
-        message: *mut u64,
+        messages: *mut u64,
+        messages_len: usize,
     ) -> u64;
     fn clockivy_hear(
         record: *mut u64,
@@ -170,13 +178,15 @@ pub fn version() -> u64 {
     unsafe { clockivy_version() }
 }
 
-/// Zeroes `totals` and writes a new session's record. Refusals 1, 2.
-pub fn open(n: u64, own: u64, k: u64, totals: &mut [u64], record: &mut [u64]) -> u64 {
+/// Zeroes `totals` and writes a new session's record. `last` is the last round of its
+/// probes, 33 or 7. Refusals 1, 2.
+pub fn open(n: u64, own: u64, k: u64, last: u64, totals: &mut [u64], record: &mut [u64]) -> u64 {
     unsafe {
         clockivy_open(
             n,
             own,
             k,
+            last,
             totals.as_mut_ptr(),
             totals.len(),
             record.as_mut_ptr(),
@@ -229,12 +239,14 @@ pub fn split_entry(
     }
 }
 
-/// Writes one party's preprocessing for one probe. Refusals 1, 2, 5.
-pub fn deal(n: u64, own: u64, words: &[u64], bytes: &[u8], sheet: &mut [u64]) -> u64 {
+/// Writes one party's preprocessing for one probe, whose last round is `last`, 33 or 7.
+/// Refusals 1, 2, 5.
+pub fn deal(n: u64, own: u64, last: u64, words: &[u64], bytes: &[u8], sheet: &mut [u64]) -> u64 {
     unsafe {
         clockivy_deal(
             n,
             own,
+            last,
             words.as_ptr(),
             words.len(),
             bytes.as_ptr(),
@@ -261,8 +273,9 @@ pub fn add(record: &mut [u64], totals: &mut [u64], bidder: u64, shares: &[u64]) 
     }
 }
 
-/// Writes the party's message of the current round. Refusals 1, 2, 3, 8.
-pub fn say(record: &[u64], totals: &[u64], sheets: &[u64], message: &mut u64) -> u64 {
+/// Writes the words that the party says in the current round, into as many as
+/// [`Way::message_len`](crate::Way::message_len) has for it. Refusals 1, 2, 3, 8.
+pub fn say(record: &[u64], totals: &[u64], sheets: &[u64], messages: &mut [u64]) -> u64 {
     unsafe {
         clockivy_say(
             record.as_ptr(),
@@ -271,13 +284,15 @@ pub fn say(record: &[u64], totals: &[u64], sheets: &[u64], message: &mut u64) ->
             totals.len(),
             sheets.as_ptr(),
             sheets.len(),
-            message,
+            messages.as_mut_ptr(),
+            messages.len(),
         )
     }
 }
 
-/// Steps the record by the messages of those whose mark in `present` is 1; the
-/// others may be anything. Refusals 1, 2, 3, 15, 8 to 12.
+/// Steps the record by the words of those whose mark in `present` is 1; the others may
+/// be anything. Party 1's words of the round stand first, then party 2's, and so on.
+/// Refusals 1, 2, 3, 15, 8 to 12.
 pub fn hear(
     record: &mut [u64],
     totals: &[u64],

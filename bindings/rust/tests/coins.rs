@@ -6,16 +6,14 @@ use std::cell::RefCell;
 use clockivy::words::place;
 use clockivy::{
     deal, deal_bytes_len, deal_words_len, sheet_count, sheets_len, split, table_len, threshold,
-    words, Collecting, Dealing, Entries, Outcome, Refusal, Sheets, Source, Speaking, System, BLANK,
-    MASK_LIMIT, MAX_PRICES, PARTIES, PRIME, STORED_HEAD,
+    words, Collecting, Dealing, Entries, Outcome, Refusal, Sheets, Source, Speaking, System, Way,
+    BLANK, MASK_LIMIT, MAX_PRICES, PARTIES, PRIME, STORED_HEAD,
 };
 use clockivy_testing::{
     choices, collected, count, fixed, from_all, go_on_until, plain_round, round, seat, sheets,
-    Plain, WAY,
+    Plain, WAY, WAYS,
 };
 
-/// The words of a sheet.
-const SHEET: usize = WAY.sheet_len();
 /// The words in a row that are of no use before a source is given up.
 const TRIES: usize = 64;
 
@@ -189,10 +187,12 @@ fn what_no_dealing_is_made_of() {
 
 #[test]
 fn the_source_of_a_dealing_is_not_shown() {
-    let mut source = fixed(7);
-    let dealing = Dealing::new(5, 8, WAY, &mut source).unwrap();
-    let shown = "Dealing { n: 5, k: 8, way: Rounds33, .. }";
-    assert_eq!(format!("{dealing:?}"), shown);
+    for way in WAYS {
+        let mut source = fixed(7);
+        let dealing = Dealing::new(5, 8, way, &mut source).unwrap();
+        let shown = format!("Dealing {{ n: 5, k: 8, way: {way:?}, .. }}");
+        assert_eq!(format!("{dealing:?}"), shown);
+    }
 }
 
 /// A field, by which shares are opened: that of the prime, or that of the bytes.
@@ -283,19 +283,27 @@ fn the_fields_are_those_of_the_paper() {
 
 /// The words that the dealer draws for a probe, where none is drawn again: a byte's are
 /// drawn eight at a time.
-fn words_of_a_probe(n: u64) -> usize {
-    deal_words_len(n) + deal_bytes_len(n, WAY).div_ceil(8)
+fn words_of_a_probe(n: u64, way: Way) -> usize {
+    deal_words_len(n) + deal_bytes_len(n, way).div_ceil(8)
+}
+
+/// The same parties and prices on either way.
+fn on_both_ways<const LEN: usize>(
+    cases: [(u64, u64); LEN],
+) -> impl Iterator<Item = (u64, u64, Way)> {
+    let both = |(n, k)| WAYS.map(|way| (n, k, way));
+    cases.into_iter().flat_map(both)
 }
 
 /// The sheets of all parties, and the words that were drawn for them.
-fn dealt(n: u64, k: u64, source: &mut impl Source) -> (Vec<Sheets>, Vec<u64>) {
+fn dealt(n: u64, k: u64, way: Way, source: &mut impl Source) -> (Vec<Sheets>, Vec<u64>) {
     let drawn = RefCell::new(Vec::new());
     let mut recording = || {
         let word = source.bits()?;
         drawn.borrow_mut().push(word);
         Some(word)
     };
-    let dealing = Dealing::new(n, k, WAY, &mut recording).unwrap();
+    let dealing = Dealing::new(n, k, way, &mut recording).unwrap();
     let sheets = dealing.deal_all().unwrap();
     (sheets, drawn.into_inner())
 }
@@ -308,12 +316,14 @@ fn shares_in(sheets: &[Sheets], place: usize) -> Vec<u64> {
 /// The mask and its bits, and the factors and the products, in each of the sheets.
 #[test]
 fn sheets_open_to_what_was_drawn() {
-    for (n, k) in [(3, 1), (4, 2), (5, 8), (6, 1), (7, 3), (8, 1), (9, 1)] {
-        let (sheets, drawn) = dealt(n, k, &mut fixed(n));
-        assert_eq!(drawn.len(), sheet_count(k) * words_of_a_probe(n));
-        for (probe, words) in drawn.chunks(words_of_a_probe(n)).enumerate() {
-            let amount = |place| AMOUNTS.secret(&shares_in(&sheets, probe * SHEET + place));
-            let byte = |place| BYTES.secret(&shares_in(&sheets, probe * SHEET + place));
+    let cases = [(3, 1), (4, 2), (5, 8), (6, 1), (7, 3), (8, 1), (9, 1)];
+    for (n, k, way) in on_both_ways(cases) {
+        let (sheets, drawn) = dealt(n, k, way, &mut fixed(n));
+        assert_eq!(drawn.len(), sheet_count(k) * words_of_a_probe(n, way));
+        for (probe, words) in drawn.chunks(words_of_a_probe(n, way)).enumerate() {
+            let first = probe * way.sheet_len();
+            let amount = |place| AMOUNTS.secret(&shares_in(&sheets, first + place));
+            let byte = |place| BYTES.secret(&shares_in(&sheets, first + place));
             let mask = amount(0);
             assert_eq!(mask, words[0] % MASK_LIMIT);
             for bit in 0..33 {
@@ -325,7 +335,8 @@ fn sheets_open_to_what_was_drawn() {
             // the coefficients of three bytes.
             let t = threshold(n);
             let factors = bytes[33 * t..].chunks(2 + 3 * t);
-            for (product, factors) in (0..31).zip(factors) {
+            let products = (way.sheet_len() - 34) / 3;
+            for (product, factors) in (0..products).zip(factors) {
                 let [alpha, beta, gamma] = [34, 35, 36].map(|place| byte(3 * product + place));
                 assert_eq!([alpha, beta], [0, 1].map(|it| u64::from(factors[it])));
                 assert_eq!(gamma, (BYTES.times)(alpha, beta));
@@ -338,13 +349,14 @@ fn sheets_open_to_what_was_drawn() {
 /// nor those of the next dealing from the same source.
 #[test]
 fn no_two_sheets_are_alike() {
-    for (n, k) in [(3, 1), (5, 8), (9, 100)] {
+    for (n, k, way) in on_both_ways([(3, 1), (5, 8), (9, 100)]) {
         let mut source = fixed(n);
-        let (one, other) = (dealt(n, k, &mut source).0, dealt(n, k, &mut source).0);
-        let systems = dealt(n, k, &mut System).0;
+        let [one, other] = [(); 2].map(|()| dealt(n, k, way, &mut source).0);
+        let systems = dealt(n, k, way, &mut System).0;
         let all = [one, other, systems];
         let words = all.iter().flatten().map(Sheets::words);
-        let mut sheets: Vec<&[u64]> = words.flat_map(|words| words.chunks(SHEET)).collect();
+        let sheets = words.flat_map(|words| words.chunks(way.sheet_len()));
+        let mut sheets: Vec<&[u64]> = sheets.collect();
         let count = sheets.len();
         assert_eq!(count, 3 * n as usize * sheet_count(k));
         sheets.sort();
@@ -355,7 +367,7 @@ fn no_two_sheets_are_alike() {
 
 /// The parties of an auction whose coins are drawn from these two sources.
 fn parties(
-    (n, k): (u64, u64),
+    (n, k, way): (u64, u64, Way),
     table: &[u64],
     bidder: &mut impl Source,
     dealer: &mut impl Source,
@@ -363,11 +375,11 @@ fn parties(
     let mut shares = vec![BLANK; n as usize * table_len(k)];
     let entries = Entries::new(n, k, table, &mut shares, bidder).unwrap();
     entries.write_all().unwrap();
-    let dealing = Dealing::new(n, k, WAY, dealer).unwrap();
+    let dealing = Dealing::new(n, k, way, dealer).unwrap();
     let shares = shares.chunks(table_len(k));
     let dealt = (1..).zip(shares).zip(dealing.deal_all().unwrap());
     let speak = |((own, shares), sheets): ((u64, &[u64]), Sheets)| {
-        let mut session = Collecting::open(seat(n, own, k)).unwrap();
+        let mut session = Collecting::open(seat(n, own, k, way)).unwrap();
         session.add(1, shares).unwrap();
         session.speak(sheets)
     };
@@ -390,10 +402,10 @@ fn assert_price_2(parties: &[Speaking]) {
 
 #[test]
 fn an_auction_from_drawn_coins_comes_to_its_price() {
-    for n in PARTIES {
+    for (n, k, way) in on_both_ways([3, 4, 5, 6, 7, 8, 9].map(|n| (n, 4))) {
         let mut both = [
-            parties((n, 4), &TABLE, &mut System, &mut System),
-            parties((n, 4), &TABLE, &mut fixed(n), &mut fixed(10 * n)),
+            parties((n, k, way), &TABLE, &mut System, &mut System),
+            parties((n, k, way), &TABLE, &mut fixed(n), &mut fixed(10 * n)),
         ];
         for parties in &mut both {
             while parties[0].outcome() == Ok(None) {
@@ -406,11 +418,11 @@ fn an_auction_from_drawn_coins_comes_to_its_price() {
 
 #[test]
 fn a_dealing_whose_source_fails_at_any_word_is_refused() {
-    for (n, k) in [(3, 1), (4, 2), (9, 1)] {
-        let (_, drawn) = dealt(n, k, &mut fixed(n));
+    for (n, k, way) in on_both_ways([(3, 1), (4, 2), (9, 1)]) {
+        let (_, drawn) = dealt(n, k, way, &mut fixed(n));
         for length in 0..=drawn.len() {
             let mut source = listed(drawn[..length].iter().copied());
-            let dealing = Dealing::new(n, k, WAY, &mut source).unwrap();
+            let dealing = Dealing::new(n, k, way, &mut source).unwrap();
             let refused = dealing.deal_all().err();
             let expected = (length < drawn.len()).then_some(Refusal::CoinOutOfRange);
             assert_eq!(refused, expected);
@@ -432,32 +444,33 @@ fn a_dealing_from_a_source_that_is_stuck_is_refused() {
 }
 
 /// What dealing from these words for each probe replies.
-fn dealt_from(n: u64, k: u64, words: &[u64]) -> Result<Vec<Sheets>, Refusal> {
+fn dealt_from(n: u64, k: u64, way: Way, words: &[u64]) -> Result<Vec<Sheets>, Refusal> {
     let mut source = listed(words.iter().copied());
-    Dealing::new(n, k, WAY, &mut source).unwrap().deal_all()
+    Dealing::new(n, k, way, &mut source).unwrap().deal_all()
 }
 
 /// Zeros for a probe were not drawn, whatever the other probes have. One word that is
 /// none is enough for a probe.
 #[test]
 fn a_dealing_from_zeros_is_refused() {
-    for (n, k) in [(3, 1), (5, 2), (9, 1)] {
-        let (_, drawn) = dealt(n, k, &mut fixed(n));
-        let length = words_of_a_probe(n);
+    for (n, k, way) in on_both_ways([(3, 1), (5, 2), (9, 1)]) {
+        let (_, drawn) = dealt(n, k, way, &mut fixed(n));
+        let length = words_of_a_probe(n, way);
+        let deal = |words: &[u64]| dealt_from(n, k, way, words).err();
         let refused = Some(Refusal::CoinOutOfRange);
-        assert_eq!(dealt_from(n, k, &vec![0; drawn.len()]).err(), refused);
+        assert_eq!(deal(&vec![0; drawn.len()]), refused);
         for probe in 0..sheet_count(k) {
             let mut words = drawn.clone();
             words[probe * length..][..length].fill(0);
-            assert_eq!(dealt_from(n, k, &words).err(), refused);
+            assert_eq!(deal(&words), refused);
             for place in 0..length {
                 let mut words = words.clone();
                 words[probe * length + place] = 1;
-                assert!(dealt_from(n, k, &words).is_ok());
+                assert_eq!(deal(&words), None);
             }
             // What is cut off from a mask does not count.
             words[probe * length] = MASK_LIMIT;
-            assert_eq!(dealt_from(n, k, &words).err(), refused);
+            assert_eq!(deal(&words), refused);
         }
     }
 }
@@ -474,7 +487,7 @@ fn split_by(n: u64, table: &[u64], source: &mut impl Source) -> (Result<(), Refu
 fn assert_added(n: u64, shares: &[u64], expected: Result<(), Refusal>) {
     let length = shares.len() / n as usize;
     for (own, shares) in (1..).zip(shares.chunks(length)) {
-        let mut session = Collecting::open(seat(n, own, length as u64 / 2)).unwrap();
+        let mut session = Collecting::open(seat(n, own, length as u64 / 2, WAY)).unwrap();
         assert_eq!(session.add(1, shares), expected);
     }
 }
@@ -524,8 +537,8 @@ fn entries_from_zeros_are_refused() {
 }
 
 /// What receiving these words replies. Received, they are as they were.
-fn received(k: u64, words: &[u64]) -> Option<Refusal> {
-    match Sheets::received(k, WAY, words) {
+fn received(k: u64, way: Way, words: &[u64]) -> Option<Refusal> {
+    match Sheets::received(k, way, words) {
         Ok(sheets) => {
             assert_eq!(sheets.words(), words);
             None
@@ -536,18 +549,26 @@ fn received(k: u64, words: &[u64]) -> Option<Refusal> {
 
 #[test]
 fn dealt_sheets_are_received() {
-    for (n, k) in [(3, 1), (5, 8), (9, MAX_PRICES)] {
-        for sheets in dealt(n, k, &mut fixed(n)).0 {
-            assert_eq!(received(k, sheets.words()), None);
+    for (n, k, way) in on_both_ways([(3, 1), (5, 8), (9, MAX_PRICES)]) {
+        for sheets in dealt(n, k, way, &mut fixed(n)).0 {
+            assert_eq!(received(k, way, sheets.words()), None);
         }
-        for sheets in dealt(n, k, &mut System).0 {
-            assert_eq!(received(k, sheets.words()), None);
+        for sheets in dealt(n, k, way, &mut System).0 {
+            assert_eq!(received(k, way, sheets.words()), None);
         }
     }
 }
 
 #[test]
 fn received_sheets_are_judged_in_their_order() {
+    for way in WAYS {
+        assert_received_in_order(way);
+    }
+}
+
+fn assert_received_in_order(way: Way) {
+    let received = |k, words: &[u64]| received(k, way, words);
+    let sheet = way.sheet_len();
     // Blanks and zeros, so that all that is judged later is wrong too.
     let mixed = |length: usize| {
         let mut words = vec![0; length];
@@ -555,22 +576,25 @@ fn received_sheets_are_judged_in_their_order() {
         words
     };
     for k in [0, MAX_PRICES + 1, 1 << 32, (1 << 63) + 1, u64::MAX] {
-        for length in [0, 1, sheets_len(1, WAY), sheets_len(k, WAY)] {
+        for length in [0, 1, sheets_len(1, way), sheets_len(k, way)] {
             assert_eq!(received(k, &mixed(length)), Some(Refusal::OutOfRange));
         }
     }
     for k in [1, 2, 7, 8, MAX_PRICES] {
-        let length = sheets_len(k, WAY);
-        let others = [0, 1, SHEET, length / 2, length - SHEET, length - 1];
-        let longer = [length + 1, length + SHEET, 2 * length];
-        for other in others.into_iter().chain(longer) {
+        let length = sheets_len(k, way);
+        let others = [0, 1, sheet, length / 2, length - sheet, length - 1];
+        let longer = [length + 1, length + sheet, 2 * length];
+        // Those of the other way too.
+        let both = WAYS.map(|way| sheets_len(k, way)).into_iter();
+        let of_other = both.filter(|&other| other != length);
+        for other in others.into_iter().chain(longer).chain(of_other) {
             assert_eq!(received(k, &mixed(other)), Some(Refusal::WrongLength));
         }
         let out_of_range = Some(Refusal::ShareOutOfRange);
         assert_eq!(received(k, &mixed(length)), out_of_range);
         assert_eq!(received(k, &vec![0; length]), out_of_range);
         assert_eq!(received(k, &vec![1; length]), out_of_range);
-        let blank = Sheets::blank(k, WAY);
+        let blank = Sheets::blank(k, way);
         assert_eq!(blank.words(), vec![BLANK; length]);
         assert_eq!(received(k, blank.words()), out_of_range);
     }
@@ -578,14 +602,18 @@ fn received_sheets_are_judged_in_their_order() {
 
 #[test]
 fn a_received_word_that_is_no_share() {
-    for k in [1, 4] {
-        let good = sheets(3, 1, k).words().to_vec();
+    for (n, k, way) in on_both_ways([(3, 1), (3, 4)]) {
+        let good = sheets(seat(n, 1, k, way)).words().to_vec();
         for place in 0..good.len() {
-            let limit = if place % SHEET == 0 { PRIME } else { 256 };
+            let limit = if place % way.sheet_len() == 0 {
+                PRIME
+            } else {
+                256
+            };
             let with = |word| {
                 let mut words = good.clone();
                 words[place] = word;
-                received(k, &words)
+                received(k, way, &words)
             };
             for word in [limit, limit + 1, 1 << 63, BLANK - 1, BLANK] {
                 assert_eq!(with(word), Some(Refusal::ShareOutOfRange));
@@ -597,35 +625,41 @@ fn a_received_word_that_is_no_share() {
 
 #[test]
 fn a_received_sheet_of_zeros() {
-    let k = 4;
-    let good = sheets(3, 1, k).words().to_vec();
-    for place in 0..sheet_count(k) {
-        let mut words = good.clone();
-        words[place * SHEET..][..SHEET].fill(0);
-        assert_eq!(received(k, &words), Some(Refusal::ShareOutOfRange));
-        // One word of it is enough.
-        for other in 0..SHEET {
-            let mut words = words.clone();
-            words[place * SHEET + other] = 1;
-            assert_eq!(received(k, &words), None);
+    for (n, k, way) in on_both_ways([(3, 4)]) {
+        let good = sheets(seat(n, 1, k, way)).words().to_vec();
+        let length = way.sheet_len();
+        for place in 0..sheet_count(k) {
+            let mut words = good.clone();
+            words[place * length..][..length].fill(0);
+            let refused = Some(Refusal::ShareOutOfRange);
+            assert_eq!(received(k, way, &words), refused);
+            // One word of it is enough.
+            for other in 0..length {
+                let mut words = words.clone();
+                words[place * length + other] = 1;
+                assert_eq!(received(k, way, &words), None);
+            }
         }
     }
 }
 
 #[test]
 fn a_received_sheet_in_two_places() {
-    let k = 4;
-    let good = sheets(3, 1, k).words().to_vec();
-    for (one, other) in (0..sheet_count(k)).flat_map(|one| (0..one).map(move |other| (one, other)))
-    {
-        let mut words = good.clone();
-        words.copy_within(one * SHEET..(one + 1) * SHEET, other * SHEET);
-        assert_eq!(received(k, &words), Some(Refusal::ShareOutOfRange));
-        // One word that differs is enough.
-        for place in 0..SHEET {
-            let mut words = words.clone();
-            words[other * SHEET + place] ^= 1;
-            assert_eq!(received(k, &words), None);
+    for (n, k, way) in on_both_ways([(3, 4)]) {
+        let good = sheets(seat(n, 1, k, way)).words().to_vec();
+        let length = way.sheet_len();
+        let places = (0..sheet_count(k)).flat_map(|one| (0..one).map(move |other| (one, other)));
+        for (one, other) in places {
+            let mut words = good.clone();
+            words.copy_within(one * length..(one + 1) * length, other * length);
+            let refused = Some(Refusal::ShareOutOfRange);
+            assert_eq!(received(k, way, &words), refused);
+            // One word that differs is enough.
+            for place in 0..length {
+                let mut words = words.clone();
+                words[other * length + place] ^= 1;
+                assert_eq!(received(k, way, &words), None);
+            }
         }
     }
 }
@@ -633,8 +667,9 @@ fn a_received_sheet_in_two_places() {
 /// A session that was given blank sheets says nothing.
 #[test]
 fn blank_sheets_are_refused_where_they_are_spoken_from() {
-    for k in [1, 4] {
-        let mut party = collected(3, 1, k, &[]).speak(Sheets::blank(k, WAY));
+    for (n, k, way) in on_both_ways([(3, 1), (3, 4)]) {
+        let session = collected(seat(n, 1, k, way), &[]);
+        let mut party = session.speak(Sheets::blank(k, way));
         let refused = Err(Refusal::ShareOutOfRange);
         assert_eq!(party.say().map(|_| ()), refused);
         let heard = party.hear(&from_all(&[0; 3]));
@@ -648,11 +683,11 @@ fn blank_sheets_are_refused_where_they_are_spoken_from() {
 #[test]
 fn totals_are_given_away_by_sheets_of_zeros() {
     let base = (1 << 59) + (1 << 32);
-    for n in PARTIES {
+    for (n, way) in PARTIES.flat_map(|n| WAYS.map(|way| (n, way))) {
         let mut parties: Vec<Plain> = (1..=n)
             .map(|own| {
-                let session = collected(n, own, 4, &[(1, &TABLE)]);
-                Plain::resume(&session.store(), &vec![0; sheets_len(4, WAY)])
+                let session = collected(seat(n, own, 4, way), &[(1, &TABLE)]);
+                Plain::resume(&session.store(), &vec![0; sheets_len(4, way)])
             })
             .collect();
         let mut probes = 0;
@@ -685,30 +720,34 @@ fn totals_are_given_away_by_sheets_of_zeros() {
 /// On sheets that were dealt, the opened sum of the same bid is another one each time.
 #[test]
 fn sums_on_dealt_sheets_differ() {
-    let sum = |seed| {
-        let mut parties = parties((3, 4), &TABLE, &mut fixed(1), &mut fixed(seed));
-        go_on_until(&mut parties, 2);
-        parties[0].store()[STORED_HEAD + place::SUM]
-    };
-    let mut sums: Vec<u64> = (0..100).map(sum).collect();
-    sums.sort();
-    sums.dedup();
-    assert_eq!(sums.len(), 100);
+    for way in WAYS {
+        let sum = |seed| {
+            let mut parties = parties((3, 4, way), &TABLE, &mut fixed(1), &mut fixed(seed));
+            go_on_until(&mut parties, 2);
+            parties[0].store()[STORED_HEAD + place::SUM]
+        };
+        let mut sums: Vec<u64> = (0..100).map(sum).collect();
+        sums.sort();
+        sums.dedup();
+        assert_eq!(sums.len(), 100);
+    }
 }
 
 /// A dealer that drew nothing deals sheets of zeros. The call on plain words does not
 /// refuse, and the typed one does, once the rest is right.
 #[test]
 fn coins_of_zeros_deal_sheets_of_zeros() {
-    for n in PARTIES {
-        let (drawn, bytes) = (vec![0; deal_words_len(n)], vec![0; deal_bytes_len(n, WAY)]);
+    for (n, way) in PARTIES.flat_map(|n| WAYS.map(|way| (n, way))) {
+        let (drawn, bytes) = (vec![0; deal_words_len(n)], vec![0; deal_bytes_len(n, way)]);
         for own in 1..=n {
-            let mut sheet = [BLANK; SHEET];
-            assert_eq!(words::deal(n, own, &drawn, &bytes, &mut sheet), 0);
-            assert_eq!(sheet, [0; SHEET]);
+            let mut sheet = vec![BLANK; way.sheet_len()];
+            let dealt = words::deal(n, own, way.rounds(), &drawn, &bytes, &mut sheet);
+            assert_eq!(dealt, 0);
+            assert!(sheet.iter().all(|&word| word == 0));
 
             let deal = |words: &[u64], bytes: &[u8]| {
-                deal(seat(n, own, 1), words, bytes, &mut [BLANK; SHEET])
+                let mut sheet = vec![BLANK; way.sheet_len()];
+                deal(seat(n, own, 1, way), words, bytes, &mut sheet)
             };
             assert_eq!(deal(&drawn, &bytes), Err(Refusal::CoinOutOfRange));
             assert_eq!(deal(&drawn[1..], &bytes), Err(Refusal::WrongLength));
@@ -739,7 +778,8 @@ fn amounts_are_given_away_by_coins_of_zeros() {
             assert_eq!(shares, TABLE);
 
             let mut shares = [BLANK; 8];
-            let mut split = |coins: &[u64]| split(seat(n, own, 4), &TABLE, coins, &mut shares);
+            let seat = seat(n, own, 4, WAY);
+            let mut split = |coins: &[u64]| split(seat, &TABLE, coins, &mut shares);
             assert_eq!(split(&coins), Err(Refusal::CoinOutOfRange));
             assert_eq!(split(&coins[1..]), Err(Refusal::WrongLength));
             for place in 0..coins.len() {

@@ -4,10 +4,15 @@
 use std::cell::Cell;
 
 use clockivy::{
-    coins_len, split, split_entry, table_len, threshold, Collecting, Entries, Refusal, BLANK,
+    coins_len, split, split_entry, table_len, threshold, Collecting, Entries, Refusal, Seat, BLANK,
     MAX_AMOUNT, MAX_PRICES, PARTIES, PRIME,
 };
-use clockivy_testing::seat;
+use clockivy_testing::WAY;
+
+/// The seat of one party of n. To a bid the way makes no difference.
+fn seat(n: u64, own: u64, k: u64) -> Seat {
+    clockivy_testing::seat(n, own, k, WAY)
+}
 
 /// A table that a bidder may bid: demand from the largest amount down, and
 /// supply from 0 up.

@@ -3,11 +3,12 @@
 
 use clockivy::words::place::{DEMAND, FIRST, HI, LO, OWN, ROUND, SEARCH, SUPPLY};
 use clockivy::{
-    table_len, words, Cleared, Collecting, Fill, Outcome, Refusal, Sheets, Speaking, DEMAND_ROUND,
-    MAX_AMOUNT, OVER_ROUND, PRIME, RECORD_LEN, STORED_HEAD, SUPPLY_ROUND, TOTAL_LIMIT,
+    table_len, words, Cleared, Collecting, Fill, Outcome, Refusal, Sheets, Speaking, Way,
+    DEMAND_ROUND, MAX_AMOUNT, OVER_ROUND, PRIME, RECORD_LEN, STORED_HEAD, SUPPLY_ROUND,
+    TOTAL_LIMIT,
 };
 use clockivy_testing::{
-    from_all, from_marked, go_on_until, panel, parts, said, seat, sheets, tables, Bid, Plain, WAY,
+    from_all, from_marked, go_on_until, panel, parts, said, seat, tables, Bid, Plain, WAYS,
 };
 
 const N: u64 = 3;
@@ -17,25 +18,34 @@ const N: u64 = 3;
 const SAMPLE: [[u64; 8]; 2] = [[30, 20, 15, 0, 0, 0, 0, 0], [0, 0, 0, 0, 5, 15, 18, 40]];
 
 /// Three parties with the bids of bidders 1, 2 and so on, about to speak.
-fn parties(k: u64, bids: &[Vec<u64>]) -> Vec<Speaking> {
+fn parties(k: u64, way: Way, bids: &[Vec<u64>]) -> Vec<Speaking> {
     let bids: Vec<Bid> = (1..).zip(bids.iter().map(Vec::as_slice)).collect();
-    panel(N, k, &bids)
+    panel(N, k, way, &bids)
 }
 
 /// Those of the sample.
-fn sample() -> Vec<Speaking> {
-    parties(4, &SAMPLE.map(Vec::from))
+fn sample(way: Way) -> Vec<Speaking> {
+    parties(4, way, &SAMPLE.map(Vec::from))
 }
 
-/// What an auction of these bids comes to, for every party the same.
+/// A session of the sample that was stored. From round 34 on it reads no sheet.
+fn resumed(stored: &[u64], way: Way) -> Speaking {
+    Speaking::resume(stored, Sheets::blank(4, way)).unwrap()
+}
+
+/// What an auction of these bids comes to, for every party and either way the same.
 fn outcome(k: u64, bids: &[Vec<u64>]) -> Outcome {
-    let mut parties = parties(k, bids);
-    go_on_until(&mut parties, OVER_ROUND);
-    let outcome = parties[0].outcome().unwrap().unwrap();
-    for party in &parties {
-        assert_eq!(party.outcome(), Ok(Some(outcome)));
-    }
-    outcome
+    let [found, other] = WAYS.map(|way| {
+        let mut parties = parties(k, way, bids);
+        go_on_until(&mut parties, OVER_ROUND);
+        let outcome = parties[0].outcome().unwrap().unwrap();
+        for party in &parties {
+            assert_eq!(party.outcome(), Ok(Some(outcome)));
+        }
+        outcome
+    });
+    assert_eq!(found, other);
+    found
 }
 
 /// The totals at the price of these bids, and its index.
@@ -150,10 +160,10 @@ fn no_supply() {
 
 #[test]
 fn without_a_price_there_are_no_totals() {
-    for k in [1, 2, 5] {
+    for (k, way) in [1, 2, 5].into_iter().flat_map(|k| WAYS.map(|way| (k, way))) {
         let mut bid = vec![0; table_len(k)];
         bid[k as usize..].fill(1);
-        let mut parties = parties(k, &[bid]);
+        let mut parties = parties(k, way, &[bid]);
         go_on_until(&mut parties, OVER_ROUND);
         for party in &parties {
             let record = party.record();
@@ -197,18 +207,24 @@ fn assert_more_for_sale(k: usize, bids: &[Vec<u64>]) {
 /// Amounts as large as there are, of so many bids as there are.
 #[test]
 fn the_largest_totals() {
+    for way in WAYS {
+        assert_largest_totals(way);
+    }
+}
+
+fn assert_largest_totals(way: Way) {
     let k = 1;
-    let mut session = Collecting::open(seat(N, 1, k)).unwrap();
+    let mut session = Collecting::open(seat(N, 1, k, way)).unwrap();
     for bidder in 1..=1_000 {
         // The coins are 0, so that the shares are the amounts.
         session.add(bidder, &[MAX_AMOUNT; 2]).unwrap();
     }
     const { assert!(1_000 * MAX_AMOUNT < TOTAL_LIMIT) };
     // The session speaks, and both searches have ended at the one price.
-    let mut stored = session.speak(Sheets::blank(k, WAY)).store();
+    let mut stored = session.speak(Sheets::blank(k, way)).store();
     let record = &mut stored[STORED_HEAD..];
     [record[HI], record[ROUND], record[SEARCH], record[FIRST]] = [1, DEMAND_ROUND, 2, 1];
-    let mut party = Speaking::resume(&stored, Sheets::blank(k, WAY)).unwrap();
+    let mut party = Speaking::resume(&stored, Sheets::blank(k, way)).unwrap();
     for _ in 0..2 {
         assert_eq!(*party.say().unwrap(), [1_000 * MAX_AMOUNT]);
         party.hear(&from_all(&[1_000 * MAX_AMOUNT; 3])).unwrap();
@@ -255,8 +271,14 @@ fn totals_by_whoever_was_told_them() {
 /// then the amount; what is refused writes nothing.
 #[test]
 fn a_fill_is_judged_in_its_order() {
+    for way in WAYS {
+        assert_fill_judged(way);
+    }
+}
+
+fn assert_fill_judged(way: Way) {
     let [before, over] = [DEMAND_ROUND, OVER_ROUND].map(|round| {
-        let mut parties = sample();
+        let mut parties = sample(way);
         go_on_until(&mut parties, round);
         parts(&parties[1].store()).0.to_vec()
     });
@@ -276,8 +298,8 @@ fn a_fill_is_judged_in_its_order() {
 /// The first party once more from its stored session, hearing messages that were made up:
 /// the round, the demand and the supply of the record then. With two of three parties
 /// present they open to anything: points 1 and 2 have weights 2 and -1 at 0.
-fn opening(stored: &[u64], opened: u64) -> Result<[u64; 3], Refusal> {
-    let mut party = Speaking::resume(stored, sheets(N, 1, 4)).unwrap();
+fn opening(stored: &[u64], way: Way, opened: u64) -> Result<[u64; 3], Refusal> {
+    let mut party = resumed(stored, way);
     let own = party.say().unwrap()[0];
     let other = (2 * own + PRIME - opened) % PRIME;
     let reply = party.hear(&from_marked(&[own, other, u64::MAX], &[1, 1, 0]));
@@ -289,7 +311,14 @@ fn opening(stored: &[u64], opened: u64) -> Result<[u64; 3], Refusal> {
 /// The opened totals are below 2^32, and supply is at most demand.
 #[test]
 fn totals_that_are_none() {
-    let mut parties = sample();
+    for way in WAYS {
+        assert_totals_that_are_none(way);
+    }
+}
+
+fn assert_totals_that_are_none(way: Way) {
+    let mut parties = sample(way);
+    let opening = |stored: &[u64], opened| opening(stored, way, opened);
     let wild = Err(Refusal::SumOutOfRange);
     let top = TOTAL_LIMIT - 1;
 
@@ -322,7 +351,13 @@ fn totals_that_are_none() {
 /// session keeps the totals that it collected.
 #[test]
 fn shares_of_the_totals_at_the_price() {
-    let mut parties = sample();
+    for way in WAYS {
+        assert_shares_at_the_price(way);
+    }
+}
+
+fn assert_shares_at_the_price(way: Way) {
+    let mut parties = sample(way);
     for (round, place) in [(DEMAND_ROUND, 1), (SUPPLY_ROUND, 5)] {
         go_on_until(&mut parties, round);
         for party in &parties {
@@ -330,10 +365,10 @@ fn shares_of_the_totals_at_the_price() {
             let share = parts(&stored).1[place];
             assert_eq!(*party.say().unwrap(), [share]);
             assert_eq!(party.index(), 2);
-            let mut alone = Plain::resume(&stored, Sheets::blank(4, WAY).words());
+            let mut alone = Plain::resume(&stored, Sheets::blank(4, way).words());
             alone.totals.fill(u64::MAX);
             alone.totals[place] = share;
-            assert_eq!(alone.say(), Ok(share));
+            assert_eq!(alone.say(), Ok(vec![share]));
             // The lengths count as ever.
             let mut short = alone.clone();
             short.sheets.pop();
@@ -348,18 +383,20 @@ fn shares_of_the_totals_at_the_price() {
 /// number it is the same at all parties, so that it holds no share.
 #[test]
 fn a_record_that_is_over_holds_no_share() {
-    let mut parties = sample();
-    go_on_until(&mut parties, OVER_ROUND);
-    let mut records: Vec<_> = parties
-        .iter()
-        .map(|party| parts(&party.store()).0.to_vec())
-        .collect();
-    for (own, record) in (1..).zip(&mut records) {
-        assert_eq!(record[OWN], own);
-        record[OWN] = 0;
+    for way in WAYS {
+        let mut parties = sample(way);
+        go_on_until(&mut parties, OVER_ROUND);
+        let mut records: Vec<_> = parties
+            .iter()
+            .map(|party| parts(&party.store()).0.to_vec())
+            .collect();
+        for (own, record) in (1..).zip(&mut records) {
+            assert_eq!(record[OWN], own);
+            record[OWN] = 0;
+        }
+        assert_eq!(records[0], records[1]);
+        assert_eq!(records[0], records[2]);
     }
-    assert_eq!(records[0], records[1]);
-    assert_eq!(records[0], records[2]);
 }
 
 /// Why a fleet tells nobody what it gets: with the totals, that is what it wants.
@@ -393,16 +430,17 @@ fn a_bid_is_given_away_by_an_auction_held_again() {
 /// ended elsewhere says its shares of the totals there, with no mask.
 #[test]
 fn totals_are_given_away_by_a_session_that_somebody_altered() {
-    let parties = sample();
-    for index in 1..=4 {
-        for (own, party) in (1..).zip(&parties) {
-            let mut stored = party.store();
-            let share = parts(&stored).1[index as usize - 1];
-            let record = &mut stored[STORED_HEAD..];
-            [record[LO], record[HI]] = [index, index + 1];
-            [record[ROUND], record[SEARCH], record[FIRST]] = [DEMAND_ROUND, 2, index];
-            let altered = Speaking::resume(&stored, sheets(N, own, 4)).unwrap();
-            assert_eq!(*altered.say().unwrap(), [share]);
+    for way in WAYS {
+        let parties = sample(way);
+        for index in 1..=4 {
+            for party in &parties {
+                let mut stored = party.store();
+                let share = parts(&stored).1[index as usize - 1];
+                let record = &mut stored[STORED_HEAD..];
+                [record[LO], record[HI]] = [index, index + 1];
+                [record[ROUND], record[SEARCH], record[FIRST]] = [DEMAND_ROUND, 2, index];
+                assert_eq!(*resumed(&stored, way).say().unwrap(), [share]);
+            }
         }
     }
 }
@@ -411,7 +449,13 @@ fn totals_are_given_away_by_a_session_that_somebody_altered() {
 /// three parties, and opens to something else by two.
 #[test]
 fn a_wrong_share_of_a_total() {
-    let mut parties = sample();
+    for way in WAYS {
+        assert_wrong_share(way);
+    }
+}
+
+fn assert_wrong_share(way: Way) {
+    let mut parties = sample(way);
     for (round, right) in [(DEMAND_ROUND, 20), (SUPPLY_ROUND, 15)] {
         go_on_until(&mut parties, round);
         let mut messages: Vec<u64> = said(&parties)
@@ -427,7 +471,7 @@ fn a_wrong_share_of_a_total() {
         assert_eq!(refused, Err(Refusal::OwnMessageDiffers));
         let refused = parties[0].hear(&heard(&[1, 0, 0]));
         assert_eq!(refused, Err(Refusal::TooFewPresent));
-        let mut misled = Speaking::resume(&parties[2].store(), sheets(N, 3, 4)).unwrap();
+        let mut misled = resumed(&parties[2].store(), way);
         misled.hear(&heard(&[1, 1, 0])).unwrap();
         let record = misled.record();
         let opened = match round {

@@ -3,15 +3,13 @@
 use clockivy::words::place;
 use clockivy::{
     coins_len, deal, deal_bytes_len, deal_words_len, probe_limit, sheet_count, sheets_len, split,
-    stored_len, table_len, threshold, words, Collecting, Outcome, Refusal, Sheets, Speaking,
-    DEMAND_ROUND, MASK_LIMIT, MAX_AMOUNT, OVER_ROUND, PRIME, RECORD_LEN, ROLL_LEN, SUPPLY_ROUND,
+    stored_len, table_len, threshold, words, Collecting, Outcome, Refusal, Sheets, Speaking, Way,
+    DEMAND_ROUND, MASK_LIMIT, MAX_AMOUNT, OVER_ROUND, PAIRS_LEN, PRIME, RECORD_LEN, ROLL_LEN,
+    SUPPLY_ROUND,
 };
 use clockivy_testing::{
-    from_all, from_marked, parts, plain_round, record, reply, seat, stored, Plain, WAY,
+    from_all, from_marked, parts, plain_round, record, reply, seat, stored, Plain, WAY, WAYS,
 };
-
-/// The words of a sheet.
-const SHEET: usize = WAY.sheet_len();
 
 /// All parties' shares of one amount, written as demand at the only price.
 fn shares_of(n: u64, secret: u64, coefficients: &[u64]) -> Vec<u64> {
@@ -20,7 +18,7 @@ fn shares_of(n: u64, secret: u64, coefficients: &[u64]) -> Vec<u64> {
     (1..=n)
         .map(|own| {
             let mut shares = [0; 2];
-            split(seat(n, own, 1), &[secret, 0], &coins, &mut shares).unwrap();
+            split(seat(n, own, 1, WAY), &[secret, 0], &coins, &mut shares).unwrap();
             shares[0]
         })
         .collect()
@@ -37,27 +35,37 @@ fn shares_of_an_amount() {
 
 #[test]
 fn shares_of_a_bit() {
-    let mut bytes = vec![0; deal_bytes_len(3, WAY)];
-    bytes[0] = 0x80;
-    let shares: Vec<u64> = (1..=3)
-        .map(|own| {
-            let mut sheet = [0; SHEET];
-            deal(seat(3, own, 1), &[1, 0], &bytes, &mut sheet).unwrap();
+    for way in WAYS {
+        let mut bytes = vec![0; deal_bytes_len(3, way)];
+        bytes[0] = 0x80;
+        let shares = [1, 2, 3].map(|own| {
+            let mut sheet = vec![0; way.sheet_len()];
+            deal(seat(3, own, 1, way), &[1, 0], &bytes, &mut sheet).unwrap();
             sheet[1]
-        })
-        .collect();
-    assert_eq!(shares, [0x81, 0x1A, 0x9A]);
+        });
+        assert_eq!(shares, [0x81, 0x1A, 0x9A]);
+    }
 }
 
-/// The share of alpha times beta, none of them masked.
+/// The share of alpha times beta, none of them masked, wherever a sheet has one.
 fn product(alpha: u8, beta: u8) -> u64 {
-    let mut bytes = vec![0; deal_bytes_len(3, WAY)];
-    bytes[33] = alpha;
-    bytes[34] = beta;
-    let mut sheet = [0; SHEET];
-    deal(seat(3, 1, 1), &[0, 0], &bytes, &mut sheet).unwrap();
-    assert_eq!(sheet[34..36], [alpha.into(), beta.into()]);
-    sheet[36]
+    let mut found = Vec::new();
+    for way in WAYS {
+        // A product takes three words of a sheet and five of its bytes.
+        let products = (way.sheet_len() - 34) / 3;
+        for (factors, share) in (0..products).map(|place| (33 + 5 * place, 34 + 3 * place)) {
+            let mut bytes = vec![0; deal_bytes_len(3, way)];
+            [bytes[factors], bytes[factors + 1]] = [alpha, beta];
+            let mut sheet = vec![0; way.sheet_len()];
+            deal(seat(3, 1, 1, way), &[0, 0], &bytes, &mut sheet).unwrap();
+            assert_eq!(sheet[share..share + 2], [alpha.into(), beta.into()]);
+            found.push(sheet[share + 2]);
+        }
+    }
+    assert_eq!(found.len(), 31 + 62);
+    found.dedup();
+    assert_eq!(found.len(), 1);
+    found[0]
 }
 
 #[test]
@@ -80,12 +88,18 @@ fn shares_wrap_around_the_prime() {
 
 #[test]
 fn a_round_that_lies_on_no_polynomial() {
-    let session = Collecting::open(seat(5, 1, 1)).unwrap();
+    for way in WAYS {
+        assert_lies_on_no_polynomial(way);
+    }
+}
+
+fn assert_lies_on_no_polynomial(way: Way) {
+    let session = Collecting::open(seat(5, 1, 1, way)).unwrap();
     // The second search's sheet is not come to, but may not be all zeros.
-    let mut sheets = [0; sheets_len(1, WAY)];
-    [sheets[0], sheets[SHEET]] = [(1 << 59) + (1 << 32) - 12, 1];
+    let mut sheets = vec![0; sheets_len(1, way)];
+    [sheets[0], sheets[way.sheet_len()]] = [(1 << 59) + (1 << 32) - 12, 1];
     let mut plain = Plain::resume(&session.store(), &sheets);
-    let mut party = session.speak(Sheets::received(1, WAY, &sheets).unwrap());
+    let mut party = session.speak(Sheets::received(1, way, &sheets).unwrap());
     let message = party.say();
     assert_eq!(message.as_deref(), Ok(&[12][..]));
     let before = party.store();
@@ -111,19 +125,19 @@ fn a_round_that_lies_on_no_polynomial() {
 /// second, which follows a verdict of 1. Its words are plain: totals can be larger than
 /// any one bid, so they are shared by hand, each with its own coefficient; and the other
 /// search's sheet is none.
-fn probing(search: u64, own: u64, [demand, supply]: [u64; 2], mask: u64) -> Plain {
+fn probing(way: Way, search: u64, own: u64, [demand, supply]: [u64; 2], mask: u64) -> Plain {
     let share = |secret: u64, coefficient: u64| secret + coefficient * own;
     let words = [mask, 0x1234_5678];
-    let bytes: Vec<u8> = (0..deal_bytes_len(3, WAY))
+    let bytes: Vec<u8> = (0..deal_bytes_len(3, way))
         .map(|i| (i * 89) as u8)
         .collect();
     // What the first search has left, 0 where it is on.
     let left = search - 1;
-    let mut sheets = Sheets::blank(1, WAY).words().to_vec();
-    let sheet = &mut sheets[left as usize * SHEET..][..SHEET];
-    deal(seat(3, own, 1), &words, &bytes, sheet).unwrap();
+    let mut sheets = Sheets::blank(1, way).words().to_vec();
+    let sheet = &mut sheets[left as usize * way.sheet_len()..][..way.sheet_len()];
+    deal(seat(3, own, 1, way), &words, &bytes, sheet).unwrap();
     Plain {
-        record: at(own, [0, 2, left, 1], [search, left, left], 0).to_vec(),
+        record: at(way, own, [0, 2, left, 1], [search, left, left], 0).to_vec(),
         totals: vec![share(demand, 99), share(supply, 55)],
         sheets,
     }
@@ -132,6 +146,7 @@ fn probing(search: u64, own: u64, [demand, supply]: [u64; 2], mask: u64) -> Plai
 /// The record of a party of three over one price, of nobody's bids: lo, hi, the probes
 /// and the round; search, first and its probes; and the carry.
 fn at(
+    way: Way,
     own: u64,
     [lo, hi, probes, round]: [u64; 4],
     [search, first, first_probes]: [u64; 3],
@@ -149,6 +164,7 @@ fn at(
         (place::SEARCH, search),
         (place::FIRST, first),
         (place::FIRST_PROBES, first_probes),
+        (place::LAST, way.rounds()),
     ])
 }
 
@@ -162,14 +178,14 @@ fn outcome(record: &[u64]) -> Result<Option<Outcome>, Refusal> {
 
 /// One probe of three parties on the given totals and mask, in the first search
 /// over one price or in the second: the opened sum and the verdict.
-fn probe(search: u64, demand: u64, supply: u64, mask: u64) -> (u64, bool) {
+fn probe(way: Way, search: u64, [demand, supply]: [u64; 2], mask: u64) -> (u64, bool) {
     let mut parties: Vec<Plain> = (1..=3)
-        .map(|own| probing(search, own, [demand, supply], mask))
+        .map(|own| probing(way, search, own, [demand, supply], mask))
         .collect();
     plain_round(&mut parties);
     let sum = parties[0].record[place::SUM];
     assert!(parties.iter().all(|party| party.record[place::SUM] == sum));
-    for _ in 2..=WAY.rounds() {
+    for _ in 2..=way.rounds() {
         plain_round(&mut parties);
     }
     let verdict = match search {
@@ -187,7 +203,7 @@ fn probe(search: u64, demand: u64, supply: u64, mask: u64) -> (u64, bool) {
     for (own, party) in (1..).zip(&parties) {
         assert_eq!(
             party.record,
-            at(own, [lo, hi, search, round], [2, first, 1], 0)
+            at(way, own, [lo, hi, search, round], [2, first, 1], 0)
         );
         let over = (first == 0).then_some(Outcome::NoPrice { probes: search });
         assert_eq!(outcome(&party.record), Ok(over));
@@ -197,10 +213,13 @@ fn probe(search: u64, demand: u64, supply: u64, mask: u64) -> (u64, bool) {
 
 #[test]
 fn comparisons() {
-    // The second search has the sides exchanged.
+    // The second search has the sides exchanged, and the two ways come to the same.
     let probe = |more, less, mask| {
-        let first = probe(1, more, less, mask);
-        assert_eq!(probe(2, less, more, mask), first);
+        let first = probe(WAY, 1, [more, less], mask);
+        for way in WAYS {
+            assert_eq!(probe(way, 1, [more, less], mask), first);
+            assert_eq!(probe(way, 2, [less, more], mask), first);
+        }
         first
     };
     let base = (1 << 59) + (1 << 32);
@@ -220,7 +239,7 @@ fn limits_of_a_bid() {
         let k = table.len() as u64 / 2;
         let coins = vec![1; coins_len(3, k)];
         let mut shares = vec![5; table.len()];
-        let reply = split(seat(3, 1, k), table, &coins, &mut shares);
+        let reply = split(seat(3, 1, k, WAY), table, &coins, &mut shares);
         if reply.is_err() {
             assert!(shares.iter().all(|&share| share == 5));
         }
@@ -244,7 +263,7 @@ fn limits_of_a_bid() {
 
 #[test]
 fn a_thousand_bids_and_no_more() {
-    let mut session = Collecting::open(seat(3, 2, 1)).unwrap();
+    let mut session = Collecting::open(seat(3, 2, 1, WAY)).unwrap();
     for bidder in 1..=1_000 {
         assert!(!session.record().has_bid(bidder));
         session.add(bidder, &[2, 3]).unwrap();
@@ -270,7 +289,7 @@ fn a_thousand_bids_and_no_more() {
 
 #[test]
 fn bidders_are_numbered_from_1_to_1000() {
-    let mut session = Collecting::open(seat(3, 2, 1)).unwrap();
+    let mut session = Collecting::open(seat(3, 2, 1, WAY)).unwrap();
     let before = session.store();
     assert_eq!(parts(&before).1, [0; 2]);
     let near = [0, 1_001, 1_023, 1_024, 1_025];
@@ -293,9 +312,9 @@ fn bidders_are_numbered_from_1_to_1000() {
 
 /// What opening replies on plain words: the session's words, with totals of this length
 /// that held something else. A refusal changes nothing.
-fn open_plain(n: u64, own: u64, k: u64, length: usize) -> Result<Vec<u64>, Refusal> {
+fn open_plain([n, own, k, last]: [u64; 4], length: usize) -> Result<Vec<u64>, Refusal> {
     let (mut totals, mut record) = (vec![9; length], [7; RECORD_LEN]);
-    let reply = reply(words::open(n, own, k, &mut totals, &mut record));
+    let reply = reply(words::open(n, own, k, last, &mut totals, &mut record));
     if reply.is_err() {
         assert_eq!((totals, record), (vec![9; length], [7; RECORD_LEN]));
         return reply.map(|()| vec![]);
@@ -305,11 +324,18 @@ fn open_plain(n: u64, own: u64, k: u64, length: usize) -> Result<Vec<u64>, Refus
 
 #[test]
 fn limits_of_a_session() {
+    for way in WAYS {
+        assert_limits_of_a_session(way);
+    }
+}
+
+fn assert_limits_of_a_session(way: Way) {
+    let last = way.rounds();
     let open = |n, own, k: u64| {
-        let opened = Collecting::open(seat(n, own, k)).map(|session| session.store());
+        let opened = Collecting::open(seat(n, own, k, way)).map(|session| session.store());
         // The session makes its own totals; on plain words those that are lent are zeroed.
         let length = if k > 2_000 { 0 } else { table_len(k) };
-        assert_eq!(open_plain(n, own, k, length), opened);
+        assert_eq!(open_plain([n, own, k, last], length), opened);
         opened
     };
     for n in 3..=9 {
@@ -320,6 +346,7 @@ fn limits_of_a_session() {
             (place::HI, 1_025),
             (place::ROUND, 1),
             (place::SEARCH, 1),
+            (place::LAST, last),
         ]);
         assert_eq!(open(n, n, 1_024), Ok(stored(0, &record, &[0; 2_048])));
         assert_eq!(open(n, n + 1, 1), Err(Refusal::OutOfRange));
@@ -332,14 +359,21 @@ fn limits_of_a_session() {
         assert_eq!(open(3, 1, k), Err(Refusal::OutOfRange));
     }
     for length in [0, 3, 5] {
-        assert_eq!(open_plain(3, 1, 2, length), Err(Refusal::WrongLength));
+        let opened = open_plain([3, 1, 2, last], length);
+        assert_eq!(opened, Err(Refusal::WrongLength));
     }
 }
 
 #[test]
 fn answers_wait_for_the_end() {
+    for way in WAYS {
+        assert_waits_for_the_end(way);
+    }
+}
+
+fn assert_waits_for_the_end(way: Way) {
     let answer = |numbers: [u64; 4], searches: [u64; 3], carry| {
-        let mut record = at(1, numbers, searches, carry);
+        let mut record = at(way, 1, numbers, searches, carry);
         [record[place::DEMAND], record[place::SUPPLY]] = [9, 7];
         let ([lo, hi, _, round], [search, first, _]) = (numbers, searches);
         let over = search == 2 && hi - lo == 1 && (first == 0 || round == 36);
@@ -383,7 +417,7 @@ fn answers_wait_for_the_end() {
     // Once the searches have ended with a price no probe goes on, and before that
     // no total is opened.
     assert_eq!(answer([0, 1, 2, 1], [2, 1, 1], 0), out_of_range);
-    assert_eq!(answer([0, 1, 2, 33], [2, 1, 1], 0), out_of_range);
+    assert_eq!(answer([0, 1, 2, way.rounds()], [2, 1, 1], 0), out_of_range);
     assert_eq!(answer([0, 1, 2, 37], [2, 1, 1], 0), out_of_range);
     assert_eq!(answer([0, 1, 1, 36], [2, 0, 1], 0), out_of_range);
     assert_eq!(answer([0, 2, 1, 34], [2, 1, 1], 0), out_of_range);
@@ -416,14 +450,14 @@ fn sizes() {
         [1, 2, 3, 4, 7, 8, 255, 256, 1_023, 1_024].map(sheet_count),
         [2, 4, 4, 6, 6, 8, 16, 18, 20, 22]
     );
-    assert_eq!((deal_words_len(9), deal_bytes_len(9, WAY)), (5, 566));
-    assert_eq!(
-        (coins_len(9, 1_024), sheets_len(1_024, WAY)),
-        (8_192, 2_794)
-    );
-    assert_eq!((WAY.rounds(), WAY.sheet_len()), (33, 127));
-    assert_eq!((RECORD_LEN, ROLL_LEN), (31, 16));
-    assert_eq!([1, 2, 1_024].map(stored_len), [35, 37, 2_081]);
+    assert_eq!((deal_words_len(9), coins_len(9, 1_024)), (5, 8_192));
+    assert_eq!(WAYS.map(Way::rounds), [33, 7]);
+    assert_eq!(WAYS.map(Way::sheet_len), [127, 220]);
+    assert_eq!(WAYS.map(|way| deal_bytes_len(3, way)), [188, 343]);
+    assert_eq!(WAYS.map(|way| deal_bytes_len(9, way)), [566, 1_000]);
+    assert_eq!(WAYS.map(|way| sheets_len(1_024, way)), [2_794, 4_840]);
+    assert_eq!((RECORD_LEN, ROLL_LEN, PAIRS_LEN), (64, 16, 32));
+    assert_eq!([1, 2, 1_024].map(stored_len), [68, 70, 2_114]);
 }
 
 #[test]
@@ -437,20 +471,21 @@ fn sizes_of_any_number() {
         [0, usize::MAX - 1, usize::MAX, usize::MAX]
     );
     assert_eq!([0, MOST].map(deal_words_len), [1, 1 << 63]);
-    assert_eq!([0, MOST].map(|n| deal_bytes_len(n, WAY)), [62, usize::MAX]);
+    assert_eq!(WAYS.map(|way| deal_bytes_len(0, way)), [62, 124]);
+    assert_eq!(WAYS.map(|way| deal_bytes_len(MOST, way)), [usize::MAX; 2]);
     assert_eq!(
         [0, HALF - 1, HALF, MOST].map(sheet_count),
         [0, 126, 128, 128]
     );
+    for (k, count) in [(0, 0), (HALF, 128), (MOST, 128)] {
+        let lengths = WAYS.map(|way| sheets_len(k, way));
+        assert_eq!(lengths, [127 * count, 220 * count]);
+    }
     assert_eq!(
-        [0, HALF, MOST].map(|k| sheets_len(k, WAY)),
-        [0, 127 * 128, 127 * 128]
+        [0, HALF - 33, HALF - 32, MOST].map(stored_len),
+        [66, usize::MAX, usize::MAX, usize::MAX]
     );
-    assert_eq!(
-        [0, HALF - 17, HALF - 16, MOST].map(stored_len),
-        [33, usize::MAX, usize::MAX, usize::MAX]
-    );
-    assert_eq!(stored_len(HALF - 18), usize::MAX - 2);
+    assert_eq!(stored_len(HALF - 34), usize::MAX - 1);
     for k in [HALF, MOST] {
         assert_eq!(
             [0, 3, MOST].map(|n| coins_len(n, k)),

@@ -2,30 +2,32 @@
 //! what goes wrong where the parties do not agree on the marks.
 
 use std::num::NonZeroU64;
+use std::ops::Range;
 
-use clockivy::words::place::{CARRY, HI, LO, OWN, ROUND, SEARCH, SUM};
+use clockivy::words::place::{CARRY, HI, LAST, LO, OWN, PAIRS, ROUND, SEARCH, SUM};
 use clockivy::{
     threshold, words, Cleared, Collecting, Message, Outcome, Record, Refusal, Sheets, Speaking,
-    DEMAND_ROUND, OVER_ROUND, PARTIES, PRIME, RECORD_LEN, SUPPLY_ROUND,
+    Way, DEMAND_ROUND, OVER_ROUND, PARTIES, PRIME, RECORD_LEN, SUPPLY_ROUND,
 };
 use clockivy_testing::{
-    choices, count, from_marked, go_on_until, panel, parts, refused, round, seat, sheets, stored,
-    Bid, Hearing, Plain, WAY,
+    choices, count, from_marked, go_on_until, message_len, panel, parts, refused, round, seat,
+    sheets, stored, Bid, Hearing, Plain, WAYS,
 };
 
 const K: u64 = 2;
 /// Demand 5 and 2, supply 1 and 4: they clear at index 1, after three probes.
 const BIDS: &[Bid] = &[(640, &[5, 2, 1, 4])];
-/// The rounds of a probe.
-const ROUNDS: u64 = WAY.rounds();
-/// The rounds until all is over: those of the probes, and two of the totals.
-const ALL_ROUNDS: usize = 3 * ROUNDS as usize + 2;
 /// What a stored session says of itself where it speaks.
 const SPEAKING: u64 = 1;
 
+/// The rounds until all is over: those of the probes, and two of the totals.
+fn all_rounds(way: Way) -> usize {
+    3 * way.rounds() as usize + 2
+}
+
 /// All parties, about to speak.
-fn parties(n: u64) -> Vec<Speaking> {
-    panel(n, K, BIDS)
+fn parties(n: u64, way: Way) -> Vec<Speaking> {
+    panel(n, K, way, BIDS)
 }
 
 /// The party has come to the price, with the totals there.
@@ -57,8 +59,16 @@ fn said_by(parties: &[Speaking], present: &[u8]) -> Vec<Option<Message>> {
 
 /// The same as words, with what is no message in the places of the others.
 fn words_by(parties: &[Speaking], present: &[u8]) -> Vec<u64> {
-    let word = |said: &Option<Message>| said.map_or(u64::MAX, |said| said[0]);
-    said_by(parties, present).iter().map(word).collect()
+    let length = message_len(parts(&parties[0].store()).0);
+    let words = |said: Option<Message>| said.map_or(vec![u64::MAX; length], |said| said.to_vec());
+    let said = said_by(parties, present);
+    said.into_iter().flat_map(words).collect()
+}
+
+/// A round of which the others were away.
+fn those_marked(round: &[Option<Message>], present: &[u8]) -> Vec<Option<Message>> {
+    let marked = |(said, &mark): (&Option<Message>, &u8)| said.filter(|_| mark == 1);
+    round.iter().zip(present).map(marked).collect()
 }
 
 /// Those whose mark is this one hear a round.
@@ -84,30 +94,37 @@ fn field(party: &Speaking, place: usize) -> u64 {
 fn common(party: &Speaking) -> Vec<u64> {
     let mut record = parts(&party.store()).0.to_vec();
     [record[OWN], record[CARRY]] = [0, 0];
+    record[PAIRS..].fill(0);
     record
 }
 
 /// A party once more from its stored session, with the words of its sheets: for a test,
 /// since it uses a sheet again.
 fn again(stored: &[u64], sheets: &[u64]) -> Speaking {
-    let sheets = Sheets::received(K, WAY, sheets).unwrap();
-    Speaking::resume(stored, sheets).unwrap()
+    Speaking::resume(stored, received(sheets).unwrap()).unwrap()
+}
+
+/// These words as sheets, of the way whose length they have.
+fn received(words: &[u64]) -> Option<Sheets> {
+    WAYS.into_iter()
+        .find_map(|way| Sheets::received(K, way, words).ok())
 }
 
 /// The words of one party's sheets.
-fn sheet_words(n: u64, own: u64) -> Vec<u64> {
-    sheets(n, own, K).words().to_vec()
+fn sheet_words(n: u64, own: u64, way: Way) -> Vec<u64> {
+    sheets(seat(n, own, K, way)).words().to_vec()
 }
 
+/// Whoever is not among the first t + 1 is gone from some round on, in the middle of a
+/// probe or at its end, and is marked no more. On the way of 7 rounds that is between
+/// any two levels.
 #[test]
 fn t_plus_1_parties_come_to_the_answer_without_the_others() {
-    for n in PARTIES {
-        // From the first round on, from the middle of the second probe, and from
-        // either round of the totals.
-        for gone_from in [0, 33 + 16, ALL_ROUNDS - 2, ALL_ROUNDS - 1] {
-            let mut parties = parties(n);
+    for (n, way) in PARTIES.flat_map(|n| WAYS.map(|way| (n, way))) {
+        for gone_from in 0..all_rounds(way) {
+            let mut parties = parties(n, way);
             let there = threshold(n) + 1;
-            for number in 0..ALL_ROUNDS {
+            for number in 0..all_rounds(way) {
                 let gone = number >= gone_from;
                 let present = first(n, if gone { there } else { n as usize });
                 let round = said_by(&parties, &present);
@@ -119,8 +136,8 @@ fn t_plus_1_parties_come_to_the_answer_without_the_others() {
                 assert_going_on(party);
                 let Record { probes, round, .. } = *party.record();
                 let heard = match round {
-                    ..=ROUNDS => ROUNDS * probes + round - 1,
-                    _ => ROUNDS * probes + round - DEMAND_ROUND,
+                    DEMAND_ROUND.. => way.rounds() * probes + round - DEMAND_ROUND,
+                    _ => way.rounds() * probes + round - 1,
                 };
                 assert_eq!(heard as usize, gone_from);
             }
@@ -128,113 +145,142 @@ fn t_plus_1_parties_come_to_the_answer_without_the_others() {
     }
 }
 
-/// Each choice of who is away for some rounds, over the end of a probe or not, and
-/// comes back.
+/// Rounds that somebody may miss: one or some of a probe, over the end of a probe or of
+/// two, and those of the totals.
+fn absences(way: Way) -> [Range<usize>; 7] {
+    match way {
+        Way::Rounds7 => [0..1, 2..4, 5..9, 3..17, 18..21, 20..22, 21..22],
+        _ => [0..1, 5..9, 30..40, 20..75, 95..99, 98..100, 99..100],
+    }
+}
+
+/// Each choice of who is away for some rounds and comes back.
 #[test]
 fn who_comes_back_hears_what_it_has_missed_and_is_marked_again() {
     let n = 5;
     for present in choices(n).filter(|present| count(present) > threshold(n)) {
-        for away in [0..1, 5..9, 30..40, 20..75, 95..99, 98..100, 99..100] {
-            let mut parties = parties(n);
-            let mut missed = Vec::new();
-            for number in 0..ALL_ROUNDS {
-                if away.contains(&number) {
-                    let said = said_by(&parties, &present);
-                    heard_by(&mut parties, &present, 1, &said);
-                    missed.push(said);
-                    continue;
-                }
-                for said in missed.drain(..) {
-                    heard_by(&mut parties, &present, 0, &said);
-                }
-                let expected = common(&parties[0]);
-                for party in &parties {
-                    assert_eq!(common(party), expected);
-                }
-                round(&mut parties);
+        for way in WAYS {
+            for away in absences(way) {
+                assert_comes_back(parties(n, way), &present, away, all_rounds(way));
             }
-            parties.iter().for_each(assert_answered);
         }
     }
+}
+
+/// So many rounds, in which those whose mark is 0 are away for some.
+fn assert_comes_back(
+    mut parties: Vec<Speaking>,
+    present: &[u8],
+    away: Range<usize>,
+    rounds: usize,
+) {
+    let mut missed = Vec::new();
+    for number in 0..rounds {
+        if away.contains(&number) {
+            let said = said_by(&parties, present);
+            heard_by(&mut parties, present, 1, &said);
+            missed.push(said);
+            continue;
+        }
+        for said in missed.drain(..) {
+            heard_by(&mut parties, present, 0, &said);
+        }
+        let expected = common(&parties[0]);
+        for party in &parties {
+            assert_eq!(common(party), expected);
+        }
+        round(&mut parties);
+    }
+    parties.iter().for_each(assert_answered);
 }
 
 /// A party that is marked in no round, and hears all of them when the others have
 /// answered already.
 #[test]
 fn who_comes_back_when_the_auction_is_over_answers_too() {
-    let mut parties = parties(3);
-    let present = [1, 0, 1];
-    let mut rounds = Vec::new();
-    while !is_over(&parties[0]) {
-        let said = said_by(&parties, &present);
-        heard_by(&mut parties, &present, 1, &said);
-        rounds.push(said);
+    for way in WAYS {
+        let mut parties = parties(3, way);
+        let present = [1, 0, 1];
+        let mut rounds = Vec::new();
+        while !is_over(&parties[0]) {
+            let said = said_by(&parties, &present);
+            heard_by(&mut parties, &present, 1, &said);
+            rounds.push(said);
+        }
+        let late = &mut parties[1];
+        for said in &rounds {
+            assert_going_on(late);
+            late.hear(said).unwrap();
+        }
+        assert_answered(late);
+        assert_eq!(late.hear(&rounds[0]), Err(Refusal::OutOfTurn));
     }
-    let late = &mut parties[1];
-    for said in &rounds {
-        assert_going_on(late);
-        late.hear(said).unwrap();
-    }
-    assert_answered(late);
-    assert_eq!(late.hear(&rounds[0]), Err(Refusal::OutOfTurn));
 }
 
 /// A marked party says its message and hears that round after the others; in the
 /// next one it is away meanwhile.
 #[test]
 fn a_marked_party_may_hear_late() {
-    let mut parties = parties(5);
-    let without_last = [1, 1, 1, 1, 0];
-    while !is_over(&parties[0]) {
-        let one = said_by(&parties, &[1; 5]);
-        heard_by(&mut parties, &without_last, 1, &one);
-        let other = said_by(&parties, &without_last);
-        heard_by(&mut parties, &without_last, 1, &other);
-        parties[4].hear(&one).unwrap();
-        parties[4].hear(&other).unwrap();
-        // A probe has an odd number of rounds.
-        if parties[0].record().round == ROUNDS {
-            round(&mut parties);
+    for way in WAYS {
+        let mut parties = parties(5, way);
+        let without_last = [1, 1, 1, 1, 0];
+        while !is_over(&parties[0]) {
+            let one = said_by(&parties, &[1; 5]);
+            heard_by(&mut parties, &without_last, 1, &one);
+            let other = said_by(&parties, &without_last);
+            heard_by(&mut parties, &without_last, 1, &other);
+            parties[4].hear(&one).unwrap();
+            parties[4].hear(&other).unwrap();
+            // A probe has an odd number of rounds.
+            if parties[0].record().round == way.rounds() {
+                round(&mut parties);
+            }
         }
+        parties.iter().for_each(assert_answered);
     }
-    parties.iter().for_each(assert_answered);
 }
 
 /// What each party finds in the places of the others is its own: on plain words, since a
 /// session hears nothing from a party that was away.
 #[test]
 fn what_stands_in_an_unmarked_place_changes_nothing() {
+    for way in WAYS {
+        assert_unmarked_places_free(way);
+    }
+}
+
+fn assert_unmarked_places_free(way: Way) {
     let n = 7;
     let mut parties: Vec<Plain> = (1..)
-        .zip(parties(n))
-        .map(|(own, party)| Plain::resume(&party.store(), &sheet_words(n, own)))
+        .zip(parties(n, way))
+        .map(|(own, party)| Plain::resume(&party.store(), &sheet_words(n, own, way)))
         .collect();
-    for number in 0..ALL_ROUNDS {
+    for number in 0..all_rounds(way) {
         // Other parties each time, t + 1 of them and more in turn.
         let mut present = first(n, threshold(n) + 1 + number % 3);
         present.rotate_right(number % n as usize);
-        let said: Vec<u64> = parties.iter().map(|party| party.say().unwrap()).collect();
+        let said: Vec<Vec<u64>> = parties.iter().map(|party| party.say().unwrap()).collect();
         for (own, party) in (1..).zip(&mut parties) {
             let mut messages = said.clone();
             for (place, message) in messages.iter_mut().enumerate() {
                 if present[place] == 0 {
-                    *message = [0, own, PRIME - 1, PRIME, u64::MAX][(number + place) % 5];
+                    message.fill([0, own, PRIME - 1, PRIME, u64::MAX][(number + place) % 5]);
                 }
             }
-            party.hear(&messages, &present).unwrap();
+            party.hear(&messages.concat(), &present).unwrap();
         }
     }
     for Plain { record, totals, .. } in &parties {
         let stored = stored(SPEAKING, record, totals);
-        assert_answered(&Speaking::resume(&stored, Sheets::blank(K, WAY)).unwrap());
+        assert_answered(&Speaking::resume(&stored, Sheets::blank(K, way)).unwrap());
     }
 }
 
 #[test]
 fn any_t_plus_1_or_more_open_to_the_same_and_fewer_are_too_few() {
-    for n in PARTIES {
-        let mut parties = parties(n);
-        let sheets: Vec<_> = (1..=n).map(|own| sheet_words(n, own)).collect();
+    for (n, way) in PARTIES.flat_map(|n| WAYS.map(|way| (n, way))) {
+        let mut parties = parties(n, way);
+        let sheets: Vec<_> = (1..=n).map(|own| sheet_words(n, own, way)).collect();
         // Each round is heard by one party in every way.
         while !is_over(&parties[0]) {
             let messages = words_by(&parties, &first(n, n as usize));
@@ -258,13 +304,13 @@ fn any_t_plus_1_or_more_open_to_the_same_and_fewer_are_too_few() {
 }
 
 /// A hearing of five parties in round 1: of the fourth, the third being away.
-fn good() -> Hearing {
-    good_in(1)
+fn good(way: Way) -> Hearing {
+    good_in(way, 1)
 }
 
 /// The same in the first such round.
-fn good_in(number: u64) -> Hearing {
-    let mut parties = parties(5);
+fn good_in(way: Way, number: u64) -> Hearing {
+    let mut parties = parties(5, way);
     go_on_until(&mut parties, number);
     let present = vec![1, 1, 0, 1, 1];
     let stored = parties[3].store();
@@ -272,7 +318,7 @@ fn good_in(number: u64) -> Hearing {
     Hearing {
         record: record.to_vec(),
         totals: totals.to_vec(),
-        sheets: sheet_words(5, 4),
+        sheets: sheet_words(5, 4, way),
         messages: words_by(&parties, &present),
         present,
     }
@@ -304,15 +350,16 @@ fn heard(hearing: &Hearing) -> Result<Vec<u64>, Refusal> {
 }
 
 /// The same by a session: where the lengths of the record, the totals and the sheets are
-/// right, the sheets are dealt, and each place has a message and a mark.
+/// right, the sheets are dealt, and each place has a message of the round and a mark.
 fn heard_by_session(hearing: &Hearing) -> Option<Result<Vec<u64>, Refusal>> {
     let Hearing {
         messages, present, ..
     } = hearing;
-    if messages.len() != present.len() || present.iter().any(|&mark| mark > 1) {
+    let length = present.len() * message_len(&hearing.record);
+    if messages.len() != length || present.iter().any(|&mark| mark > 1) {
         return None;
     }
-    let sheets = Sheets::received(K, WAY, &hearing.sheets).ok()?;
+    let sheets = received(&hearing.sheets)?;
     let before = stored(SPEAKING, &hearing.record, &hearing.totals);
     let mut party = Speaking::resume(&before, sheets).ok()?;
     let reply = party.hear(&from_marked(messages, present));
@@ -322,17 +369,23 @@ fn heard_by_session(hearing: &Hearing) -> Option<Result<Vec<u64>, Refusal>> {
 
 #[test]
 fn a_hearing_is_judged_in_its_order() {
-    for round in [1, DEMAND_ROUND, SUPPLY_ROUND] {
-        let good = good_in(round);
-        assert_eq!(good.record[ROUND], round);
-        assert!(heard(&good).is_ok());
-        let mut by_session = 0;
-        for (hearing, number) in refused(&good) {
-            let refusal = heard(&hearing).unwrap_err();
-            assert_eq!(refusal.number(), number, "{hearing:?}");
-            by_session += u64::from(heard_by_session(&hearing).is_some());
+    for way in WAYS {
+        let probe = [1, 2, 3, 4, 5, 6, way.rounds()];
+        for round in probe.into_iter().chain([DEMAND_ROUND, SUPPLY_ROUND]) {
+            let good = good_in(way, round);
+            assert_eq!(
+                [good.record[LAST], good.record[ROUND]],
+                [way.rounds(), round]
+            );
+            assert!(heard(&good).is_ok());
+            let mut by_session = 0;
+            for (hearing, number) in refused(&good) {
+                let refusal = heard(&hearing).unwrap_err();
+                assert_eq!(refusal.number(), number, "{hearing:?}");
+                by_session += u64::from(heard_by_session(&hearing).is_some());
+            }
+            assert!(by_session > 100, "{by_session} by a session");
         }
-        assert!(by_session > 100, "{by_session} by a session");
     }
     // On plain words the record's length comes before all else but the marks, which
     // need no record.
@@ -354,7 +407,12 @@ fn a_hearing_is_judged_in_its_order() {
 /// On plain words: a session has no other marks than a message and none.
 #[test]
 fn marks_are_judged_whatever_their_number() {
-    let good = good();
+    for (way, round) in WAYS.into_iter().zip([1, 2]) {
+        assert_marks_judged(good_in(way, round));
+    }
+}
+
+fn assert_marks_judged(good: Hearing) {
     for length in 0..12 {
         let mut hearing = good.clone();
         hearing.present.resize(length, 1);
@@ -374,36 +432,44 @@ fn marks_are_judged_whatever_their_number() {
 /// By a session: a round has as many places as there are parties.
 #[test]
 fn a_round_of_another_length() {
-    let mut parties = parties(5);
-    let messages = words_by(&parties, &[1; 5]);
-    let before = parties[3].store();
-    for length in (0..12).filter(|&length| length != 5) {
-        let mut other = messages.clone();
-        other.resize(length, 7);
-        let round = from_marked(&other, &[1; 12]);
-        assert_eq!(round.len(), length);
-        assert_eq!(parties[3].hear(&round), Err(Refusal::WrongLength));
+    for way in WAYS {
+        for number in [1, 2, 3] {
+            let mut parties = parties(5, way);
+            go_on_until(&mut parties, number);
+            let good = said_by(&parties, &[1; 5]);
+            let before = parties[3].store();
+            for length in (0..12).filter(|&length| length != 5) {
+                let mut round = good.clone();
+                round.resize(length, good[0]);
+                assert_eq!(parties[3].hear(&round), Err(Refusal::WrongLength));
+                round.fill(None);
+                assert_eq!(parties[3].hear(&round), Err(Refusal::WrongLength));
+            }
+            assert_eq!(parties[3].store(), before);
+        }
     }
-    assert_eq!(parties[3].store(), before);
 }
 
 /// A party that was away compares no own message and uses no totals; its sheet is
 /// judged as ever, where one is read.
 #[test]
 fn an_own_place_that_is_not_marked() {
-    for round in [1, DEMAND_ROUND, SUPPLY_ROUND] {
-        let here = good_in(round);
-        let mut away = here.clone();
-        away.present = vec![1, 1, 0, 0, 1];
-        assert_eq!(heard(&away), heard(&here));
-        away.messages[3] = u64::MAX;
-        away.totals.fill(u64::MAX);
-        assert_eq!(heard(&away), heard(&here));
-        away.sheets.fill(PRIME);
-        if round == 1 {
-            assert_eq!(heard(&away), Err(Refusal::ShareOutOfRange));
-        } else {
+    for way in WAYS {
+        for round in [1, 2, 3, way.rounds(), DEMAND_ROUND, SUPPLY_ROUND] {
+            let here = good_in(way, round);
+            let mut away = here.clone();
+            away.present = vec![1, 1, 0, 0, 1];
             assert_eq!(heard(&away), heard(&here));
+            let length = way.message_len(round);
+            away.messages[3 * length..][..length].fill(u64::MAX);
+            away.totals.fill(u64::MAX);
+            assert_eq!(heard(&away), heard(&here));
+            away.sheets.fill(PRIME);
+            if round <= way.rounds() {
+                assert_eq!(heard(&away), Err(Refusal::ShareOutOfRange));
+            } else {
+                assert_eq!(heard(&away), heard(&here));
+            }
         }
     }
 }
@@ -412,10 +478,10 @@ fn an_own_place_that_is_not_marked() {
 /// is noticed; with t + 1 it opens.
 #[test]
 fn a_wrong_message_is_noticed_by_more_than_t_plus_1() {
-    for n in PARTIES {
-        let mut parties = parties(n);
+    for (n, way) in PARTIES.flat_map(|n| WAYS.map(|way| (n, way))) {
+        let mut parties = parties(n, way);
         let right = words_by(&parties, &first(n, n as usize));
-        let (before, sheets) = (parties[0].store(), sheet_words(n, 1));
+        let (before, sheets) = (parties[0].store(), sheet_words(n, 1, way));
         round(&mut parties);
         let sum = field(&parties[0], SUM);
         for present in choices(n).filter(|present| count(present) > threshold(n)) {
@@ -441,16 +507,32 @@ fn a_wrong_message_is_noticed_by_more_than_t_plus_1() {
 /// is told.
 #[test]
 fn other_marks_may_lead_elsewhere() {
-    let mut parties = parties(5);
-    let mut messages = words_by(&parties, &[1; 5]);
-    // Of points 1, 2 and 4, the first has weight 8/3 at 0.
-    messages[0] = (messages[0] + 3) % PRIME;
-    let sums = [(3, [1, 1, 0, 1, 0]), (4, [0, 1, 0, 1, 1])].map(|(place, present)| {
-        let party: &mut Speaking = &mut parties[place];
-        party.hear(&from_marked(&messages, &present)).unwrap();
-        field(party, SUM)
-    });
-    assert_eq!(sums[0], sums[1] + 8);
+    for way in WAYS {
+        let mut parties = parties(5, way);
+        let mut messages = words_by(&parties, &[1; 5]);
+        // Of points 1, 2 and 4, the first has weight 8/3 at 0.
+        messages[0] = (messages[0] + 3) % PRIME;
+        let sums = [(3, [1, 1, 0, 1, 0]), (4, [0, 1, 0, 1, 1])].map(|(place, present)| {
+            let party: &mut Speaking = &mut parties[place];
+            party.hear(&from_marked(&messages, &present)).unwrap();
+            field(party, SUM)
+        });
+        assert_eq!(sums[0], sums[1] + 8);
+    }
+}
+
+/// Five parties of which the fifth has heard one round and misses the next; and what
+/// all of them say then.
+fn with_one_behind(way: Way) -> (Vec<Speaking>, Vec<Option<Message>>) {
+    let mut parties = parties(5, way);
+    round(&mut parties);
+    let present = first(5, 4);
+    let said = said_by(&parties, &present);
+    heard_by(&mut parties, &present, 1, &said);
+    let rounds = [&parties[0], &parties[4]].map(|party| party.record().round);
+    assert_eq!(rounds, [3, 2]);
+    let early = said_by(&parties, &[1; 5]);
+    (parties, early)
 }
 
 /// Why a party hears all that it has missed before it is marked: until then it says
@@ -458,29 +540,34 @@ fn other_marks_may_lead_elsewhere() {
 /// t + 1 it opens, to something else.
 #[test]
 fn a_party_that_is_marked_too_early() {
-    let mut parties = parties(5);
-    // The fifth has heard one round and misses the next.
-    round(&mut parties);
-    let present = first(5, 4);
-    let said = said_by(&parties, &present);
-    heard_by(&mut parties, &present, 1, &said);
-    let rounds = [&parties[0], &parties[4]].map(|party| party.record().round);
-    assert_eq!(rounds, [3, 2]);
-    let early = words_by(&parties, &[1; 5]);
+    let way = Way::Rounds33;
+    let (mut parties, early) = with_one_behind(way);
     for party in &mut parties[..4] {
-        let reply = party.hear(&from_marked(&early, &[1; 5]));
-        assert_eq!(reply, Err(Refusal::Inconsistent));
+        assert_eq!(party.hear(&early), Err(Refusal::Inconsistent));
     }
     let carries = [[1, 0, 1, 0, 1], [1, 1, 1, 1, 0]].map(|present| {
-        let mut party = again(&parties[0].store(), &sheet_words(5, 1));
-        party.hear(&from_marked(&early, &present)).unwrap();
+        let mut party = again(&parties[0].store(), &sheet_words(5, 1, way));
+        party.hear(&those_marked(&early, &present)).unwrap();
         field(&party, CARRY)
     });
     assert_ne!(carries[0], carries[1]);
 }
 
-/// Where a sheet has its share of beta of round 2: behind those of the mask, of 33 bits
-/// and of alpha.
+/// On the way of 7 rounds a level has not as many words as another, so that it is
+/// noticed whoever else is marked.
+#[test]
+fn a_party_that_is_marked_a_level_too_early() {
+    let (mut parties, early) = with_one_behind(Way::Rounds7);
+    for present in choices(5).filter(|present| present[4] == 1) {
+        let round = those_marked(&early, &present);
+        for party in &mut parties[..4] {
+            assert_eq!(party.hear(&round), Err(Refusal::WrongLength));
+        }
+    }
+}
+
+/// Where a sheet has its share of beta of the first product: behind those of the mask,
+/// of 33 bits and of alpha.
 const BETA: usize = 1 + 33 + 1;
 
 /// Why a round is heard once: from one stored session with other messages, the
@@ -488,34 +575,55 @@ const BETA: usize = 1 + 33 + 1;
 /// at 0 in the byte field, so that three bytes open to their sum.
 #[test]
 fn a_share_is_given_away_by_a_round_heard_twice() {
-    let mut parties = parties(5);
+    for way in WAYS {
+        assert_given_away_by_a_round_heard_twice(way);
+    }
+}
+
+fn assert_given_away_by_a_round_heard_twice(way: Way) {
+    let mut parties = parties(5, way);
     round(&mut parties);
     let present = [1, 1, 1, 0, 0];
-    let messages = words_by(&parties, &present);
-    let (before, sheets) = (parties[3].store(), sheet_words(5, 4));
-    // The low bytes, and with them D, are changed by 1; E stays.
-    let changed: Vec<u64> = messages.iter().map(|message| message ^ 1).collect();
+    let said = said_by(&parties, &present);
+    let messages: Vec<Vec<u64>> = said.into_iter().flatten().map(|it| it.to_vec()).collect();
+    let (before, sheets) = (parties[3].store(), sheet_words(5, 4, way));
+    // The low bytes of the first product, and with them D, are changed by 1; E stays.
+    let mut changed = messages.clone();
+    changed.iter_mut().for_each(|message| message[0] ^= 1);
     let [one, other] = [&messages, &changed].map(|messages| {
         let mut party = again(&before, &sheets);
-        party.hear(&from_marked(messages, &present)).unwrap();
+        let mut round = vec![None; 5];
+        for (said, message) in round.iter_mut().zip(messages) {
+            *said = Some(&message[..]);
+        }
+        party.hear(&round).unwrap();
         party.say().unwrap()[0]
     });
-    let e = messages[..3]
-        .iter()
-        .fold(0, |e, message| e ^ (message / 256));
-    assert_eq!((one ^ other) / 256, sheets[BETA] ^ e);
+    let e = messages.iter().fold(0, |e, message| e ^ (message[0] / 256));
+    // The product is a factor of the next one: the second in 33 rounds, the first in 7.
+    let given = match way {
+        Way::Rounds7 => (one ^ other) % 256,
+        _ => (one ^ other) / 256,
+    };
+    assert_eq!(given, sheets[BETA] ^ e);
 }
 
 /// Where shares do not fit, t + 1 parties alone may not notice.
 #[test]
 fn a_bid_missing_at_one_party_is_found_by_more_than_t_plus_1() {
-    let parties = parties(5);
+    for way in WAYS {
+        assert_missing_bid_found(way);
+    }
+}
+
+fn assert_missing_bid_found(way: Way) {
+    let parties = parties(5, way);
     // The fifth party has not added the bid.
-    let session = Collecting::open(seat(5, 5, K)).unwrap();
-    let lacking = session.speak(sheets(5, 5, K));
+    let seat = seat(5, 5, K, way);
+    let lacking = Collecting::open(seat).unwrap().speak(sheets(seat));
     let mut messages = words_by(&parties, &[1; 5]);
     messages[4] = lacking.say().unwrap()[0];
-    let (before, sheets) = (parties[0].store(), sheet_words(5, 1));
+    let (before, sheets) = (parties[0].store(), sheet_words(5, 1, way));
     for present in choices(5).filter(|present| count(present) > 2) {
         let mut party = again(&before, &sheets);
         let reply = party.hear(&from_marked(&messages, &present));
@@ -529,16 +637,18 @@ fn a_bid_missing_at_one_party_is_found_by_more_than_t_plus_1() {
 
 #[test]
 fn a_record_that_is_over_hears_nothing() {
-    let mut hearing = good();
-    hearing.record[LO] = 0;
-    hearing.record[HI] = 1;
-    hearing.record[SEARCH] = 2;
-    let mut cleared = good_in(SUPPLY_ROUND);
-    cleared.record[ROUND] = OVER_ROUND;
-    for present in choices(5) {
-        for hearing in [&mut hearing, &mut cleared] {
-            hearing.present.clone_from(&present);
-            assert_eq!(heard(hearing), Err(Refusal::OutOfTurn));
+    for way in WAYS {
+        let mut hearings = [good(way), good_in(way, 2), good_in(way, SUPPLY_ROUND)];
+        let [probing, level, cleared] = &mut hearings;
+        for Hearing { record, .. } in [probing, level] {
+            [record[LO], record[HI], record[SEARCH]] = [0, 1, 2];
+        }
+        cleared.record[ROUND] = OVER_ROUND;
+        for present in choices(5) {
+            for hearing in &mut hearings {
+                hearing.present.clone_from(&present);
+                assert_eq!(heard(hearing), Err(Refusal::OutOfTurn));
+            }
         }
     }
 }

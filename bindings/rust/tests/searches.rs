@@ -4,15 +4,15 @@
 use clockivy::words::place;
 use clockivy::{
     probe_limit, sheet_count, sheets_len, words, Collecting, Outcome, Record, Refusal, Sheets,
-    Speaking, BLANK, DEMAND_ROUND, OVER_ROUND, RECORD_LEN, SUPPLY_ROUND, TOTAL_LIMIT,
+    Speaking, Way, BLANK, DEMAND_ROUND, OVER_ROUND, PAIRS_LEN, RECORD_LEN, SUPPLY_ROUND,
+    TOTAL_LIMIT,
 };
 use clockivy_testing::{
-    collected, from_all, meeting, parts, plain_round, reply, round, sheets, stored, Bid, Plain, WAY,
+    collected, from_all, from_marked, meeting, message_len, parts, plain_round, reply, round, seat,
+    sheets, stored, Bid, Plain, WAYS,
 };
 
 const N: u64 = 3;
-/// The words of a sheet.
-const SHEET: usize = WAY.sheet_len();
 
 /// These tables as bids, of bidders 1, 2 and so on.
 fn numbered(tables: &[Vec<u64>]) -> Vec<Bid<'_>> {
@@ -20,22 +20,28 @@ fn numbered(tables: &[Vec<u64>]) -> Vec<Bid<'_>> {
 }
 
 /// Three parties, about to speak.
-fn panel(k: u64, tables: &[Vec<u64>]) -> Vec<Speaking> {
-    clockivy_testing::panel(N, k, &numbered(tables))
+fn panel(k: u64, way: Way, tables: &[Vec<u64>]) -> Vec<Speaking> {
+    clockivy_testing::panel(N, k, way, &numbered(tables))
 }
 
 /// The same on plain words.
-fn plain_panel(k: u64, tables: &[Vec<u64>]) -> Vec<Plain> {
+fn plain_panel(k: u64, way: Way, tables: &[Vec<u64>]) -> Vec<Plain> {
     (1..=N)
         .map(|own| {
-            let session = collected(N, own, k, &numbered(tables));
-            Plain::resume(&session.store(), sheets(N, own, k).words())
+            let seat = seat(N, own, k, way);
+            let session = collected(seat, &numbered(tables));
+            Plain::resume(&session.store(), sheets(seat).words())
         })
         .collect()
 }
 
+/// The first of three parties, without a bid.
+fn alone(k: u64, way: Way) -> Collecting {
+    collected(seat(N, 1, k, way), &[])
+}
+
 fn probe(parties: &mut [Speaking]) {
-    for _ in 1..=WAY.rounds() {
+    for _ in 1..=parties[0].record().last {
         round(parties);
     }
 }
@@ -69,14 +75,22 @@ fn assert_not_yet(party: &Speaking) {
     assert_eq!(asked(parts(&party.store()).0), not_yet);
 }
 
-/// The price of these bids, or 0, and what the first search gave.
+/// The price of these bids, or 0, and what the first search gave. Either way comes to
+/// it by the same probes.
 fn price(k: u64, tables: &[Vec<u64>]) -> (u64, u64) {
-    let mut parties = panel(k, tables);
-    let mut made = 0;
+    let [(found, probes), other] = WAYS.map(|way| price_by(k, way, tables));
+    assert_eq!((found, probes), other);
+    found
+}
+
+/// The same on this way, with what the record says of the searches after each probe.
+fn price_by(k: u64, way: Way, tables: &[Vec<u64>]) -> ((u64, u64), Vec<[u64; 6]>) {
+    let mut parties = panel(k, way, tables);
+    let mut made = Vec::new();
     while parties[0].outcome() == Ok(None) && parties[0].record().round == 1 {
         assert_not_yet(&parties[0]);
         probe(&mut parties);
-        made += 1;
+        made.push(searches(parties[0].record()));
     }
     let first = parties[0].record().first;
     if first > 0 {
@@ -92,15 +106,15 @@ fn price(k: u64, tables: &[Vec<u64>]) -> (u64, u64) {
         Ok(Some(Outcome::NoPrice { probes })) => (0, probes),
         other => panic!("{other:?}"),
     };
-    assert_eq!(probes, made);
-    assert!(probes as usize <= probe_limit(k) + probe_limit(first));
+    assert_eq!(probes as usize, made.len());
+    assert!(made.len() <= probe_limit(k) + probe_limit(first));
     for party in &mut parties {
         assert_eq!((party.outcome(), party.record().first), (outcome, first));
         assert_eq!(party.index(), index);
         assert_eq!(party.say(), Err(Refusal::OutOfTurn));
         assert_eq!(party.hear(&from_all(&[0; 3])), Err(Refusal::OutOfTurn));
     }
-    (index, first)
+    ((index, first), made)
 }
 
 #[test]
@@ -138,9 +152,15 @@ fn bids_of_several_bidders() {
 
 #[test]
 fn the_hearing_that_ends_the_first_search_begins_the_second() {
+    for way in WAYS {
+        assert_second_begun(way);
+    }
+}
+
+fn assert_second_begun(way: Way) {
     // Demand 5 and 2, supply 1 and 4: demand is at least supply at index 1, and
     // supply at least demand nowhere up to it.
-    let mut parties = panel(2, &[vec![5, 2, 1, 4]]);
+    let mut parties = panel(2, way, &[vec![5, 2, 1, 4]]);
     for left in [[1, 3, 1, 1, 0, 0], [0, 2, 2, 2, 1, 2], [1, 2, 3, 2, 1, 2]] {
         probe(&mut parties);
         for party in &parties {
@@ -153,6 +173,7 @@ fn the_hearing_that_ends_the_first_search_begins_the_second() {
             let stored = party.store();
             let (record, _) = parts(&stored);
             assert_eq!((record[place::SUM], record[place::CARRY]), (0, 0));
+            assert_eq!(record[place::PAIRS..], [0; PAIRS_LEN]);
             assert_eq!(party.outcome(), Ok(None));
         }
     }
@@ -160,40 +181,50 @@ fn the_hearing_that_ends_the_first_search_begins_the_second() {
 
 #[test]
 fn without_a_price_the_second_search_is_over_as_it_begins() {
-    let mut parties = panel(2, &[vec![0, 0, 1, 1]]);
-    probe(&mut parties);
-    for party in &parties {
-        assert_eq!(searches(party.record()), [0, 1, 1, 2, 0, 1]);
-        let none = Outcome::NoPrice { probes: 1 };
-        assert_eq!(party.outcome(), Ok(Some(none)));
+    for way in WAYS {
+        let mut parties = panel(2, way, &[vec![0, 0, 1, 1]]);
+        probe(&mut parties);
+        for party in &parties {
+            assert_eq!(searches(party.record()), [0, 1, 1, 2, 0, 1]);
+            let none = Outcome::NoPrice { probes: 1 };
+            assert_eq!(party.outcome(), Ok(Some(none)));
+        }
     }
 }
 
 #[test]
 fn sheets_are_lent_for_both_searches() {
-    let wrong_length = Refusal::WrongLength;
-    for k in [1, 2, 5, 8] {
-        let length = sheets_len(k, WAY);
-        assert_eq!(length, 2 * probe_limit(k) * SHEET);
-        let good = sheets(N, 1, k);
-        for other in [0, length / 2, length - 1, length + 1, length + SHEET] {
-            // Sheets have the length of some k; on plain words they may have any.
-            let mut words = good.words().to_vec();
-            words.resize(other, 1);
-            let received = Sheets::received(k, WAY, &words);
-            assert_eq!(received.err(), Some(wrong_length));
-            let mut party = Plain::resume(&collected(N, 1, k, &[]).store(), &words);
-            assert_eq!(party.say(), Err(wrong_length));
-            assert_eq!(party.hear(&[0; 3], &[1; 3]), Err(wrong_length));
+    for way in WAYS {
+        for k in [1, 2, 5, 8] {
+            assert_lent(k, way);
         }
-        // Those of another k, where that takes another number of probes.
-        for other in [1, 2, 5, 8].into_iter().filter(|&other| other != k) {
-            let mut party = collected(N, 1, k, &[]).speak(sheets(N, 1, other));
-            assert_eq!(party.say(), Err(wrong_length));
-            assert_eq!(party.hear(&from_all(&[0; 3])), Err(wrong_length));
-        }
-        assert!(collected(N, 1, k, &[]).speak(good).say().is_ok());
     }
+}
+
+fn assert_lent(k: u64, way: Way) {
+    let wrong_length = Refusal::WrongLength;
+    let (length, sheet) = (sheets_len(k, way), way.sheet_len());
+    assert_eq!(length, 2 * probe_limit(k) * sheet);
+    let good = sheets(seat(N, 1, k, way));
+    for other in [0, length / 2, length - 1, length + 1, length + sheet] {
+        // Sheets have the length of some k; on plain words they may have any.
+        let mut words = good.words().to_vec();
+        words.resize(other, 1);
+        let received = Sheets::received(k, way, &words);
+        assert_eq!(received.err(), Some(wrong_length));
+        let mut party = Plain::resume(&alone(k, way).store(), &words);
+        assert_eq!(party.say(), Err(wrong_length));
+        assert_eq!(party.hear(&[0; 3], &[1; 3]), Err(wrong_length));
+    }
+    // Those of another k, where that takes another number of probes, and of another way.
+    let others = [1, 2, 5, 8].map(|other| WAYS.map(|way| (other, way)));
+    let others = others.into_iter().flatten();
+    for (other, other_way) in others.filter(|&other| other != (k, way)) {
+        let mut party = alone(k, way).speak(sheets(seat(N, 1, other, other_way)));
+        assert_eq!(party.say(), Err(wrong_length));
+        assert_eq!(party.hear(&from_all(&[0; 3])), Err(wrong_length));
+    }
+    assert!(alone(k, way).speak(good).say().is_ok());
 }
 
 /// The sheets of both searches are taken in turn: each probe finds its own in the
@@ -201,31 +232,36 @@ fn sheets_are_lent_for_both_searches() {
 /// a sheet. The words are plain, since no sheets are received that are blank in part.
 #[test]
 fn with_q_probes_done_the_current_sheet_is_the_next_one() {
-    let k = 5;
-    for (low, high) in [(1, 5), (2, 4), (4, 3), (1, 0), (6, 5)] {
-        let mut parties = plain_panel(k, &[meeting(k, low, high)]);
-        let dealt: Vec<_> = parties.iter().map(|it| it.sheets.clone()).collect();
-        let is_over = |party: &Plain| asked(&party.record)[0].is_none();
-        for place in 0.. {
-            for party in &mut parties {
-                party.sheets.fill(BLANK);
-            }
-            if parties[0].record[place::ROUND] == DEMAND_ROUND {
-                plain_round(&mut parties);
-                plain_round(&mut parties);
-                assert!(is_over(&parties[0]));
-            }
-            if is_over(&parties[0]) {
-                break;
-            }
-            assert!(place < sheet_count(k));
-            for (party, dealt) in parties.iter_mut().zip(&dealt) {
-                let sheet = place * SHEET..(place + 1) * SHEET;
-                party.sheets[sheet.clone()].copy_from_slice(&dealt[sheet]);
-            }
-            for _ in 1..=WAY.rounds() {
-                plain_round(&mut parties);
-            }
+    for way in WAYS {
+        for (low, high) in [(1, 5), (2, 4), (4, 3), (1, 0), (6, 5)] {
+            assert_sheets_in_turn(5, way, meeting(5, low, high));
+        }
+    }
+}
+
+fn assert_sheets_in_turn(k: u64, way: Way, table: Vec<u64>) {
+    let mut parties = plain_panel(k, way, &[table]);
+    let dealt: Vec<_> = parties.iter().map(|it| it.sheets.clone()).collect();
+    let is_over = |party: &Plain| asked(&party.record)[0].is_none();
+    for place in 0.. {
+        for party in &mut parties {
+            party.sheets.fill(BLANK);
+        }
+        if parties[0].record[place::ROUND] == DEMAND_ROUND {
+            plain_round(&mut parties);
+            plain_round(&mut parties);
+            assert!(is_over(&parties[0]));
+        }
+        if is_over(&parties[0]) {
+            break;
+        }
+        assert!(place < sheet_count(k));
+        for (party, dealt) in parties.iter_mut().zip(&dealt) {
+            let sheet = place * way.sheet_len()..(place + 1) * way.sheet_len();
+            party.sheets[sheet.clone()].copy_from_slice(&dealt[sheet]);
+        }
+        for _ in 1..=way.rounds() {
+            plain_round(&mut parties);
         }
     }
 }
@@ -233,7 +269,8 @@ fn with_q_probes_done_the_current_sheet_is_the_next_one() {
 /// The record of party 1 over five prices, which take at most three probes, with
 /// these numbers of the searches. Where they have ended with a price, the totals
 /// are open.
-fn record([lo, hi, probes, search, first, first_probes]: [u64; 6]) -> [u64; RECORD_LEN] {
+fn record(way: Way, numbers: [u64; 6]) -> [u64; RECORD_LEN] {
+    let [lo, hi, probes, search, first, first_probes] = numbers;
     let ended = search == 2 && hi.wrapping_sub(lo) == 1;
     let round = if ended && first > 0 { OVER_ROUND } else { 1 };
     clockivy_testing::record(&[
@@ -247,6 +284,7 @@ fn record([lo, hi, probes, search, first, first_probes]: [u64; 6]) -> [u64; RECO
         (place::SEARCH, search),
         (place::FIRST, first),
         (place::FIRST_PROBES, first_probes),
+        (place::LAST, way.rounds()),
     ])
 }
 
@@ -259,7 +297,8 @@ fn replies(record: [u64; RECORD_LEN]) -> [Option<Refusal>; 5] {
     if added.is_some() {
         assert_eq!(collecting.store(), collects);
     }
-    let mut party = Speaking::resume(&speaks, sheets(N, 1, 5)).unwrap();
+    let way = Way::from_rounds(record[place::LAST]).unwrap_or(Way::Rounds33);
+    let mut party = Speaking::resume(&speaks, sheets(seat(N, 1, 5, way))).unwrap();
     let said = party.say().err();
     // An outcome has the answer and the totals at once.
     let [answered, filled] = asked(&record);
@@ -272,14 +311,21 @@ fn replies(record: [u64; RECORD_LEN]) -> [Option<Refusal>; 5] {
             assert_eq!([answered, filled], [None, not_cleared]);
         }
     }
-    // A word that the party does not say, so that a hearing is refused too.
-    let heard = party.hear(&from_all(&[u64::MAX; 3])).err();
+    // Words that the party does not say, so that a hearing is refused too.
+    let words = vec![u64::MAX; 3 * message_len(&record)];
+    let heard = party.hear(&from_marked(&words, &[1; 3])).err();
     assert_eq!(party.store(), speaks);
     [added, said, heard, answered, filled]
 }
 
 #[test]
 fn records_within_their_ranges() {
+    for way in WAYS {
+        assert_within_their_ranges(|numbers| record(way, numbers));
+    }
+}
+
+fn assert_within_their_ranges(record: impl Fn([u64; 6]) -> [u64; RECORD_LEN]) {
     let out_of_turn = Some(Refusal::OutOfTurn);
     let differs = Some(Refusal::OwnMessageDiffers);
     let not_cleared = Some(Refusal::NotCleared);
@@ -317,36 +363,69 @@ fn records_within_their_ranges() {
     }
 }
 
-/// The rounds that a record may stand at go by its searches, and its totals are
-/// totals, opened or not.
+/// What every call replies to a record that is not sound.
+const UNSOUND: [Option<Refusal>; 5] = [Some(Refusal::OutOfRange); 5];
+/// The numbers of searches that go on, and of some that have ended without a price.
+const NO_PRICE: [[u64; 6]; 3] = [[0, 6, 0, 1, 0, 0], [0, 6, 3, 2, 5, 3], [0, 1, 3, 2, 0, 3]];
+/// Those of searches that have ended with one.
+const PRICE: [u64; 6] = [2, 3, 6, 2, 5, 3];
+
+/// The rounds that a record may stand at go by its searches and its way.
 #[test]
-fn rounds_and_totals_out_of_range() {
-    let unsound = [Some(Refusal::OutOfRange); 5];
-    let going_on = [[0, 6, 0, 1, 0, 0], [0, 6, 3, 2, 5, 3]];
-    let (no_price, ended) = ([0, 1, 3, 2, 0, 3], [2, 3, 6, 2, 5, 3]);
-    for round in (0..=40).chain([1 << 32, u64::MAX]) {
-        for numbers in going_on.into_iter().chain([no_price]) {
-            let mut record = record(numbers);
-            record[place::ROUND] = round;
-            let sound = (1..=33).contains(&round);
-            assert_eq!(replies(record) != unsound, sound, "{round}");
+fn rounds_out_of_range() {
+    for way in WAYS {
+        for round in (0..=40).chain([1 << 32, u64::MAX]) {
+            let is_sound = |numbers| {
+                let mut record = record(way, numbers);
+                record[place::ROUND] = round;
+                replies(record) != UNSOUND
+            };
+            for numbers in NO_PRICE {
+                let in_probe = (1..=way.rounds()).contains(&round);
+                assert_eq!(is_sound(numbers), in_probe, "{round}");
+            }
+            assert_eq!(is_sound(PRICE), (34..=36).contains(&round), "{round}");
         }
-        let mut record = record(ended);
-        record[place::ROUND] = round;
-        let sound = (34..=36).contains(&round);
-        assert_eq!(replies(record) != unsound, sound, "{round}");
     }
+}
+
+/// Its totals are totals, opened or not.
+#[test]
+fn totals_out_of_range() {
     let limit = TOTAL_LIMIT;
-    for numbers in going_on.into_iter().chain([no_price, ended]) {
-        for [demand, supply] in [[0, 1], [6, 7], [limit, 0], [limit, limit], [0, u64::MAX]] {
-            let mut record = record(numbers);
+    let all = NO_PRICE.into_iter().chain([PRICE]);
+    for (numbers, way) in all.flat_map(|numbers| WAYS.map(|way| (numbers, way))) {
+        let is_sound = |[demand, supply]: [u64; 2]| {
+            let mut record = record(way, numbers);
             [record[place::DEMAND], record[place::SUPPLY]] = [demand, supply];
-            assert_eq!(replies(record), unsound);
+            replies(record) != UNSOUND
+        };
+        for totals in [[0, 1], [6, 7], [limit, 0], [limit, limit], [0, u64::MAX]] {
+            assert!(!is_sound(totals));
         }
-        for [demand, supply] in [[1, 0], [7, 7], [limit - 1, 0], [limit - 1, limit - 1]] {
-            let mut record = record(numbers);
-            [record[place::DEMAND], record[place::SUPPLY]] = [demand, supply];
-            assert_ne!(replies(record), unsound);
+        for totals in [[1, 0], [7, 7], [limit - 1, 0], [limit - 1, limit - 1]] {
+            assert!(is_sound(totals));
+        }
+    }
+}
+
+/// Either way its carry and its pairs are bytes, wherever it stands, and there is no
+/// third way.
+#[test]
+fn shares_and_ways_out_of_range() {
+    let all = NO_PRICE.into_iter().chain([PRICE]);
+    for (numbers, way) in all.flat_map(|numbers| WAYS.map(|way| (numbers, way))) {
+        let is_sound = |place: usize, word| {
+            let mut record = record(way, numbers);
+            record[place] = word;
+            replies(record) != UNSOUND
+        };
+        for place in (place::PAIRS..RECORD_LEN).chain([place::CARRY]) {
+            assert!(is_sound(place, 1) && is_sound(place, 255));
+            assert!(!is_sound(place, 256) && !is_sound(place, u64::MAX));
+        }
+        for last in (0..=40).chain([127, 220, (1 << 32) + 7, u64::MAX]) {
+            assert_eq!(is_sound(place::LAST, last), last == 7 || last == 33);
         }
     }
 }
@@ -399,8 +478,9 @@ fn records_out_of_range() {
         [3, 2, 3, 2, 5, 3],
         [0, 0, 3, 2, 5, 3],
     ] {
-        let expected = [Some(Refusal::OutOfRange); 5];
-        assert_eq!(replies(record(numbers)), expected, "{numbers:?}");
+        for way in WAYS {
+            assert_eq!(replies(record(way, numbers)), UNSOUND, "{numbers:?}");
+        }
     }
 }
 
@@ -410,20 +490,22 @@ fn records_out_of_range() {
 #[test]
 fn totals_are_given_away_by_a_sheet_that_serves_both_searches() {
     let (demand, supply) = (9_000, 70);
-    let mut parties = plain_panel(1, &[vec![demand, supply]]);
-    for Plain { sheets, .. } in &mut parties {
-        let (first, second) = sheets.split_at_mut(SHEET);
-        second.copy_from_slice(first);
-        let received = Sheets::received(1, WAY, sheets);
-        assert_eq!(received.err(), Some(Refusal::ShareOutOfRange));
-    }
-    let mut sums = Vec::new();
-    while asked(&parties[0].record)[0].is_some() {
-        plain_round(&mut parties);
-        let record = &parties[0].record;
-        if record[place::ROUND] == 2 {
-            sums.push(record[place::SUM]);
+    for way in WAYS {
+        let mut parties = plain_panel(1, way, &[vec![demand, supply]]);
+        for Plain { sheets, .. } in &mut parties {
+            let (first, second) = sheets.split_at_mut(way.sheet_len());
+            second.copy_from_slice(first);
+            let received = Sheets::received(1, way, sheets);
+            assert_eq!(received.err(), Some(Refusal::ShareOutOfRange));
         }
+        let mut sums = Vec::new();
+        while asked(&parties[0].record)[0].is_some() {
+            plain_round(&mut parties);
+            let record = &parties[0].record;
+            if record[place::ROUND] == 2 {
+                sums.push(record[place::SUM]);
+            }
+        }
+        assert_eq!(sums[0] - sums[1], 2 * (demand - supply));
     }
-    assert_eq!(sums[0] - sums[1], 2 * (demand - supply));
 }

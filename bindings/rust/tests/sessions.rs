@@ -2,11 +2,11 @@
 
 use clockivy::words::place;
 use clockivy::{
-    split, split_entry, stored_len, table_len, words, Cleared, Collecting, Outcome, Refusal,
-    Sheets, Speaking, MAX_PRICES, PRIME, RECORD_LEN, VERSION,
+    split, split_entry, stored_len, table_len, words, Cleared, Collecting, Outcome, Refusal, Seat,
+    Sheets, Speaking, Way, MAX_PRICES, PAIRS_LEN, PRIME, RECORD_LEN, VERSION,
 };
 use clockivy_testing::{
-    from_all, panel, parts, record, reply, round, said, seat, sheets, stored, Plain, WAY,
+    from_all, go_on_until, panel, parts, record, reply, said, sheets, stored, Plain, WAY, WAYS,
 };
 
 const N: u64 = 3;
@@ -16,8 +16,19 @@ const TABLE: [u64; 4] = [5, 2, 1, 4];
 /// The number of the one who bids it.
 const BIDDER: u64 = 640;
 
-/// The record of party 1 before the first round, with these bidders on the roll.
+/// The seat of one party.
+fn seat(own: u64, way: Way) -> Seat {
+    clockivy_testing::seat(N, own, K, way)
+}
+
+/// The record of party 1 before the first round, with these bidders on the roll. To a
+/// bid the way makes no difference.
 fn with_bids(bidders: &[u64]) -> [u64; RECORD_LEN] {
+    with_bids_on(WAY, bidders)
+}
+
+/// The same on this way.
+fn with_bids_on(way: Way, bidders: &[u64]) -> [u64; RECORD_LEN] {
     let mut record = record(&[
         (place::N, N),
         (place::OWN, 1),
@@ -26,6 +37,7 @@ fn with_bids(bidders: &[u64]) -> [u64; RECORD_LEN] {
         (place::HI, K + 1),
         (place::ROUND, 1),
         (place::SEARCH, 1),
+        (place::LAST, way.rounds()),
     ]);
     for bidder in bidders {
         record[place::ROLL + *bidder as usize / 64] |= 1 << (bidder % 64);
@@ -36,7 +48,7 @@ fn with_bids(bidders: &[u64]) -> [u64; RECORD_LEN] {
 /// A party's shares of the table from these coins.
 fn split_from(own: u64, coins: [u64; 4]) -> [u64; 4] {
     let mut shares = [0; 4];
-    split(seat(N, own, K), &TABLE, &coins, &mut shares).unwrap();
+    split(seat(own, WAY), &TABLE, &coins, &mut shares).unwrap();
     shares
 }
 
@@ -45,22 +57,26 @@ fn shares(own: u64) -> [u64; 4] {
 }
 
 /// One party with the bid added.
-fn collected(own: u64) -> Collecting {
-    clockivy_testing::collected(N, own, K, &[(BIDDER, &TABLE)])
+fn collected(own: u64, way: Way) -> Collecting {
+    clockivy_testing::collected(seat(own, way), &[(BIDDER, &TABLE)])
 }
 
 #[test]
 fn bids_and_then_rounds() {
-    let mut session = Collecting::open(seat(N, 1, K)).unwrap();
-    assert_eq!(session.store(), stored(0, &with_bids(&[]), &[0; 4]));
-    session.add(BIDDER, &shares(1)).unwrap();
-    let one_bid = with_bids(&[BIDDER]);
-    assert_eq!(session.store(), stored(0, &one_bid, &shares(1)));
+    for way in WAYS {
+        let mut session = Collecting::open(seat(1, way)).unwrap();
+        let opened = with_bids_on(way, &[]);
+        assert_eq!(session.store(), stored(0, &opened, &[0; 4]));
+        assert_eq!(session.record().way(), Some(way));
+        session.add(BIDDER, &shares(1)).unwrap();
+        let one_bid = with_bids_on(way, &[BIDDER]);
+        assert_eq!(session.store(), stored(0, &one_bid, &shares(1)));
 
-    let party = session.speak(sheets(N, 1, K));
-    assert_eq!(party.store(), stored(1, &one_bid, &shares(1)));
-    assert_eq!((party.outcome(), party.index()), (Ok(None), 1));
-    assert_eq!(party.say().unwrap(), party.say().unwrap());
+        let party = session.speak(sheets(seat(1, way)));
+        assert_eq!(party.store(), stored(1, &one_bid, &shares(1)));
+        assert_eq!((party.outcome(), party.index()), (Ok(None), 1));
+        assert_eq!(party.say().unwrap(), party.say().unwrap());
+    }
 }
 
 #[test]
@@ -69,7 +85,7 @@ fn the_fields_of_a_record_in_their_order() {
     let words = stored(1, &record, &[7; table_len(12)]);
     let party = Speaking::resume(&words, Sheets::blank(12, WAY)).unwrap();
     let (left, record) = (party.store(), party.record());
-    // The sum and the carry are shown by the stored words alone.
+    // The sum, the carry and the pairs are shown by the stored words alone.
     let (left, _) = parts(&left);
     let numbers = [
         (place::N, record.n),
@@ -94,15 +110,25 @@ fn the_fields_of_a_record_in_their_order() {
         (place::FIRST_PROBES, record.first_probes),
         (place::DEMAND, record.demand),
         (place::SUPPLY, record.supply),
+        (place::LAST, record.last),
     ];
-    assert_eq!(others.map(|(_, number)| number), [36, 37, 38, 39, 40]);
-    assert_eq!(others.map(|(place, _)| left[place]), [36, 37, 38, 39, 40]);
+    let expected = [36, 37, 38, 39, 40, 41];
+    assert_eq!(others.map(|(_, number)| number), expected);
+    assert_eq!(others.map(|(place, _)| left[place]), expected);
+    let pairs: [u64; PAIRS_LEN] = std::array::from_fn(|place| place as u64 + 42);
+    assert_eq!(left[place::PAIRS..], pairs);
     assert_eq!(party.store(), words);
 }
 
 #[test]
 fn a_refused_call_leaves_the_session() {
-    let mut session = collected(1);
+    for way in WAYS {
+        assert_refused_and_left(way);
+    }
+}
+
+fn assert_refused_and_left(way: Way) {
+    let mut session = collected(1, way);
     let before = session.store();
     for (bidder, shares, refusal) in [
         (0, &[1; 4][..], Refusal::OutOfRange),
@@ -114,7 +140,7 @@ fn a_refused_call_leaves_the_session() {
         assert_eq!(session.store(), before);
     }
 
-    let mut party = session.speak(sheets(N, 1, K));
+    let mut party = session.speak(sheets(seat(1, way)));
     let (before, message) = (party.store(), party.say().unwrap());
     let own = message[0];
     for (messages, refusal) in [
@@ -128,13 +154,24 @@ fn a_refused_call_leaves_the_session() {
     }
 }
 
-/// A message of another length is refused in any place, also where all words together
-/// are as many as they should be.
+/// A message of another length is refused in any place and in any round, also where all
+/// words together are as many as they should be.
 #[test]
 fn a_message_of_another_length() {
-    let parties = panel(N, K, &[(BIDDER, &TABLE)]);
+    for way in WAYS {
+        for number in 1..=7 {
+            let mut parties = panel(N, K, way, &[(BIDDER, &TABLE)]);
+            go_on_until(&mut parties, number);
+            assert_of_another_length(parties, way.message_len(number));
+        }
+    }
+}
+
+/// The parties hear their messages, which have this length, and no other ones.
+fn assert_of_another_length(parties: Vec<Speaking>, length: usize) {
     let say = |party: &Speaking| party.say().unwrap().to_vec();
     let good: Vec<Vec<u64>> = parties.iter().map(say).collect();
+    assert!(good.iter().all(|said| said.len() == length));
     for mut party in parties {
         let before = party.store();
         let mut hear = |round: &[Vec<u64>]| {
@@ -143,11 +180,12 @@ fn a_message_of_another_length() {
         };
         let refused = (Err(Refusal::WrongLength), before);
         for place in 0..3 {
-            for other in [vec![], vec![good[place][0], 0], vec![good[place][0]; 4]] {
+            let others = [0, length / 2, length - 1, length + 1, 2 * length, 64];
+            for other in others.into_iter().filter(|&other| other != length) {
                 let mut round = good.clone();
-                round[place] = other;
+                round[place].resize(other, 0);
                 assert_eq!(hear(&round), refused);
-                round[(place + 1) % 3] = vec![];
+                round[(place + 1) % 3].resize(2 * length - other.min(2 * length), 0);
                 assert_eq!(hear(&round), refused);
             }
         }
@@ -157,17 +195,23 @@ fn a_message_of_another_length() {
 
 #[test]
 fn a_session_resumed_after_every_call_comes_to_its_answer() {
+    for way in WAYS {
+        assert_resumed_after_every_call(way);
+    }
+}
+
+fn assert_resumed_after_every_call(way: Way) {
     let mut parties: Vec<Speaking> = (1..=N)
         .map(|own| {
-            let session = Collecting::resume(&collected(own).store()).unwrap();
-            session.speak(sheets(N, own, K))
+            let session = Collecting::resume(&collected(own, way).store()).unwrap();
+            session.speak(sheets(seat(own, way)))
         })
         .collect();
     while parties[0].outcome() == Ok(None) {
         let messages = said(&parties);
         for (own, party) in (1..).zip(&mut parties) {
             party.hear(&messages).unwrap();
-            let resumed = Speaking::resume(&party.store(), sheets(N, own, K)).unwrap();
+            let resumed = Speaking::resume(&party.store(), sheets(seat(own, way))).unwrap();
             assert_eq!(resumed.store(), party.store());
             assert_eq!(resumed.say(), party.say());
             *party = resumed;
@@ -210,7 +254,7 @@ fn what_is_not_resumed() {
         for length in (0..longer.len()).filter(|&length| length != good.len()) {
             assert_eq!(resume(&longer[..length]), [Some(Refusal::WrongLength); 2]);
         }
-        for version in [0, VERSION + 1, 33, u64::MAX] {
+        for version in [0, VERSION - 1, VERSION + 1, 33, u64::MAX] {
             let mut other = good.clone();
             other[0] = version;
             assert_eq!(resume(&other), out_of_range);
@@ -224,10 +268,13 @@ fn what_is_not_resumed() {
         }
         // Eleven words were a session before there was a roll, 27 before there was a
         // second search, 30 before there were totals, and 32 before there was a version.
+        // Then the record had 31 words, in version 1.
         let unversioned = [&[phase], &opened[..]].concat();
         for length in [11, 27, 30, 32] {
             assert_eq!(resume(&unversioned[..length]), out_of_range);
         }
+        let of_version_1 = [&[1, phase], &opened[..31], &[0; 4]].concat();
+        assert_eq!(resume(&of_version_1), out_of_range);
     }
 }
 
@@ -250,7 +297,7 @@ fn add_to(
 
 #[test]
 fn a_bid_sent_again_is_refused_and_changes_nothing() {
-    let mut session = Collecting::open(seat(N, 1, K)).unwrap();
+    let mut session = Collecting::open(seat(1, WAY)).unwrap();
     session.add(BIDDER, &shares(1)).unwrap();
     session.add(1, &[1, 2, 3, 4]).unwrap();
     let before = session.store();
@@ -318,7 +365,7 @@ fn assert_unsound(record: [u64; RECORD_LEN]) {
         assert_eq!(reply.map(|_| ()), out_of_range);
     }
     let stored = stored(1, &record, &[0; 4]);
-    let mut party = Speaking::resume(&stored, sheets(N, 1, K)).unwrap();
+    let mut party = Speaking::resume(&stored, sheets(seat(1, WAY))).unwrap();
     assert_eq!(party.say().map(|_| ()), out_of_range);
     assert_eq!(party.hear(&from_all(&[0; 3])), out_of_range);
     assert_eq!(party.outcome().map(|_| ()), out_of_range);
@@ -405,7 +452,7 @@ fn bids_in_another_order_leave_the_same() {
         (1_000, [9, 10, PRIME - 11, 12]),
     ];
     let left = |order: [usize; 3]| {
-        let mut session = Collecting::open(seat(N, 1, K)).unwrap();
+        let mut session = Collecting::open(seat(1, WAY)).unwrap();
         for (bidder, shares) in order.map(|place| bids[place]) {
             session.add(bidder, &shares).unwrap();
         }
@@ -421,11 +468,11 @@ fn bids_in_another_order_leave_the_same() {
 fn heard_with(second: impl Fn(u64) -> Option<[u64; 4]>) -> Vec<Result<(), Refusal>> {
     let mut parties: Vec<Speaking> = (1..=N)
         .map(|own| {
-            let mut session = collected(own);
+            let mut session = collected(own, WAY);
             if let Some(shares) = second(own) {
                 session.add(1, &shares).unwrap();
             }
-            session.speak(sheets(N, own, K))
+            session.speak(sheets(seat(own, WAY)))
         })
         .collect();
     let messages = said(&parties);
@@ -486,7 +533,7 @@ fn a_place_of_zeros_that_is_left_out_is_accepted_from_all_parties_alone() {
                 let mut shares = [0; 4];
                 for (entry, coin) in (1..).zip(COINS) {
                     if entry != left_out || !parties.contains(&own) {
-                        split_entry(seat(N, own, K), entry, &TABLE, &[coin], &mut shares).unwrap();
+                        split_entry(seat(own, WAY), entry, &TABLE, &[coin], &mut shares).unwrap();
                     }
                 }
                 Some(shares)
@@ -509,7 +556,8 @@ fn a_place_of_zeros_that_is_left_out_is_accepted_from_all_parties_alone() {
 #[test]
 fn a_bid_sent_again_to_an_older_session_counts_double() {
     let (mut record, mut totals) = ([0; RECORD_LEN], [9; 4]);
-    assert_eq!(words::open(N, 1, K, &mut totals, &mut record), 0);
+    let opened = words::open(N, 1, K, WAY.rounds(), &mut totals, &mut record);
+    assert_eq!(opened, 0);
     let older = record;
     let mut add = |record: &mut [u64]| words::add(record, &mut totals, BIDDER, &[1, 2, 3, 4]);
     assert_eq!(add(&mut record), 0);
@@ -614,17 +662,23 @@ fn any_words_tell_where_a_session_stands() {
     assert!(counts.iter().all(|&count| count > 0), "{counts:?}");
 }
 
-/// Nor are the sum and the carry, which round 1 leaves in the record.
+/// Nor are the sum, the carry and the pairs, which rounds 1 and 2 leave in the record.
 #[test]
 fn neither_totals_nor_sheets_are_shown() {
-    let session = collected(1);
+    for way in WAYS {
+        assert_not_shown(way);
+    }
+}
+
+fn assert_not_shown(way: Way) {
+    let session = collected(1, way);
     let expected = format!("Collecting {{ record: {:?}, .. }}", session.record());
     assert_eq!(format!("{session:?}"), expected);
-    let sheets = sheets(N, 1, K);
+    let sheets = sheets(seat(1, way));
     let expected = format!("Sheets {{ words: {}, .. }}", sheets.words().len());
     assert_eq!(format!("{sheets:?}"), expected);
-    let mut parties = panel(N, K, &[(BIDDER, &TABLE)]);
-    round(&mut parties);
+    let mut parties = panel(N, K, way, &[(BIDDER, &TABLE)]);
+    go_on_until(&mut parties, 3);
     let party = &parties[0];
     let expected = format!("Speaking {{ record: {:?}, .. }}", party.record());
     assert_eq!(format!("{party:?}"), expected);
@@ -634,30 +688,53 @@ fn neither_totals_nor_sheets_are_shown() {
     assert!(record[place::SUM] > 1 << 58);
     let shown = format!("{:?}", party.record());
     assert!(!shown.contains(&record[place::SUM].to_string()));
-    assert!(!shown.contains("sum") && !shown.contains("carry"));
+    let secret = ["sum", "carry", "pairs"];
+    assert!(secret.iter().all(|name| !shown.contains(name)), "{shown}");
+}
+
+/// A message is shown as the words that it has.
+#[test]
+fn a_message_is_shown_as_its_words() {
+    for way in WAYS {
+        let mut parties = panel(N, K, way, &[]);
+        for number in 1..=way.rounds() {
+            go_on_until(&mut parties, number);
+            let message = parties[0].say().unwrap();
+            assert_eq!(
+                format!("{message:?}"),
+                format!("Message({:?})", &message[..])
+            );
+        }
+    }
 }
 
 /// Why a session that starts anew gets new sheets: with those of one that has
 /// spoken, its message differs from the other's by a share of the new bid.
 #[test]
 fn a_bid_is_given_away_by_sheets_used_again() {
-    let before = collected(1).speak(sheets(N, 1, K)).say().unwrap();
-    let mut anew = collected(1);
-    let bid = [9_000, 8_000, 70, 60];
-    anew.add(1, &bid).unwrap();
-    let after = anew.speak(sheets(N, 1, K)).say().unwrap();
-    assert_eq!((after[0] + PRIME - before[0]) % PRIME, bid[0] - bid[2]);
+    for way in WAYS {
+        let sheets = || sheets(seat(1, way));
+        let before = collected(1, way).speak(sheets()).say().unwrap();
+        let mut anew = collected(1, way);
+        let bid = [9_000, 8_000, 70, 60];
+        anew.add(1, &bid).unwrap();
+        let after = anew.speak(sheets()).say().unwrap();
+        assert_eq!((after[0] + PRIME - before[0]) % PRIME, bid[0] - bid[2]);
+    }
 }
 
 /// Why a session that speaks takes no bids: on plain words the library accepts
 /// one, and the messages before and after differ by a share of it.
 #[test]
 fn a_bid_between_two_sayings_is_given_away() {
-    let mut party = Plain::resume(&collected(1).store(), sheets(N, 1, K).words());
-    let before = party.say().unwrap();
-    let bid = [9_000, 8_000, 70, 60];
-    let Plain { record, totals, .. } = &mut party;
-    assert_eq!(words::add(record, totals, 1, &bid), 0);
-    let after = party.say().unwrap();
-    assert_eq!((after + PRIME - before) % PRIME, bid[0] - bid[2]);
+    for way in WAYS {
+        let sheets = sheets(seat(1, way));
+        let mut party = Plain::resume(&collected(1, way).store(), sheets.words());
+        let before = party.say().unwrap();
+        let bid = [9_000, 8_000, 70, 60];
+        let Plain { record, totals, .. } = &mut party;
+        assert_eq!(words::add(record, totals, 1, &bid), 0);
+        let after = party.say().unwrap();
+        assert_eq!((after[0] + PRIME - before[0]) % PRIME, bid[0] - bid[2]);
+    }
 }

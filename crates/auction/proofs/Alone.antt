@@ -29,7 +29,7 @@ module _ (a : Auction) (present : List ℕ) where
       record {
         hears = λ own. cond (is-present present own) (rounds a) 0;
         speaks = λ own round. false;
-        elsewhere = λ own round place. 0;
+        elsewhere = λ own round place at. 0;
         asks = λ own. true;
       }
 

@@ -28,6 +28,8 @@ use Rattle.bid.proofs.Entries.{length-left, all-are-entries, entry-accepted, an
 use Rattle.roll.specs.declared.Roll.{Roll}
 use Rattle.roll.specs.Marks.{marks, empty, mark}
 use Rattle.roll.proofs.Laws.{Proper, Free, marks-mark, marks-empty}
+use Rattle.ways.specs.Way.{is-way}
+use Rattle.kept_pairs.specs.Pairs.{none}
 use Rattle.record.specs.declared.Party.{Party}
 use Rattle.record.specs.Record.{blank}
 use Rattle.session.specs.Open.{open-judgement}
@@ -94,28 +96,28 @@ module _ (n j k : ℕ) (L : OnList n j k) (b : DrawnBid) (shares : List ℕ) (B 
       ∙ shares-written (threshold n) j (b .0 .table) (b .1) (B .many ∙ sym (B .table .long)) (B .groups)
 
 -- the record of party j with the bids of these on the roll held
-unfoldable pub holding : (n k : ℕ) (roll : Roll) (j : ℕ) → Party
-holding n k roll j =
-    record { n = n; own = j; k = k; bids = marks roll; search = first-search k; round = 1; sum = 0; carry = 0; roll = roll; demand = 0; supply = 0 }
+unfoldable pub holding : (n k last : ℕ) (roll : Roll) (j : ℕ) → Party
+holding n k last roll j =
+    record { n = n; own = j; k = k; bids = marks roll; search = first-search k; round = 1; sum = 0; carry = 0; roll = roll; demand = 0; supply = 0; last = last; pairs = none }
 
 -- no probe is made at the start
 none-made : (k : ℕ) → first-search k .probes ≡ 0
 unfolding first-search
 none-made k = refl
 
-pub fresh-holding : (n k j : ℕ) → fresh n j k ≡ holding n k empty j
+pub fresh-holding : (n k last j : ℕ) → fresh n j k last ≡ holding n k last empty j
 unfolding fresh holding
-fresh-holding n k j = rw marks-empty
+fresh-holding n k last j = rw marks-empty
 
-module _ (n k j : ℕ) (roll : Roll) (P : Proper roll) where
-  pub one-more : (b : ℕ) → Free roll b → entered (holding n k roll j) b ≡ holding n k (mark roll b) j
+module _ (n k last j : ℕ) (roll : Roll) (P : Proper roll) where
+  pub one-more : (b : ℕ) → Free roll b → entered (holding n k last roll j) b ≡ holding n k last (mark roll b) j
   unfolding entered holding
   one-more b free = rw (marks-mark roll P b free)
 
-  holding-sound : OnList n j k → Sound (holding n k roll j)
+  holding-sound : OnList n j k → is-way last ≡ true → Sound (holding n k last roll j)
   unfolding holding fresh
-  holding-sound L =
-      let s = fresh-sound n j k L in
+  holding-sound L W =
+      let s = fresh-sound n j k last L W in
       record {
         listed = L;
         search = s .search;
@@ -125,6 +127,8 @@ module _ (n k j : ℕ) (roll : Roll) (P : Proper roll) where
         roll = P;
         bids = refl;
         totals = s .totals;
+        way = W;
+        pairs = s .pairs;
       }
 
 -- ---- the words of a party
@@ -159,7 +163,7 @@ at-party-zeros t j (suc m) = ap₂ (λ (x : ℕ) (xs : List ℕ). x ∷ xs) (val
 
 -- party j with the bids of these on the roll held and the polynomials fs behind the totals
 unfoldable pub holding-seat : (a : Auction) (roll : Roll) (fs : List (List ℕ)) (j : ℕ) → Seat
-holding-seat a roll fs j = record { party = holding (a .n) (a .k) roll j; totals = at-party j fs; sheets = [] }
+holding-seat a roll fs j = record { party = holding (a .n) (a .k) (a .last) roll j; totals = at-party j fs; sheets = [] }
 
 module _ {a : Auction} (A : IsAuction a) (j : ℕ) (h1 : 1 ≤ j) (hn : j ≤ a .n) where
   -- every party of an auction is one of n, with k listed prices
@@ -174,18 +178,18 @@ module _ {a : Auction} (A : IsAuction a) (j : ℕ) (h1 : 1 ≤ j) (hn : j ≤ a 
         prices-most = A .k-most;
       }
 
-  pub opening-accepted : (totals : List ℕ) → length totals ≡ 2 * a .k → open-judgement (a .n) j (a .k) totals ≡ Accepted
-  opening-accepted totals l = open-accepted (a .n) j (a .k) totals (record { listed = member; totals-long = l })
+  pub opening-accepted : (totals : List ℕ) → length totals ≡ 2 * a .k → open-judgement (a .n) j (a .k) (a .last) totals ≡ Accepted
+  opening-accepted totals l = open-accepted (a .n) j (a .k) (a .last) totals (record { listed = member; way = A .way; totals-long = l })
 
 module _ {a : Auction} (A : IsAuction a) (j : ℕ) (h1 : 1 ≤ j) (hn : j ≤ a .n) where
-  pub opened : open-judgement (a .n) j (a .k) (zeros a) ≡ Accepted
+  pub opened : open-judgement (a .n) j (a .k) (a .last) (zeros a) ≡ Accepted
   opened = opening-accepted A j h1 hn (zeros a) (length-replicate (2 * a .k) 0)
 
   pub seated-holding : seated a j ≡ holding-seat a empty (no-totals a) j
   unfolding seated holding-seat
   seated-holding =
       ap₂ (λ (q : Party) (totals : List ℕ). record { party = q; totals = totals; sheets = [] })
-      (next-party _ (fresh (a .n) j (a .k)) blank opened ∙ fresh-holding (a .n) (a .k) j)
+      (next-party _ (fresh (a .n) j (a .k) (a .last)) blank opened ∙ fresh-holding (a .n) (a .k) (a .last) j)
       (kept-new _ (replicate (2 * a .k) 0) (zeros a) opened ∙ sym (at-party-zeros (threshold (a .n)) j (2 * a .k)))
 
   module _ (b : DrawnBid) (B : GoodBid (a .k) (threshold (a .n)) b) where
@@ -224,14 +228,14 @@ module _ {a : Auction} (A : IsAuction a) (j : ℕ) (h1 : 1 ≤ j) (hn : j ≤ a 
 
     module _ (roll : Roll) (fs : List (List ℕ)) (F : Held (a .k) (threshold (a .n)) fs) where
       module _ (P : Proper roll) (free : Free roll (b .0 .bidder)) where
-        pub adding-accepted : add-judgement (holding (a .n) (a .k) roll j) (at-party j fs) (b .0 .bidder) (at-party j (entries (b .0 .table) (b .1))) ≡ Accepted
+        pub adding-accepted : add-judgement (holding (a .n) (a .k) (a .last) roll j) (at-party j fs) (b .0 .bidder) (at-party j (entries (b .0 .table) (b .1))) ≡ Accepted
         unfolding holding
         adding-accepted =
             let E : Held (a .k) (threshold (a .n)) (entries (b .0 .table) (b .1)) = entries-held (a .k) (threshold (a .n)) b B in
             let hj : j < p = point-below (a .n) j (A .n-most) hn in
-            add-accepted (holding (a .n) (a .k) roll j) (at-party j fs) (b .0 .bidder) (at-party j (entries (b .0 .table) (b .1)))
+            add-accepted (holding (a .n) (a .k) (a .last) roll j) (at-party j fs) (b .0 .bidder) (at-party j (entries (b .0 .table) (b .1)))
             (record {
-              sound = holding-sound (a .n) (a .k) j roll P (member A j h1 hn);
+              sound = holding-sound (a .n) (a .k) (a .last) j roll P (member A j h1 hn) (A .way);
               free = free;
               totals-long = length-map fs (λ f. value amounts f j) ∙ F .many;
               shares-long = length-map (entries (b .0 .table) (b .1)) (λ f. value amounts f j) ∙ E .many;
@@ -245,11 +249,11 @@ module _ {a : Auction} (A : IsAuction a) (j : ℕ) (h1 : 1 ≤ j) (hn : j ≤ a 
             → after-adding a desk b (holding-seat a roll fs j) ≡ holding-seat a (mark roll (b .0 .bidder)) (added-polynomials fs (entries (b .0 .table) (b .1))) j
         unfolding after-adding holding-seat
         added-holding desk D =
-            let q : Party = holding (a .n) (a .k) roll j in
+            let q : Party = holding (a .n) (a .k) (a .last) roll j in
             let E : Held (a .k) (threshold (a .n)) (entries (b .0 .table) (b .1)) = entries-held (a .k) (threshold (a .n)) b B in
             ap (λ (shares : List ℕ). record { party = add-reply q (at-party j fs) (b .0 .bidder) shares .party; totals = add-left q (at-party j fs) (b .0 .bidder) shares; sheets = [] })
             (shares-for-party desk D roll fs)
             ∙ ap₂ (λ (r : Party) (totals : List ℕ). record { party = r; totals = totals; sheets = [] })
-            (next-party _ (entered q (b .0 .bidder)) q adding-accepted ∙ one-more (a .n) (a .k) j roll P (b .0 .bidder) free)
+            (next-party _ (entered q (b .0 .bidder)) q adding-accepted ∙ one-more (a .n) (a .k) (a .last) j roll P (b .0 .bidder) free)
             (kept-new _ _ (at-party j fs) adding-accepted
             ∙ at-party-added (threshold (a .n)) j fs (entries (b .0 .table) (b .1)) (point-below (a .n) j (A .n-most) hn) (F .shared) (E .shared) (E .many ∙ sym (F .many)))

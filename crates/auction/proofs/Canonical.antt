@@ -5,7 +5,7 @@ use mathlib.Core.List.{List, [], _∷_, _++_, map, append-nil, List·Memᴰ}
 use mathlib.Core.Option.{Option}
 use Prim.Native.Nat.{ℕ, _/_, _≤_, _<_, min}
 use lib.ListN.{length, take}
-use Rattle.ranges.specs.Sizes.{probe-rounds}
+use Rattle.ways.specs.Way.{way-of, last-round}
 use Rattle.presence.specs.Presence.{is-present}
 use Rattle.auction.specs.Auction.{Auction, IsAuction, rounds}
 use Rattle.auction.specs.Coins.{Coins, InRange}
@@ -47,7 +47,7 @@ module _ (a : Auction) (c : Coins) (A : IsAuction a) (C : InRange a c) (marks : 
 
     canonical-hearings : hearings j (canonical a c marks desk att) ≡ collect hearing-in (own j (round-calls a c marks att))
     unfolding hearing-in
-    canonical-hearings = reads hearing-in [] (setup-none A C desk j j1 jn hearing-in (λ n i k t. refl) (λ q t b s. refl))
+    canonical-hearings = reads hearing-in [] (setup-none A C desk j j1 jn hearing-in (λ n i k l t. refl) (λ q t b s. refl))
 
     pub canonical-heard : length (hearings j (canonical a c marks desk att)) ≡ min (att .hears j) (rounds a)
     canonical-heard = ap length canonical-hearings ∙ rounds-heard a c A C marks M att j j1 jn
@@ -58,16 +58,16 @@ module _ (a : Auction) (c : Coins) (A : IsAuction a) (C : InRange a c) (marks : 
     pub canonical-messages : messages j (canonical a c marks desk att) ≡ take (att .hears j) (present-of marks 0 (whole-spoken a c))
     canonical-messages = ap (map _) canonical-hearings ∙ rounds-messages a c A C marks M att j j1 jn
 
-    pub canonical-decisions : decisions j (canonical a c marks desk att) ≡ take (att .hears j / probe-rounds) (map decision (probes a c))
+    pub canonical-decisions : decisions j (canonical a c marks desk att) ≡ take (att .hears j / last-round (way-of (a .last))) (map (decision (way-of (a .last))) (probes a c))
     canonical-decisions = ap (collect _) canonical-hearings ∙ rounds-decisions a c A C marks M att j j1 jn
 
     pub canonical-askings : askings j (canonical a c marks desk att) ≡ cond (asks-then marks att (rounds a) j) (record-at a c (end a c) j ∷ []) []
     unfolding asking-in
-    canonical-askings = reads asking-in [] (setup-none A C desk j j1 jn asking-in (λ n i k t. refl) (λ q t b s. refl)) ∙ rounds-askings a c A C marks M att j j1 jn
+    canonical-askings = reads asking-in [] (setup-none A C desk j j1 jn asking-in (λ n i k l t. refl) (λ q t b s. refl)) ∙ rounds-askings a c A C marks M att j j1 jn
 
     sayings-are : sayings j (canonical a c marks desk att) ≡ collect saying-in (own j (round-calls a c marks att))
     unfolding saying-in
-    sayings-are = reads saying-in [] (setup-none A C desk j j1 jn saying-in (λ n i k t. refl) (λ q t b s. refl))
+    sayings-are = reads saying-in [] (setup-none A C desk j j1 jn saying-in (λ n i k l t. refl) (λ q t b s. refl))
 
     pub canonical-sayings : (x : Saying) → List·Memᴰ x (sayings j (canonical a c marks desk att)) → (i : ℕ) × Says a c i j x
     canonical-sayings x m = rounds-sayings a c A C marks M att j j1 jn x (subst (List·Memᴰ x) sayings-are m)

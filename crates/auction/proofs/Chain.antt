@@ -8,10 +8,12 @@ use Prim.Native.Nat.{ℕ, zero, suc, _+_, _-_, _≤_, _<_}
 use native.Mathlib.Nat.{zero-add, add-zero, suc-add}
 use native.Mathlib.Omega.{arith}
 use lib.Dec.{ltb}
-use lib.ListN.{length, take}
+use lib.ListN.{length, take, length-map}
 use lib.Seq.{take-nil}
 use borrow.Author.Tests.{ltb-true, ltb-false, le-leb}
 use Rattle.ranges.specs.Lists.{from}
+use Rattle.ranges.proofs.Loops.{length-from}
+use Rattle.auction.specs.Coins.{flat}
 use Rattle.sharing.specs.Scheme.{points}
 use Rattle.presence.specs.Presence.{is-present}
 use Rattle.search.specs.Search.{Decision}
@@ -22,14 +24,14 @@ use Rattle.auction.specs.Auction.{Auction}
 use Rattle.auction.specs.Coins.{Coins}
 use Rattle.auction.specs.Attendance.{Marks, Enough, Attendance}
 use Rattle.auction.specs.Call.{Call, say-call, hear-call, whose, of-party, given}
-use Rattle.auction.specs.Canonical.{Seat, all-over, say-by, word-by, hear-by, where-so, says-word, say-in, words-for, hear-round, hear-in, after-round, ask-in, from-rounds}
+use Rattle.auction.specs.Canonical.{Seat, all-over, say-by, words-by, anything, hear-by, where-so, says-word, say-in, words-for, hear-round, hear-in, after-round, ask-in, from-rounds}
 use Rattle.auction.specs.Run.{select, own}
 use Rattle.auction.specs.Received.{collect, Saying, round-of, saying-in, Hearing, hearing-in, decided-by, decision-in}
 use Rattle.auction.specs.Demands.{all-accepted}
 use Rattle.auction.proofs.Closed.{Stage, record-at, seat}
 use Rattle.auction.proofs.Calls.{own-append, collect-append, collect-none, read-append, all-accepted-append, map-through, Own, all-accepted-made, own-made, collect-made, with-read}
 use Rattle.auction.proofs.Present.{present-words}
-use Rattle.auction.proofs.Step.{Hearable, Step}
+use Rattle.auction.proofs.Step.{Hearable, Step, wide}
 
 -- ---- lists
 
@@ -78,7 +80,7 @@ module _ {A : Type 0} (y x : A) (ys zs : List A) where
 -- a round: the stage before it, the word of each party, and what the words open to
 pub record Turn : Type 0 where
   pub stage : Stage
-  pub words : ℕ → ℕ
+  pub words : ℕ → List ℕ
   pub opening : Heard
 
 -- the verdict that is heard in it
@@ -88,7 +90,7 @@ decision-of r = decided-by (r .stage .search) (r .opening)
 -- rounds that lead from one stage to another
 pub data Chain (a : Auction) (c : Coins) : Stage → List Turn → Stage → Type 0 where
   done : {σ : Stage} → Chain a c σ [] σ
-  round-on : {σ ρ τ : Stage} {w : ℕ → ℕ} {o : Heard} {rs : List Turn} → Step a c σ ρ w o → Chain a c ρ rs τ
+  round-on : {σ ρ τ : Stage} {w : ℕ → List ℕ} {o : Heard} {rs : List Turn} → Step a c σ ρ w o → Chain a c ρ rs τ
       → Chain a c σ (record { stage = σ; words = w; opening = o } ∷ rs) τ
 
 module _ {a : Auction} {c : Coins} where
@@ -98,7 +100,7 @@ module _ {a : Auction} {c : Coins} where
 
 -- what party j says in a round
 abbrev pub saying-of : Auction → Coins → ℕ → Turn → Saying
-saying-of a c j r = record { round = round-of (record-at a c (r .stage) j); word = r .words j }
+saying-of a c j r = record { round = round-of (record-at a c (r .stage) j); words = r .words j }
 
 module _ (a : Auction) (c : Coins) (marks : Marks) (att : Attendance) where
   -- ---- when the rounds go on
@@ -130,8 +132,17 @@ module _ (a : Auction) (c : Coins) (marks : Marks) (att : Attendance) where
   seats σ = map (seat a c σ) (points (a .n))
 
   -- the words of a round, as party j hears them
-  abbrev pub heard-words : (round j : ℕ) (w : ℕ → ℕ) → List ℕ
-  heard-words round j w = map (λ i. cond (is-present (marks round) i) (w i) (att .elsewhere j round i)) (points (a .n))
+  abbrev pub else-words : (m round j i : ℕ) → List ℕ
+  else-words m round j i = map (att .elsewhere j round i) (from 0 m)
+
+  abbrev pub heard-parts : (m round j : ℕ) (w : ℕ → List ℕ) → List (List ℕ)
+  heard-parts m round j w = map (λ i. cond (is-present (marks round) i) (w i) (else-words m round j i)) (points (a .n))
+
+  abbrev pub heard-words : (m round j : ℕ) (w : ℕ → List ℕ) → List ℕ
+  heard-words m round j w = flat (heard-parts m round j w)
+
+  pub else-long : (m round j i : ℕ) → length (else-words m round j i) ≡ m
+  else-long m round j i = length-map (from 0 m) (att .elsewhere j round i) ∙ length-from 0 m
 
   -- each says its word, then each hears
   unfoldable pub turn-calls : ℕ → Turn → List Call
@@ -145,7 +156,7 @@ module _ (a : Auction) (c : Coins) (marks : Marks) (att : Attendance) where
 
   -- what party j hears in a round
   abbrev pub hearing-of : (j round : ℕ) → Turn → Hearing
-  hearing-of j round r = record { party = record-at a c (r .stage) j; messages = heard-words round j (r .words); present = marks round }
+  hearing-of j round r = record { party = record-at a c (r .stage) j; messages = heard-words (wide a (r .stage)) round j (r .words); present = marks round }
 
   unfoldable pub hearings-from : (j round : ℕ) → List Turn → List Hearing
   hearings-from j round [] = []
@@ -153,22 +164,23 @@ module _ (a : Auction) (c : Coins) (marks : Marks) (att : Attendance) where
 
   -- ---- one round
 
-  module _ (many : 1 ≤ a .n) (round : ℕ) (E : Enough (a .n) (marks round)) {σ τ : Stage} {w : ℕ → ℕ} {o : Heard} (S : Step a c σ τ w o) where
+  module _ (many : 1 ≤ a .n) (round : ℕ) (E : Enough (a .n) (marks round)) {σ τ : Stage} {w : ℕ → List ℕ} {o : Heard} (S : Step a c σ τ w o) where
     abbrev this : Turn
     this = record { stage = σ; words = w; opening = o }
 
     -- whoever hears, hears the words of those who are present
-    words-are : (j : ℕ) → words-for marks att round j (seats σ) ≡ heard-words round j w
+    words-are : (j : ℕ) → words-for marks att round j (seats σ) ≡ heard-words (wide a σ) round j w
     unfolding words-for seat record-at
     words-are j =
-        map-through (λ s. cond (is-present (marks round) (s .party .own)) (word-by s) (att .elsewhere j round (s .party .own))) (seat a c σ)
-        (λ i. cond (is-present (marks round) i) (w i) (att .elsewhere j round i)) (a .n)
-        (λ i i1 im. ap (λ (x : ℕ). cond (is-present (marks round) i) x (att .elsewhere j round i)) (S .word i i1 im))
+        ap flat
+        (map-through (λ s. cond (is-present (marks round) (s .party .own)) (words-by s) (anything marks att round j s)) (seat a c σ)
+        (λ i. cond (is-present (marks round) i) (w i) (else-words (wide a σ) round j i)) (a .n)
+        (λ i i1 im. ap (λ (x : List ℕ). cond (is-present (marks round) i) x (else-words (wide a σ) round j i)) (S .words i i1 im)))
 
-    pub hearable : (j : ℕ) → Hearable (a .n) w (heard-words round j w) (marks round)
-    hearable j = present-words (a .n) w (λ i. att .elsewhere j round i) (marks round) E
+    pub hearable : (j : ℕ) → Hearable (a .n) (wide a σ) w (heard-words (wide a σ) round j w) (marks round)
+    hearable j = present-words (a .n) (wide a σ) w (λ i. else-words (wide a σ) round j i) (marks round) E (S .long) (λ i. else-long (wide a σ) round j i)
 
-    hears : (j : ℕ) → Hearable (a .n) w (words-for marks att round j (seats σ)) (marks round)
+    hears : (j : ℕ) → Hearable (a .n) (wide a σ) w (words-for marks att round j (seats σ)) (marks round)
     hears j = rw (words-are j) (hearable j)
 
     seats-are : map (after-round marks att round (seats σ)) (seats σ) ≡ seats τ
@@ -211,7 +223,7 @@ module _ (a : Auction) (c : Coins) (marks : Marks) (att : Attendance) where
       listening = ltb round (att .hears j)
 
       own-turn : own j (turn-calls round this)
-          ≡ where-so speaking (say-by (seat a c σ j)) ++ where-so listening (hear-round marks att round (seats σ) (seat a c σ j))
+          ≡ where-so speaking (given (say-by (seat a c σ j))) ++ where-so listening (hear-round marks att round (seats σ) (seat a c σ j))
       unfolding turn-calls say-in hear-in seat record-at say-by hear-round hear-by given
       own-turn =
           own-append j _ _
@@ -219,30 +231,30 @@ module _ (a : Auction) (c : Coins) (marks : Marks) (att : Attendance) where
           (own-made j (a .n) (λ i. ltb round (att .hears i)) (λ i. hear-round marks att round (seats σ) (seat a c σ i)) j1 jn hear-own)
 
       reads-turn : {B : Type 0} (f : Call → Option B) → collect f (own j (turn-calls round this))
-          ≡ cond speaking (collect f (say-by (seat a c σ j) ∷ [])) []
+          ≡ cond speaking (collect f (given (say-by (seat a c σ j)) ∷ [])) []
           ++ cond listening (collect f (hear-round marks att round (seats σ) (seat a c σ j) ∷ [])) []
       reads-turn f =
           ap (collect f) own-turn ∙ collect-append f _ _ ∙ ap₂ _++_ (collect-made f speaking _) (collect-made f listening _)
 
       pub turn-hearings : collect hearing-in (own j (turn-calls round this)) ≡ cond listening (hearing-of j round this ∷ []) []
-      unfolding collect hearing-in say-by hear-round hear-by seat record-at
+      unfolding collect hearing-in say-by given hear-round hear-by seat record-at
       turn-hearings =
           reads-turn hearing-in
           ∙ ap₂ _++_ (nothing speaking) (ap (λ (ms : List ℕ). cond listening (record { party = record-at a c σ j; messages = ms; present = marks round } ∷ []) []) (words-are j))
 
       pub turn-sayings : collect saying-in (own j (turn-calls round this)) ≡ cond speaking (saying-of a c j this ∷ []) []
-      unfolding collect saying-in say-by hear-round hear-by seat word-by
+      unfolding collect saying-in say-by given hear-round hear-by seat words-by
       turn-sayings =
           reads-turn saying-in ∙ no-more listening _
-          ∙ ap (λ (x : ℕ). cond speaking (record { round = round-of (record-at a c σ j); word = x } ∷ []) []) (S .word j j1 jn)
+          ∙ ap (λ (x : List ℕ). cond speaking (record { round = round-of (record-at a c σ j); words = x } ∷ []) []) (S .words j j1 jn)
 
       -- a reader that passes over sayings and hearings
-      turn-none : {B : Type 0} (f : Call → Option B) → ((q : Party) (t s : List ℕ) → f (say-call q t s) ≡ none)
+      turn-none : {B : Type 0} (f : Call → Option B) → ((q : Party) (t s d : List ℕ) → f (say-call q t s d) ≡ none)
           → ((q : Party) (t s m p : List ℕ) → f (hear-call q t s m p) ≡ none) → collect f (own j (turn-calls round this)) ≡ []
-      unfolding collect say-by hear-round hear-by
+      unfolding collect say-by given hear-round hear-by
       turn-none {B} f no-say no-hear =
           reads-turn f
-          ∙ ap₂ (λ (xs ys : List B). cond speaking xs [] ++ cond listening ys []) (collect-none f _ [] (no-say _ _ _)) (collect-none f _ [] (no-hear _ _ _ _ _))
+          ∙ ap₂ (λ (xs ys : List B). cond speaking xs [] ++ cond listening ys []) (collect-none f _ [] (no-say _ _ _ _)) (collect-none f _ [] (no-hear _ _ _ _ _))
           ∙ ap₂ _++_ (nothing speaking) (nothing listening)
 
   -- ---- a chain of rounds
@@ -296,7 +308,7 @@ module _ (a : Auction) (c : Coins) (marks : Marks) (att : Attendance) where
           (turn-hearings many round (first-of round (length rs) E) s j j1 jn) (chain-hearings r (suc round) (rest-of round (length rs) E))
           ∙ take-more (att .hears j) round _ (hearings-from j (suc round) rs)
 
-      module _ {B : Type 0} (f : Call → Option B) (no-say : (q : Party) (t s : List ℕ) → f (say-call q t s) ≡ none)
+      module _ {B : Type 0} (f : Call → Option B) (no-say : (q : Party) (t s d : List ℕ) → f (say-call q t s d) ≡ none)
           (no-hear : (q : Party) (t s m p : List ℕ) → f (hear-call q t s m p) ≡ none) where
         pub chain-none : {σ τ : Stage} {rs : List Turn} → Chain a c σ rs τ → (round : ℕ) → Enoughs round (length rs)
             → collect f (own j (calls round rs)) ≡ []
@@ -307,11 +319,11 @@ module _ (a : Auction) (c : Coins) (marks : Marks) (att : Attendance) where
             (chain-none r (suc round) (rest-of round (length rs) E))
 
       -- the verdicts are those of the rounds that it hears
-      decided-as : {σ τ : Stage} {w : ℕ → ℕ} {o : Heard} → Step a c σ τ w o → (round : ℕ) → Enough (a .n) (marks round)
+      decided-as : {σ τ : Stage} {w : ℕ → List ℕ} {o : Heard} → Step a c σ τ w o → (round : ℕ) → Enough (a .n) (marks round)
           → decision-in (hearing-of j round (record { stage = σ; words = w; opening = o })) ≡ decision-of (record { stage = σ; words = w; opening = o })
       unfolding decision-in decision-of record-at
       decided-as {σ} {w} s round E =
-          ap (decided-by (σ .search)) (s .opens (heard-words round j w) (marks round) (hearable many round E s j))
+          ap (decided-by (σ .search)) (s .opens (heard-words (wide a σ) round j w) (marks round) (hearable many round E s j) j j1 jn)
 
       pub chain-decisions : {σ τ : Stage} {rs : List Turn} → Chain a c σ rs τ → (round m : ℕ) → Enoughs round (length rs)
           → collect decision-in (take m (hearings-from j round rs)) ≡ collect decision-of (take m rs)

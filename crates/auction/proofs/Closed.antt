@@ -1,13 +1,19 @@
 -- An auction seen whole: the polynomials behind every party's totals and sheets, where the searches stand, and what each party then has
 -- and says. Everything that a run computes is read off these. Assumes nothing.
+use mathlib.Core.Path.{_≡_, refl}
+use Rattle.kept_pairs.specs.Pairs.{small}
+use Rattle.ranges.specs.Lists.{every}
 use mathlib.Core.Bool.{true, false, cond}
 use mathlib.Core.List.{List, [], _∷_, map, flatten, zip}
 use Prim.Native.Nat.{ℕ, zero, suc, _+_, _-_, _*_}
 use lib.Dec.{eqb}
-use lib.ListN.{replicate, getD}
-use Rattle.ranges.specs.Sizes.{probe-rounds}
+use lib.ListN.{replicate, getD, take}
+use mathlib.Core.List.{_++_}
+use Rattle.ways.specs.Way.{Way, chain, tree, way-of, last-round}
+use Rattle.level.specs.Level.{pair-words, no-pair}
+use Rattle.comparison.specs.Pairs.{Pair}
+use Rattle.comparison.proofs.Levels.{shares-kept}
 use Rattle.fields.specs.Amount.{amounts}
-use Rattle.fields.specs.Byte.{bytes}
 use Rattle.sharing.specs.Polynomial.{value}
 use Rattle.sharing.specs.Linear.{sums}
 use Rattle.ranges.specs.Lists.{from}
@@ -16,7 +22,7 @@ use Rattle.search.specs.declared.searches.Search.{Search}
 use Rattle.search.specs.Bracket.{middle}
 use Rattle.search.specs.Searches.{side, first-search, next, finished, clears}
 use Rattle.search.specs.Search.{Decision, decision-at}
-use Rattle.comparison.specs.Probe.{SheetCoins, sheet-polynomials, sheet-shares, probe-messages, Probe, secret, round, carry-after, opened-sum, carry-one, last-polynomial}
+use Rattle.comparison.specs.Probe.{SheetCoins, sheet-polynomials, sheet-shares, probe-messages, Probe, secret, opened-sum, last-polynomial}
 use Rattle.record.specs.declared.Party.{Party}
 use Rattle.roll.specs.declared.Roll.{Roll}
 use Rattle.roll.specs.Marks.{marks, empty}
@@ -88,12 +94,25 @@ module _ (a : Auction) where
   abbrev pub probe-of : List (List ℕ) → Search → SheetCoins → Probe
   probe-of fs here s = probe-at fs (here .which) (middle (here .bracket)) s
 
--- C_(m + 1): the carry after round m + 1
-unfoldable pub carry-at : Probe → ℕ → List ℕ
-carry-at q zero = carry-one q
-carry-at q (suc m) =
-    let t = getD (q .sheet .triples) m (record { alpha = []; beta = []; gamma = [] }) in
-    carry-after (opened-sum q) (m + 2) (round (opened-sum q) (m + 2) (carry-at q m) (getD (q .sheet .bits) (m + 1) []) t) t
+-- What party j's record has after so many levels: of 33 rounds the carry, of seven the pairs that it keeps, once a level has made some.
+unfoldable pub carry-at : Way → Probe → (i j : ℕ) → ℕ
+carry-at chain q i j = getD (shares-kept chain q j i) 0 no-pair .bottom
+carry-at tree q i j = 0
+
+unfoldable pub no-words : List ℕ
+no-words = replicate 32 0
+
+pub none-small : small (record { words = no-words }) ≡ true
+unfolding no-words small every
+none-small = refl
+
+unfoldable pub kept-words : List (Pair ℕ) → List ℕ
+kept-words ps = take 32 (pair-words ps ++ replicate 32 0)
+
+unfoldable pub pairs-at : Way → Probe → (i j : ℕ) → List ℕ
+pairs-at chain q i j = no-words
+pairs-at tree q zero j = no-words
+pairs-at tree q (suc i) j = kept-words (shares-kept tree q j (suc i))
 
 -- ---- all probes
 
@@ -102,61 +121,62 @@ pub record Made : Type 0 where
   pub here : Search
   pub probe : Probe
 
-abbrev pub decided : Made → ℕ
-decided d = secret (last-polynomial (d .probe))
+abbrev pub decided : Way → Made → ℕ
+decided w d = secret (last-polynomial w (d .probe))
 
 -- which search, the probed index and the verdict
-abbrev pub decision : Made → Decision
-decision d = decision-at (d .here) (decided d)
+abbrev pub decision : Way → Made → Decision
+decision w d = decision-at (d .here) (decided w d)
 
 -- the probes that the searches make with these sheets, until they are finished
 unfoldable pub made : (a : Auction) → List (List ℕ) → Search → List SheetCoins → List Made
 made a fs here [] = []
 made a fs here (s ∷ ss) =
     let q = probe-of a fs here s in
-    elim (finished here) [ true ↦ [] | false ↦ record { here = here; probe = q } ∷ made a fs (next here (secret (last-polynomial q))) ss ]
+    elim (finished here) [ true ↦ [] | false ↦ record { here = here; probe = q } ∷ made a fs (next here (secret (last-polynomial (way-of (a .last)) q))) ss ]
 
 -- the messages of the n parties, round by round
-unfoldable pub spoken : (n : ℕ) → Probe → List (List ℕ)
-spoken n q = map (λ i. map (λ j. getD (probe-messages q j) i 0) (points n)) (from 0 probe-rounds)
+unfoldable pub spoken : (w : Way) (n : ℕ) → Probe → List (List (List ℕ))
+spoken w n q = map (λ i. map (λ j. getD (probe-messages w q j) i []) (points n)) (from 0 (last-round w))
 
 -- those of these probes
-abbrev pub all-spoken : (n : ℕ) → List Made → List (List ℕ)
-all-spoken n ds = flatten (map (λ d. spoken n (d .probe)) ds)
+abbrev pub all-spoken : (w : Way) (n : ℕ) → List Made → List (List (List ℕ))
+all-spoken w n ds = flatten (map (λ d. spoken w n (d .probe)) ds)
 
 -- those of rounds 34 and 35, where total demand and total supply are opened
-unfoldable pub totals-spoken : Auction → List (List ℕ) → List (List ℕ)
+unfoldable pub totals-spoken : Auction → List (List ℕ) → List (List (List ℕ))
 totals-spoken a fs =
     let m = price-answer a in
     cond (eqb m 0) []
-    (map (λ j. value amounts (demand-at a fs m) j) (points (a .n)) ∷ map (λ j. value amounts (supply-at a fs m) j) (points (a .n)) ∷ [])
+    (map (λ j. value amounts (demand-at a fs m) j ∷ []) (points (a .n)) ∷ map (λ j. value amounts (supply-at a fs m) j ∷ []) (points (a .n)) ∷ [])
 
 -- ---- what a party has
 
--- what all parties know in a round, and the polynomial of the carry
+-- what all parties know in a round, and each one's shares of the carry and of the pairs
 pub record Stage : Type 0 where
   pub search : Search
   pub round : ℕ
   pub sum : ℕ
-  pub carry : List ℕ
+  pub carry : ℕ → ℕ
+  pub pairs : ℕ → List ℕ
   pub demand : ℕ
   pub supply : ℕ
 
 -- before round 1 of a probe
 abbrev pub fresh-stage : Search → Stage
-fresh-stage here = record { search = here; round = 1; sum = 0; carry = []; demand = 0; supply = 0 }
+fresh-stage here = record { search = here; round = 1; sum = 0; carry = λ j. 0; pairs = λ j. no-words; demand = 0; supply = 0 }
 
 -- before round i + 2 of the probe q
-abbrev pub inner-stage : Search → Probe → ℕ → Stage
-inner-stage here q i = record { search = here; round = i + 2; sum = opened-sum q; carry = carry-at q i; demand = 0; supply = 0 }
+abbrev pub inner-stage : Way → Search → Probe → ℕ → Stage
+inner-stage w here q i = record { search = here; round = i + 2; sum = opened-sum q; carry = carry-at w q i; pairs = pairs-at w q i; demand = 0; supply = 0 }
 
 -- after a verdict: before the next probe, or before the totals are opened
 abbrev pub decided-stage : Search → Stage
-decided-stage here = record { search = here; round = cond (clears here) 34 1; sum = 0; carry = []; demand = 0; supply = 0 }
+decided-stage here = record { search = here; round = cond (clears here) 34 1; sum = 0; carry = λ j. 0; pairs = λ j. no-words; demand = 0; supply = 0 }
 
 -- after the last probe, in the round 34, 35 or 36, with these totals
 abbrev pub total-stage : Search → (round demand supply : ℕ) → Stage
-total-stage here round demand supply = record { search = here; round = round; sum = 0; carry = []; demand = demand; supply = supply }
+total-stage here round demand supply = record { search = here; round = round; sum = 0; carry = λ j. 0; pairs = λ j. no-words; demand = demand; supply = supply }
 
 module _ (a : Auction) (c : Coins) where
   unfoldable pub record-at : Stage → ℕ → Party
@@ -169,10 +189,12 @@ module _ (a : Auction) (c : Coins) where
         search = σ .search;
         round = σ .round;
         sum = σ .sum;
-        carry = value bytes (σ .carry) j;
+        carry = σ .carry j;
         roll = full-roll a;
         demand = σ .demand;
         supply = σ .supply;
+        last = a .last;
+        pairs = record { words = σ .pairs j };
       }
 
   unfoldable pub sheets-at : ℕ → List ℕ

@@ -6,6 +6,7 @@ use native.Mathlib.Omega.{arith}
 use lib.Dec.{eqb}
 use Rattle.fields.specs.Amount.{p}
 use Rattle.sharing.specs.Scheme.{threshold}
+use Rattle.ways.specs.Way.{way-of}
 use Rattle.search.specs.Searches.{side}
 use Rattle.comparison.specs.Probe.{SheetCoins, SheetInRange, sheet-polynomials}
 use Rattle.comparison.proofs.Values.{Shared}
@@ -23,13 +24,13 @@ module _ (a : Auction) (c : Coins) (A : IsAuction a) (C : InRange a c) (i : ℕ)
   supply-shared = polynomial-shared A C (a .k + i - 1) (omega arith)
 
   -- a probe compares the totals at its index
-  pub compares : (which : ℕ) (s : SheetCoins) → SheetInRange (threshold (a .n)) s
-      → Compares (threshold (a .n)) (left-side a which i) (right-side a which i) s (probe-at a (polynomials a c) which i s)
+  pub compares : (which : ℕ) (s : SheetCoins) → SheetInRange (way-of (a .last)) (threshold (a .n)) s
+      → Compares (way-of (a .last)) (threshold (a .n)) (left-side a which i) (right-side a which i) s (probe-at a (polynomials a c) which i s)
   unfolding probe-at side
   compares which s h = split (eqb which 2)
     where
       split : (t : Bool)
-          → Compares (threshold (a .n)) (cond t (supply a i) (demand a i)) (cond t (demand a i) (supply a i)) s
+          → Compares (way-of (a .last)) (threshold (a .n)) (cond t (supply a i) (demand a i)) (cond t (demand a i) (supply a i)) s
           (record {
             demand = cond t (supply-at a (polynomials a c) i) (demand-at a (polynomials a c) i);
             supply = cond t (demand-at a (polynomials a c) i) (supply-at a (polynomials a c) i);

@@ -6,7 +6,8 @@ use native.Mathlib.Nat.{suc-inj}
 use native.Mathlib.Omega.{arith}
 use lib.ListN.{length, length-append}
 use lib.Seq.{take-at, drop-at}
-use Rattle.ranges.specs.Sizes.{sheet-size}
+use mathlib.Core.Bool.{true}
+use Rattle.ways.specs.Way.{Way, is-way, way-of, triples-of, sheet-size, drawn-size}
 use Rattle.fields.specs.Amount.{amounts}
 use Rattle.fields.specs.Byte.{product, bytes}
 use Rattle.refusal.specs.declared.Judgement.the-variants.{Accepted}
@@ -34,13 +35,12 @@ triples-length t [] h = omega arith
 triples-length t (c ∷ cs) h =
     length-append (triple-bytes c) (flat (map triple-bytes cs)) ∙ omega (arith, triple-length t c (h .0), triples-length t cs (h .1))
 
-pub bytes-length : (t : ℕ) (s : SheetCoins) → SheetInRange t s → length (coin-bytes s) ≡ 126 * t + 62
-unfolding coin-bytes
-bytes-length t s h =
+pub bytes-length : (w : Way) (t : ℕ) (s : SheetCoins) → SheetInRange w t s → length (coin-bytes s) ≡ drawn-size w t
+unfolding coin-bytes drawn-size
+bytes-length w t s h =
     length-append (flat (s .of-bits)) (flat (map triple-bytes (s .triples)))
     ∙ ap₂ _+_ (flat-length 256 t (s .of-bits) (h .of-bits) ∙ ap (λ (z : ℕ). z * t) (h .bits-long))
     (triples-length t (s .triples) (h .triples) ∙ ap (λ (z : ℕ). z * (2 + 3 * t)) (h .triples-long))
-    ∙ omega arith
 
 -- ---- the bits
 
@@ -88,28 +88,29 @@ triples-written t j (suc m) (c ∷ cs) l h =
 
 -- ---- a sheet
 
-pub sheet-written : (t j : ℕ) (s : SheetCoins) → SheetInRange t s
-    → preprocessing t j (coin-words s) (coin-bytes s) ≡ sheet-shares j (sheet-polynomials s)
+pub sheet-written : (w : Way) (t j : ℕ) (s : SheetCoins) → SheetInRange w t s
+    → preprocessing (triples-of w) t j (coin-words s) (coin-bytes s) ≡ sheet-shares j (sheet-polynomials s)
 unfolding preprocessing coin-bytes sheet-shares sheet-polynomials
-sheet-written t j s h =
+sheet-written w t j s h =
     let many : length (flat (s .of-bits)) ≡ 33 * t = flat-length 256 t (s .of-bits) (h .of-bits) ∙ ap (λ (z : ℕ). z * t) (h .bits-long) in
     ap₂ (λ (u v : List ℕ). value amounts (s .mask ∷ s .of-mask) j ∷ (u ++ v))
     (bits-written t j (s .mask) 1 33 (s .of-bits) (flat (map triple-bytes (s .triples))) (h .bits-long) (h .of-bits))
-    (ap (triples t j 31) (drop-at (flat (s .of-bits)) (flat (map triple-bytes (s .triples))) (33 * t) many)
-    ∙ triples-written t j 31 (s .triples) (h .triples-long) (h .triples))
+    (ap (triples t j (triples-of w)) (drop-at (flat (s .of-bits)) (flat (map triple-bytes (s .triples))) (33 * t) many)
+    ∙ triples-written t j (triples-of w) (s .triples) (h .triples-long) (h .triples))
 
-module _ (n j : ℕ) (P : IsParty n j) (s : SheetCoins) (h : SheetInRange (threshold n) s) (sheet : List ℕ) (l : length sheet ≡ sheet-size) where
-  pub deals-sheet : deal-judgement n j (coin-words s) (coin-bytes s) sheet ≡ Accepted
+module _ (n j last : ℕ) (P : IsParty n j) (W : is-way last ≡ true) (s : SheetCoins) (h : SheetInRange (way-of last) (threshold n) s) (sheet : List ℕ) (l : length sheet ≡ sheet-size (way-of last)) where
+  pub deals-sheet : deal-judgement n j last (coin-words s) (coin-bytes s) sheet ≡ Accepted
   deals-sheet =
-      deal-accepted n j (coin-words s) (coin-bytes s) sheet
+      deal-accepted n j last (coin-words s) (coin-bytes s) sheet
       (record {
         party = P;
+        way = W;
         words-long = ap suc (h .of-mask .0) ∙ omega arith;
-        drawn-long = bytes-length (threshold n) s h;
+        drawn-long = bytes-length (way-of last) (threshold n) s h;
         sheet-long = l;
         mask-below = h .mask;
         coins-below = h .of-mask .1;
       })
 
-  pub deal-writes : deal-left n j (coin-words s) (coin-bytes s) sheet ≡ sheet-shares j (sheet-polynomials s)
-  deal-writes = kept-new _ _ sheet deals-sheet ∙ sheet-written (threshold n) j s h
+  pub deal-writes : deal-left n j last (coin-words s) (coin-bytes s) sheet ≡ sheet-shares j (sheet-polynomials s)
+  deal-writes = kept-new _ _ sheet deals-sheet ∙ sheet-written (way-of last) (threshold n) j s h

@@ -1,6 +1,6 @@
 -- Every party's call of the canonical list is for one of the parties 1 to n. Assumes nothing.
 use mathlib.Core.Path.{_≡_, refl, sym, ap, _∙_}
-use mathlib.Core.Bool.{Bool, true, false, not, _&&_, true≢false}
+use mathlib.Core.Bool.{Bool, true, false, not, _&&_, true≢false, cond}
 use mathlib.Core.List.{List, [], _∷_, _++_, map, flatten, zip}
 use Prim.Native.Nat.{ℕ, zero, suc, _+_, _≤_}
 use native.Mathlib.Omega.{arith}
@@ -21,11 +21,14 @@ use Rattle.session.specs.Open.{open-judgement}
 use Rattle.session.specs.Add.{add-judgement}
 use Rattle.session.specs.Answer.{answer-judgement}
 use Rattle.record.proofs.Updates.{blank-unsound, entered-same}
+use Rattle.message.specs.Message.{in-level}
 use Rattle.saying.specs.Say.{current, say-judgement}
 use Rattle.presence.specs.Presence.{are-marks}
-use Rattle.stepping.proofs.Next.{after-same}
-use Rattle.hearing.specs.Hear.{hear-judgement}
-use Rattle.stepping.specs.After.{after}
+use Rattle.stepping.proofs.Next.{after-same, level-same}
+use Rattle.hearing.specs.Hear.{hear-judgement, heard-next}
+use Rattle.stepping.specs.After.{role, after, after-level}
+use Rattle.level.specs.Level.{level-kept}
+use Rattle.level_round.specs.Columns.{level-sides}
 use Rattle.round.specs.Round.{heard}
 use Rattle.auction.specs.Auction.{Auction}
 use Rattle.auction.specs.Coins.{Coins, DrawnBid, flat}
@@ -43,9 +46,9 @@ module _ (q : Party) (unsound : sound q ≡ false) where
   unfolding add-judgement is-accepted
   no-add totals bidder shares = ap is-accepted (refuses _ _ _ (rw unsound))
 
-  no-say : (totals sheets : List ℕ) → is-accepted (say-judgement q totals sheets) ≡ false
+  no-say : (totals sheets said : List ℕ) → is-accepted (say-judgement q totals sheets said) ≡ false
   unfolding say-judgement is-accepted
-  no-say totals sheets = ap is-accepted (refuses _ _ _ (ap not unsound))
+  no-say totals sheets said = ap is-accepted (refuses _ _ _ (ap not unsound))
 
   no-hear : (totals sheets messages present : List ℕ) → is-accepted (hear-judgement q totals sheets messages present) ≡ false
   unfolding hear-judgement is-accepted
@@ -54,6 +57,16 @@ module _ (q : Party) (unsound : sound q ≡ false) where
   no-answer : is-accepted (answer-judgement q) ≡ false
   unfolding answer-judgement is-accepted
   no-answer = ap is-accepted (refuses _ _ _ (ap not unsound))
+
+-- a hearing leaves the own number
+heard-own : (q : Party) (sheet messages present : List ℕ) → heard-next q sheet messages present .own ≡ q .own
+unfolding heard-next
+heard-own q sheet messages present = split (in-level q)
+  where
+    split : (b : Bool) → cond b (after-level q (level-kept (q .round) (q .sum) (q .pairs .words) sheet (level-sides (q .n) (q .round) present messages)))
+        (after q sheet (heard (q .n) (role q) present messages)) .own ≡ q .own
+    split true = level-same q _ .own
+    split false = after-same q sheet _ .own
 
 -- ---- party j is none of these
 
@@ -117,10 +130,10 @@ module _ (j : ℕ) where
   module _ (a : Auction) (c : Coins) (marks : Marks) (desk : Desk) (att : Attendance) where
     away-seated : (i : ℕ) → eqb i j ≡ false → Away (seated a i)
     unfolding seated replied kept fresh
-    away-seated i h = split (open-judgement (a .n) i (a .k) (zeros a))
+    away-seated i h = split (open-judgement (a .n) i (a .k) (a .last) (zeros a))
       where
-        split : (J : Judgement) → Not (kept J (fresh (a .n) i (a .k)) blank)
-        split Accepted = and-false (sound (fresh (a .n) i (a .k))) (eqb i j) h
+        split : (J : Judgement) → Not (kept J (fresh (a .n) i (a .k) (a .last)) blank)
+        split Accepted = and-false (sound (fresh (a .n) i (a .k) (a .last))) (eqb i j) h
         split (Refused why) = rw blank-unsound
 
     away-added : (b : DrawnBid) (s : Seat) → Away s → Away (after-adding a desk b s)
@@ -134,9 +147,8 @@ module _ (j : ℕ) where
     away-heard round ss s h =
         let words = words-for marks att round (s .party .own) ss in
         let sheet = current (s .party) (s .sheets) in
-        let opening = heard (s .party .n) (s .party .round) (marks round) words in
-        left-away (s .party) (after (s .party) sheet opening) (hear-judgement (s .party) (s .totals) (s .sheets) words (marks round))
-        (λ e. no-hear (s .party) e (s .totals) (s .sheets) words (marks round)) (after-same (s .party) sheet opening .own) h
+        left-away (s .party) (heard-next (s .party) sheet words (marks round)) (hear-judgement (s .party) (s .totals) (s .sheets) words (marks round))
+        (λ e. no-hear (s .party) e (s .totals) (s .sheets) words (marks round)) (heard-own (s .party) sheet words (marks round)) h
 
     none-asks : (round : ℕ) (ss : List Seat) → Each Away ss → own j (flatten (map (ask-in marks att round) ss)) ≡ []
     unfolding ask-in ask judgement whose of-party
@@ -147,7 +159,7 @@ module _ (j : ℕ) where
     unfolding say-in say-by judgement whose of-party
     none-says round ss h =
         none-each Away (say-in marks att round)
-        (λ s e. none-one (says-word marks att round (s .party .own)) (say-by s) (none-by (s .party) _ (λ u. no-say (s .party) u (s .totals) (s .sheets)) e)) ss h
+        (λ s e. none-one (says-word marks att round (s .party .own)) (say-by s) (none-by (s .party) _ (λ u. no-say (s .party) u (s .totals) (s .sheets) _) e)) ss h
 
     none-hears : (round : ℕ) (all ss : List Seat) → Each Away ss → own j (flatten (map (hear-in marks att round all) ss)) ≡ []
     unfolding hear-in hear-round hear-by judgement whose of-party
@@ -194,9 +206,9 @@ module _ (j : ℕ) where
       away-points : Each (λ x. eqb x j ≡ false) (points (a .n))
       away-points = away-from 1 (a .n) (omega arith) (omega arith)
 
-      none-opens : own j (map (λ i. open-call (a .n) i (a .k) (zeros a)) (points (a .n))) ≡ []
+      none-opens : own j (map (λ i. open-call (a .n) i (a .k) (a .last) (zeros a)) (points (a .n))) ≡ []
       unfolding whose of-party
-      none-opens = none-map (λ x. eqb x j ≡ false) _ (λ x e. and-false (accepted (open-call (a .n) x (a .k) (zeros a))) (eqb x j) e) (points (a .n)) away-points
+      none-opens = none-map (λ x. eqb x j ≡ false) _ (λ x e. and-false (accepted (open-call (a .n) x (a .k) (a .last) (zeros a))) (eqb x j) e) (points (a .n)) away-points
 
       -- no call of the canonical list is party j's own
       pub none-told : own j (canonical a c marks desk att) ≡ []

@@ -10,7 +10,6 @@ use native.Mathlib.Omega.{arith}
 use lib.Dec.{eqb}
 use lib.ListN.{length, getD, List·getD-append}
 use lib.Seq.{getD-append-add}
-use Rattle.ranges.specs.Sizes.{probe-rounds}
 use Rattle.ranges.specs.Lists.{from}
 use Rattle.ranges.proofs.Loops.{length-from, map-from, same-from}
 use Rattle.fields.specs.Byte.{bytes}
@@ -22,14 +21,20 @@ use Rattle.presence.specs.Presence.{marked, choose, of-present, is-present}
 use Rattle.presence.proofs.Laws.{how-many-points}
 use Rattle.present_openings.proofs.Points.{zero-choose}
 use Rattle.comparison.specs.Rounds.{both}
-use Rattle.comparison.specs.Probe.{Each, Probe, Round, probe-messages, sum-polynomial, last-polynomial}
-use Rattle.comparison.proofs.Dealt.{ProbeShared, sum-shared, last-polynomial-shared}
+use mathlib.Core.List.{head-eq-of-cons-eq, tail-eq-of-cons-eq, List·Memᴰ·head}
+use Rattle.ways.specs.Way.{Way, levels-of, last-round}
+use Rattle.comparison.specs.Pairs.{Sides}
+use Rattle.comparison.proofs.Only.{SidesShared}
+use Rattle.comparison.proofs.Values.{Shared, last-shared}
+use Rattle.comparison.proofs.Levels.{last-pair-value}
+use Rattle.comparison.specs.Probe.{Each, Probe, side-word, opened-sum, last-pair, probe-messages, sum-polynomial, last-polynomial}
+use Rattle.comparison.proofs.Dealt.{ProbeShared, sum-shared, bit-at}
 use Rattle.comparison.proofs.Agreement.{In, in-below, fixed}
 use Rattle.auction.specs.Attendance.{Marks, Enough}
 use Rattle.auction.proofs.Closed.{Made, spoken, all-spoken}
 use Rattle.auction.proofs.Calls.{map-points}
 use Rattle.auction.proofs.Sheets.{byte-below}
-use Rattle.auction.proofs.Carry.{round-at, round-at-shared, product-said, last-said}
+use Rattle.auction.proofs.Kept.{level-at, level-said, level-shared, last-said, last-round-is}
 use Rattle.auction.proofs.Round.{words-at, low-part, high-part}
 use Rattle.auction.proofs.SameSheets.{spoken-long}
 
@@ -79,97 +84,122 @@ both-high : (d e d′ e′ : ℕ) → d < 256 → d′ < 256 → both d e ≡ bo
 both-high d e d′ e′ h h′ s = sym (high-part d e h) ∙ ap (λ (x : ℕ). x / 256) s ∙ high-part d′ e′ h′
 
 -- the words of two probes, the same at more than t points
-module _ (t : ℕ) (q q′ : Probe) (h : ProbeShared t q) (h′ : ProbeShared t q′) (xs : List ℕ) (D : Different xs) (more : t < length xs) where
+-- the last word's polynomial has degree at most t
+last-of : (v : Way) (t : ℕ) (q : Probe) → ProbeShared v t q → Shared 256 t (last-polynomial v q)
+unfolding last-polynomial
+last-of v t q h =
+    last-shared (opened-sum q) 33 t (getD (q .sheet .bits) 32 []) (last-pair v q .bottom) (bit-at v t q h 32 (omega arith))
+    (last-pair-value v t q h 1 (omega arith) .bottom .shared)
+
+module _ (v : Way) (t : ℕ) (q q′ : Probe) (h : ProbeShared v t q) (h′ : ProbeShared v t q′) (xs : List ℕ) (D : Different xs) (more : t < length xs) where
   abbrev small : (x : ℕ) → In x xs → x < 10
   small = in-below xs D
 
-  first-fixed : ((x : ℕ) → In x xs → words-at q′ 0 x ≡ words-at q 0 x) → (j : ℕ) → words-at q′ 0 j ≡ words-at q 0 j
+  -- somebody is among them
+  some-in : (x : ℕ) × In x xs
+  some-in = one xs (omega arith)
+    where
+      one : (ys : List ℕ) → 1 ≤ length ys → (x : ℕ) × In x ys
+      one [] l = absurd (omega arith)
+      one (y ∷ ys) l = (y, List·Memᴰ·head refl)
+
+  first-fixed : ((x : ℕ) → In x xs → words-at v q′ 0 x ≡ words-at v q 0 x) → (j : ℕ) → words-at v q′ 0 j ≡ words-at v q 0 j
   unfolding probe-messages
   first-fixed e j =
-      ap (λ (f : List ℕ). value (amount-field .ops) f j)
-      (fixed amount-field t xs (sum-polynomial q′) (sum-polynomial q) D more (sum-shared t q′ h′) (sum-shared t q h) e)
+      ap (λ (f : List ℕ). value (amount-field .ops) f j ∷ [])
+      (fixed amount-field t xs (sum-polynomial q′) (sum-polynomial q) D more (sum-shared v t q′ h′) (sum-shared v t q h) (λ x m. head-eq-of-cons-eq (e x m)))
 
-  product-fixed : (i : ℕ) → i < 31 → ((x : ℕ) → In x xs → words-at q′ (suc i) x ≡ words-at q (suc i) x) → (j : ℕ) → words-at q′ (suc i) j ≡ words-at q (suc i) j
-  product-fixed i l e j =
-      let r : Round = round-at q i in
-      let r′ : Round = round-at q′ i in
-      let S = round-at-shared t q h i l in
-      let S′ = round-at-shared t q′ h′ i l in
-      let said : (x : ℕ) → In x xs → both (value bytes (r′ .left) x) (value bytes (r′ .right) x) ≡ both (value bytes (r .left) x) (value bytes (r .right) x) =
-      λ x m. sym (product-said t q′ h′ x i l) ∙ e x m ∙ product-said t q h x i l in
+  side-fixed : (r r′ : Sides (List ℕ)) → SidesShared t r → SidesShared t r′ → ((x : ℕ) → In x xs → side-word x r′ ≡ side-word x r) → r′ ≡ r
+  side-fixed r r′ S S′ said =
       let left : r′ .left ≡ r .left =
       fixed byte-field t xs (r′ .left) (r .left) D more (S′ .left) (S .left)
       (λ x m. both-low _ _ _ _ (byte-below x (small x m) (r′ .left) (S′ .left .1)) (byte-below x (small x m) (r .left) (S .left .1)) (said x m)) in
       let right : r′ .right ≡ r .right =
       fixed byte-field t xs (r′ .right) (r .right) D more (S′ .right) (S .right)
       (λ x m. both-high _ _ _ _ (byte-below x (small x m) (r′ .left) (S′ .left .1)) (byte-below x (small x m) (r .left) (S .left .1)) (said x m)) in
-      product-said t q′ h′ j i l
-      ∙ ap₂ (λ (f g : List ℕ). both (value bytes f j) (value bytes g j)) left right
-      ∙ sym (product-said t q h j i l)
+      λ k. record { left = left k; right = right k }
 
-  last-fixed : ((x : ℕ) → In x xs → words-at q′ 32 x ≡ words-at q 32 x) → (j : ℕ) → words-at q′ 32 j ≡ words-at q 32 j
+  level-fixed : (ls ls′ : List (Sides (List ℕ))) → Each (SidesShared t) ls → Each (SidesShared t) ls′
+      → ((x : ℕ) → In x xs → map (side-word x) ls′ ≡ map (side-word x) ls) → ls′ ≡ ls
+  level-fixed [] [] S S′ w = refl
+  level-fixed [] (l′ ∷ ls′) S S′ w = absurd (omega (arith, ap length (w (some-in .0) (some-in .1))))
+  level-fixed (l ∷ ls) [] S S′ w = absurd (omega (arith, ap length (w (some-in .0) (some-in .1))))
+  level-fixed (l ∷ ls) (l′ ∷ ls′) S S′ w =
+      ap₂ (λ (z : Sides (List ℕ)) (zs : List (Sides (List ℕ))). z ∷ zs)
+      (side-fixed l l′ (S .0) (S′ .0) (λ x m. head-eq-of-cons-eq (w x m)))
+      (level-fixed ls ls′ (S .1) (S′ .1) (λ x m. tail-eq-of-cons-eq (w x m)))
+
+  product-fixed : (i : ℕ) → i < levels-of v → ((x : ℕ) → In x xs → words-at v q′ (suc i) x ≡ words-at v q (suc i) x) → (j : ℕ) → words-at v q′ (suc i) j ≡ words-at v q (suc i) j
+  product-fixed i l e j =
+      level-said v t q′ h′ j i l
+      ∙ ap (map (side-word j))
+      (level-fixed (level-at v q i) (level-at v q′ i) (level-shared v t q h i l) (level-shared v t q′ h′ i l)
+      (λ x m. sym (level-said v t q′ h′ x i l) ∙ e x m ∙ level-said v t q h x i l))
+      ∙ sym (level-said v t q h j i l)
+
+  last-fixed : ((x : ℕ) → In x xs → words-at v q′ (suc (levels-of v)) x ≡ words-at v q (suc (levels-of v)) x) → (j : ℕ) → words-at v q′ (suc (levels-of v)) j ≡ words-at v q (suc (levels-of v)) j
   last-fixed e j =
-      last-said t q′ h′ j
-      ∙ ap (λ (f : List ℕ). value bytes f j)
-      (fixed byte-field t xs (last-polynomial q′) (last-polynomial q) D more (last-polynomial-shared t q′ h′) (last-polynomial-shared t q h)
-      (λ x m. sym (last-said t q′ h′ x) ∙ e x m ∙ last-said t q h x))
-      ∙ sym (last-said t q h j)
+      last-said v t q′ h′ j
+      ∙ ap (λ (f : List ℕ). value bytes f j ∷ [])
+      (fixed byte-field t xs (last-polynomial v q′) (last-polynomial v q) D more (last-of v t q′ h′) (last-of v t q h)
+      (λ x m. head-eq-of-cons-eq (sym (last-said v t q′ h′ x) ∙ e x m ∙ last-said v t q h x)))
+      ∙ sym (last-said v t q h j)
 
-  round-fixed : (i : ℕ) → i < probe-rounds → ((x : ℕ) → In x xs → words-at q′ i x ≡ words-at q i x) → (j : ℕ) → words-at q′ i j ≡ words-at q i j
+  round-fixed : (i : ℕ) → i < last-round v → ((x : ℕ) → In x xs → words-at v q′ i x ≡ words-at v q i x) → (j : ℕ) → words-at v q′ i j ≡ words-at v q i j
   round-fixed zero l e j = first-fixed e j
   round-fixed (suc i) l e j =
-      elim (decLt i 31) [
+      elim (decLt i (levels-of v)) [
         | yes lt ↦ product-fixed i lt e j
-        | no ge ↦ last (omega arith)
+        | no ge ↦ last (omega (arith, last-round-is v))
       ]
     where
-      last : i ≡ 31 → words-at q′ (suc i) j ≡ words-at q (suc i) j
+      last : i ≡ levels-of v → words-at v q′ (suc i) j ≡ words-at v q (suc i) j
       last at =
-          let k : suc i ≡ 32 = omega arith in
-          ap (λ (m : ℕ). words-at q′ m j) k
-          ∙ last-fixed (λ x m. ap (λ (m : ℕ). words-at q′ m x) (sym k) ∙ e x m ∙ ap (λ (m : ℕ). words-at q m x) k) j
-          ∙ ap (λ (m : ℕ). words-at q m j) (sym k)
+          let k : suc i ≡ suc (levels-of v) = ap suc at in
+          ap (λ (m : ℕ). words-at v q′ m j) k
+          ∙ last-fixed (λ x m. ap (λ (m : ℕ). words-at v q′ m x) (sym k) ∙ e x m ∙ ap (λ (m : ℕ). words-at v q m x) k) j
+          ∙ ap (λ (m : ℕ). words-at v q m j) (sym k)
 
 -- ---- all rounds of all probes
 
-module _ (n : ℕ) (least : 3 ≤ n) (most : n ≤ 9) (marks : Marks) where
+module _ (v : Way) (n : ℕ) (least : 3 ≤ n) (most : n ≤ 9) (marks : Marks) where
   abbrev t : ℕ
   t = threshold n
 
   -- the words of round i of those who are present, of two probes
-  abbrev PresentSame : (round : ℕ) (w w′ : ℕ → ℕ) → Type 0
+  abbrev PresentSame : (round : ℕ) (w w′ : ℕ → List ℕ) → Type 0
   PresentSame round w w′ = (j : ℕ) → 1 ≤ j → j ≤ n → is-present (marks round) j ≡ true → w′ j ≡ w j
 
-  words-fixed : (q q′ : Probe) → ProbeShared t q → ProbeShared t q′ → (i round : ℕ) → i < probe-rounds → Enough n (marks round)
-      → PresentSame round (words-at q i) (words-at q′ i) → (j : ℕ) → words-at q′ i j ≡ words-at q i j
+  words-fixed : (q q′ : Probe) → ProbeShared v t q → ProbeShared v t q′ → (i round : ℕ) → i < last-round v → Enough n (marks round)
+      → PresentSame round (words-at v q i) (words-at v q′ i) → (j : ℕ) → words-at v q′ i j ≡ words-at v q i j
   words-fixed q q′ h h′ i round l E e j =
       let who : List ℕ = of-present (marks round) (points n) in
       let one : (x : ℕ) → In x who → Chosen (marks round) 1 n x = λ x m. in-present (marks round) 1 n x m in
-      round-fixed t q q′ h h′ who (zero-choose n (marks round) most .2)
+      round-fixed v t q q′ h h′ who (zero-choose n (marks round) most .2)
       (omega (arith, E .many, how-many-points (marks round) (points n) (length-from 1 n ∙ sym (E .long))))
       i l (λ x m. e x (one x m .least) (omega (arith, one x m .most)) (one x m .here)) j
 
-  spoken-fixed : (q q′ : Probe) → ProbeShared t q → ProbeShared t q′ → (round : ℕ)
-      → ((i : ℕ) → i < probe-rounds → Enough n (marks (round + i)))
-      → ((i : ℕ) → i < probe-rounds → PresentSame (round + i) (words-at q i) (words-at q′ i)) → spoken n q′ ≡ spoken n q
+  spoken-fixed : (q q′ : Probe) → ProbeShared v t q → ProbeShared v t q′ → (round : ℕ)
+      → ((i : ℕ) → i < last-round v → Enough n (marks (round + i)))
+      → ((i : ℕ) → i < last-round v → PresentSame (round + i) (words-at v q i) (words-at v q′ i)) → spoken v n q′ ≡ spoken v n q
   unfolding spoken
   spoken-fixed q q′ h h′ round E e =
-      same-from (λ i. map (words-at q′ i) (points n)) (λ i. map (words-at q i) (points n)) 0 probe-rounds
-      (λ i l k. map-points (words-at q′ i) (words-at q i) n (λ j j1 jn. words-fixed q q′ h h′ i (round + i) (omega arith) (E i (omega arith)) (e i (omega arith)) j))
+      same-from (λ i. map (words-at v q′ i) (points n)) (λ i. map (words-at v q i) (points n)) 0 (last-round v)
+      (λ i l k. map-points (words-at v q′ i) (words-at v q i) n (λ j j1 jn. words-fixed q q′ h h′ i (round + i) (omega arith) (E i (omega arith)) (e i (omega arith)) j))
 
   -- a word of a probe's round
-  spoken-at : (q : Probe) (i j : ℕ) → i < probe-rounds → 1 ≤ j → j ≤ n → getD (getD (spoken n q) i []) (j - 1) 0 ≡ words-at q i j
+  spoken-at : (q : Probe) (i j : ℕ) → i < last-round v → 1 ≤ j → j ≤ n → getD (getD (spoken v n q) i []) (j - 1) [] ≡ words-at v q i j
   unfolding spoken
   spoken-at q i j l j1 jn =
       let at : 1 + (j - 1) ≡ j = omega arith in
-      ap (λ (ws : List ℕ). getD ws (j - 1) 0) (map-from (λ i. map (words-at q i) (points n)) [] 0 probe-rounds i l ∙ ap (λ (k : ℕ). map (words-at q k) (points n)) (zero-add i))
-      ∙ map-from (words-at q i) 0 1 n (j - 1) (omega arith) ∙ ap (words-at q i) at
+      ap (λ (ws : List (List ℕ)). getD ws (j - 1) []) (map-from (λ i. map (words-at v q i) (points n)) [] 0 (last-round v) i l ∙ ap (λ (k : ℕ). map (words-at v q k) (points n)) (zero-add i))
+      ∙ map-from (words-at v q i) [] 1 n (j - 1) (omega arith) ∙ ap (words-at v q i) at
 
-  pub all-fixed : (ds ds′ : List Made) (round : ℕ) → length ds′ ≡ length ds → Each (λ d. ProbeShared t (d .probe)) ds → Each (λ d. ProbeShared t (d .probe)) ds′
-      → ((i : ℕ) → i < probe-rounds * length ds → Enough n (marks (round + i)))
-      → ((i : ℕ) → i < probe-rounds * length ds
-      → PresentSame (round + i) (λ j. getD (getD (all-spoken n ds) i []) (j - 1) 0) (λ j. getD (getD (all-spoken n ds′) i []) (j - 1) 0))
-      → all-spoken n ds′ ≡ all-spoken n ds
+  pub all-fixed : (ds ds′ : List Made) (round : ℕ) → length ds′ ≡ length ds → Each (λ d. ProbeShared v t (d .probe)) ds → Each (λ d. ProbeShared v t (d .probe)) ds′
+      → ((i : ℕ) → i < last-round v * length ds → Enough n (marks (round + i)))
+      → ((i : ℕ) → i < last-round v * length ds
+      → PresentSame (round + i) (λ j. getD (getD (all-spoken v n ds) i []) (j - 1) []) (λ j. getD (getD (all-spoken v n ds′) i []) (j - 1) []))
+      → all-spoken v n ds′ ≡ all-spoken v n ds
   unfolding flatten
   all-fixed [] [] round l H H′ E e = refl
   all-fixed [] (d′ ∷ ds′) round l H H′ E e = absurd (omega arith)
@@ -178,22 +208,22 @@ module _ (n : ℕ) (least : 3 ≤ n) (most : n ≤ 9) (marks : Marks) where
       ap₂ _++_
       (spoken-fixed (d .probe) (d′ .probe) (H .0) (H′ .0) round (λ i k. E i (omega arith))
       (λ i k j j1 jn p. sym (first-word d′ ds′ i j k j1 jn) ∙ e i (omega arith) j j1 jn p ∙ first-word d ds i j k j1 jn))
-      (all-fixed ds ds′ (round + probe-rounds) (suc-inj l) (H .1) (H′ .1)
-      (λ i k. rw (later i) (E (probe-rounds + i) (omega arith)))
-      (λ i k j j1 jn p. sym (later-word d′ ds′ i j) ∙ e (probe-rounds + i) (omega arith) j j1 jn (ap (λ (m : ℕ). is-present (marks m) j) (sym (later i)) ∙ p) ∙ later-word d ds i j))
+      (all-fixed ds ds′ (round + last-round v) (suc-inj l) (H .1) (H′ .1)
+      (λ i k. rw (later i) (E (last-round v + i) (omega arith)))
+      (λ i k j j1 jn p. sym (later-word d′ ds′ i j) ∙ e (last-round v + i) (omega arith) j j1 jn (ap (λ (m : ℕ). is-present (marks m) j) (sym (later i)) ∙ p) ∙ later-word d ds i j))
     where
-      later : (i : ℕ) → round + probe-rounds + i ≡ round + (probe-rounds + i)
+      later : (i : ℕ) → round + last-round v + i ≡ round + (last-round v + i)
       later i = omega arith
 
-      first-word : (d : Made) (ds : List Made) (i j : ℕ) → i < probe-rounds → 1 ≤ j → j ≤ n
-          → getD (getD (spoken n (d .probe) ++ all-spoken n ds) i []) (j - 1) 0 ≡ words-at (d .probe) i j
+      first-word : (d : Made) (ds : List Made) (i j : ℕ) → i < last-round v → 1 ≤ j → j ≤ n
+          → getD (getD (spoken v n (d .probe) ++ all-spoken v n ds) i []) (j - 1) [] ≡ words-at v (d .probe) i j
       first-word d ds i j k j1 jn =
-          ap (λ (ws : List ℕ). getD ws (j - 1) 0) (List·getD-append (spoken n (d .probe)) (all-spoken n ds) [] i (omega (arith, spoken-long n (d .probe))))
+          ap (λ (ws : List (List ℕ)). getD ws (j - 1) []) (List·getD-append (spoken v n (d .probe)) (all-spoken v n ds) [] i (omega (arith, spoken-long v n (d .probe))))
           ∙ spoken-at (d .probe) i j k j1 jn
 
       later-word : (d : Made) (ds : List Made) (i j : ℕ)
-          → getD (getD (spoken n (d .probe) ++ all-spoken n ds) (probe-rounds + i) []) (j - 1) 0 ≡ getD (getD (all-spoken n ds) i []) (j - 1) 0
+          → getD (getD (spoken v n (d .probe) ++ all-spoken v n ds) (last-round v + i) []) (j - 1) [] ≡ getD (getD (all-spoken v n ds) i []) (j - 1) []
       later-word d ds i j =
-          ap (λ (ws : List ℕ). getD ws (j - 1) 0)
-          (ap (λ (k : ℕ). getD (spoken n (d .probe) ++ all-spoken n ds) (k + i) []) (sym (spoken-long n (d .probe)))
-          ∙ getD-append-add (spoken n (d .probe)) (all-spoken n ds) i [])
+          ap (λ (ws : List (List ℕ)). getD ws (j - 1) [])
+          (ap (λ (k : ℕ). getD (spoken v n (d .probe) ++ all-spoken v n ds) (k + i) []) (sym (spoken-long v n (d .probe)))
+          ∙ getD-append-add (spoken v n (d .probe)) (all-spoken v n ds) i [])

@@ -92,5 +92,5 @@ module _ (a : Auction) (c : Coins) (marks : Marks) (desk : Desk) (att : Attendan
   pub no-fills : fills (canonical a c marks desk att) ≡ []
   unfolding canonical whose of-fleet
   no-fills =
-      none-append _ _ (none-map (λ j. open-call (a .n) j (a .k) (zeros a)) (λ j. refl) (points (a .n)))
+      none-append _ _ (none-map (λ j. open-call (a .n) j (a .k) (a .last) (zeros a)) (λ j. refl) (points (a .n)))
       (none-bids (zip (a .bids) (c .bids)) (map (seated a) (points (a .n))))

@@ -1,12 +1,16 @@
 -- Runs, and demands 2 and 3. The demands are proved in Proved; what it stands on is listed from the bottom up, and Alone stands on it.
 pub mod Closed
 pub mod Calls
+pub mod Written
 pub mod Totals
 pub mod Bidding
 pub mod Dealing
 pub mod Setup
 pub mod Sheets
-pub mod Carry
+pub mod Blocks
+pub mod Kept
+pub mod Chained
+pub mod Treed
 pub mod Comparing
 pub mod Step
 pub mod Placed

@@ -7,7 +7,7 @@ use mathlib.Core.Logic.{_⊎_, inl, inr}
 use Prim.Native.Nat.{ℕ, _*_, _≤_, _<_}
 use native.Mathlib.Omega.{arith}
 use lib.ListN.{length, drop, getD, length-map}
-use Rattle.ranges.specs.Sizes.{sheet-size}
+use Rattle.ways.specs.Way.{way-of, sheet-size}
 use Rattle.fields.specs.Amount.{p, amounts}
 use Rattle.sharing.specs.Polynomial.{shares}
 use Rattle.sharing.specs.Scheme.{threshold}
@@ -41,20 +41,20 @@ pub record Match (a b : Auction) (xs : List ℕ) (c : Coins) : Type 0 where
   pub same-sheets : (j : ℕ) → List·Memᴰ j xs → sheets-at b (match-coins a b xs c) j ≡ sheets-at a c j
   -- the probes: where the searches stand at each, the words that are said, the verdicts, and how many there are
   pub same-searches : map (λ d. d .here) (probes b (match-coins a b xs c)) ≡ map (λ d. d .here) (probes a c)
-  pub same-messages : (j : ℕ) → map (λ d. probe-messages (d .probe) j) (probes b (match-coins a b xs c)) ≡ map (λ d. probe-messages (d .probe) j) (probes a c)
-  pub same-spoken : map (λ d. spoken (b .n) (d .probe)) (probes b (match-coins a b xs c)) ≡ map (λ d. spoken (a .n) (d .probe)) (probes a c)
+  pub same-messages : (j : ℕ) → map (λ d. probe-messages (way-of (b .last)) (d .probe) j) (probes b (match-coins a b xs c)) ≡ map (λ d. probe-messages (way-of (a .last)) (d .probe) j) (probes a c)
+  pub same-spoken : map (λ d. spoken (way-of (b .last)) (b .n) (d .probe)) (probes b (match-coins a b xs c)) ≡ map (λ d. spoken (way-of (a .last)) (a .n) (d .probe)) (probes a c)
   -- and the words of the rounds in which the totals are opened
   pub same-opened : totals-spoken b (polynomials b (match-coins a b xs c)) ≡ totals-spoken a (polynomials a c)
-  pub same-decisions : map decision (probes b (match-coins a b xs c)) ≡ map decision (probes a c)
+  pub same-decisions : map (decision (way-of (b .last))) (probes b (match-coins a b xs c)) ≡ map (decision (way-of (a .last))) (probes a c)
   pub same-many : length (probes b (match-coins a b xs c)) ≡ length (probes a c)
   -- any party's unused sheets
-  pub same-unused : (j : ℕ) → drop (sheet-size * length (probes a c)) (sheets-at b (match-coins a b xs c) j) ≡ drop (sheet-size * length (probes a c)) (sheets-at a c j)
+  pub same-unused : (j : ℕ) → drop (sheet-size (way-of (a .last)) * length (probes a c)) (sheets-at b (match-coins a b xs c) j) ≡ drop (sheet-size (way-of (a .last)) * length (probes a c)) (sheets-at a c j)
   -- and no other coins
   pub only : (o : Coins) → InRange b o
       → ((j : ℕ) → List·Memᴰ j xs → bid-words j (b .bids) (o .bids) ≡ bid-words j (a .bids) (c .bids))
       → ((j : ℕ) → List·Memᴰ j xs → sheets-at b o j ≡ sheets-at a c j)
-      → ((j : ℕ) → 1 ≤ j → j ≤ a .n → drop (sheet-size * length (probes a c)) (sheets-at b o j) ≡ drop (sheet-size * length (probes a c)) (sheets-at a c j))
-      → flatten (map (λ d. spoken (b .n) (d .probe)) (probes b o)) ≡ flatten (map (λ d. spoken (a .n) (d .probe)) (probes a c))
+      → ((j : ℕ) → 1 ≤ j → j ≤ a .n → drop (sheet-size (way-of (a .last)) * length (probes a c)) (sheets-at b o j) ≡ drop (sheet-size (way-of (a .last)) * length (probes a c)) (sheets-at a c j))
+      → flatten (map (λ d. spoken (way-of (b .last)) (b .n) (d .probe)) (probes b o)) ≡ flatten (map (λ d. spoken (way-of (a .last)) (a .n) (d .probe)) (probes a c))
       → o ≡ match-coins a b xs c
 
 -- a party's number is one of the field
@@ -67,14 +67,14 @@ in-field (x ∷ xs) D j i = go (in-field xs (D .2) j) (List·Memᴰ·cases-cons 
     go h (inr m) = h m
 
 -- two auctions of n parties and k prices
-module _ (n k : ℕ) (bids bids′ : List Bid) (A : IsAuction (auction n k bids)) (B : IsAuction (auction n k bids′))
-    (alike : Alike (auction n k bids) (auction n k bids′)) (xs : List ℕ) (pool : Pool n xs)
-    (c : Coins) (C : InRange (auction n k bids) c) (stay : Stay (auction n k bids) (auction n k bids′) c) where
+module _ (n k last : ℕ) (bids bids′ : List Bid) (A : IsAuction (auction n k last bids)) (B : IsAuction (auction n k last bids′))
+    (alike : Alike (auction n k last bids) (auction n k last bids′)) (xs : List ℕ) (pool : Pool n xs)
+    (c : Coins) (C : InRange (auction n k last bids) c) (stay : Stay (auction n k last bids) (auction n k last bids′) c) where
   abbrev a : Auction
-  a = auction n k bids
+  a = auction n k last bids
 
   abbrev b : Auction
-  b = auction n k bids′
+  b = auction n k last bids′
 
   abbrev t : ℕ
   t = threshold n
@@ -114,7 +114,7 @@ module _ (n k : ℕ) (bids bids′ : List Bid) (A : IsAuction (auction n k bids)
 
   -- ---- probes
 
-  setting : Setting n k bids bids′ xs (polynomials a c) (polynomials b c₀)
+  setting : Setting n k last bids bids′ xs (polynomials a c) (polynomials b c₀)
   setting =
       record {
         at-most = A .n-most;
@@ -127,11 +127,11 @@ module _ (n k : ℕ) (bids bids′ : List Bid) (A : IsAuction (auction n k bids)
         agree = same-promises (totals-monotone A) (totals-monotone B) (sym (alike .highest)) (sym (alike .lowest));
       }
 
-  on-course : Course n k bids bids′ xs (polynomials a c) (polynomials b c₀) (first-search k) (c .sheets) (matched-sheets a b xs (probed a) (c .sheets))
+  on-course : Course n k last bids bids′ xs (polynomials a c) (polynomials b c₀) (first-search k) (c .sheets) (matched-sheets a b xs (probed a) (c .sheets))
   on-course =
       subst
       (λ (z : ℕ). Each (λ s. stays a b (s .0 .which) (s .0 .index) (s .1 .mask) ≡ true) (zip (trail (promise (demand a) (supply a)) z (first-search k)) (c .sheets))
-      → Course n k bids bids′ xs (polynomials a c) (polynomials b c₀) (first-search k) (c .sheets)
+      → Course n k last bids bids′ xs (polynomials a c) (polynomials b c₀) (first-search k) (c .sheets)
       (matched-sheets a b xs (trail (promise (demand a) (supply a)) z (first-search k)) (c .sheets)))
       (C .sheets-many) (course setting (c .sheets) (first-search k) (roomy-start k (A .k-least)) (C .sheets)) stay
 
@@ -140,8 +140,8 @@ module _ (n k : ℕ) (bids bids′ : List Bid) (A : IsAuction (auction n k bids)
   module _ (o : Coins) (O : InRange b o)
       (ws : (j : ℕ) → In j xs → bid-words j bids′ (o .bids) ≡ bid-words j bids (c .bids))
       (vs : (j : ℕ) → In j xs → sheets-at b o j ≡ sheets-at a c j)
-      (us : (j : ℕ) → 1 ≤ j → j ≤ n → drop (sheet-size * length (probes a c)) (sheets-at b o j) ≡ drop (sheet-size * length (probes a c)) (sheets-at a c j))
-      (said : flatten (map (λ d. spoken n (d .probe)) (probes b o)) ≡ flatten (map (λ d. spoken n (d .probe)) (probes a c))) where
+      (us : (j : ℕ) → 1 ≤ j → j ≤ n → drop (sheet-size (way-of last) * length (probes a c)) (sheets-at b o j) ≡ drop (sheet-size (way-of last) * length (probes a c)) (sheets-at a c j))
+      (said : flatten (map (λ d. spoken (way-of last) n (d .probe)) (probes b o)) ≡ flatten (map (λ d. spoken (way-of last) n (d .probe)) (probes a c))) where
     other-bids : o .bids ≡ matched-bids xs bids bids′ (c .bids)
     other-bids =
         bids-only t xs D (pool .many) k bids bids′ (c .bids) (o .bids) (A .tables) (B .tables) (C .bids) (O .bids) many-bids (C .bids-many)
@@ -155,7 +155,7 @@ module _ (n k : ℕ) (bids bids′ : List Bid) (A : IsAuction (auction n k bids)
     unfolding sheets-at
     other-sheets =
         sheets-only setting on-course (o .sheets) (O .sheets-many ∙ sym (C .sheets-many)) (O .sheets) vs us
-        (ap (λ (z : List (List ℕ)). flatten (map (λ d. spoken n (d .probe)) (made b z (first-search k) (o .sheets)))) (sym other-polynomials) ∙ said)
+        (ap (λ (z : List (List ℕ)). flatten (map (λ d. spoken (way-of last) n (d .probe)) (made b z (first-search k) (o .sheets)))) (sym other-polynomials) ∙ said)
 
     coins-only : o ≡ c′
     unfolding match-coins
@@ -177,12 +177,12 @@ module _ (n k : ℕ) (bids bids′ : List Bid) (A : IsAuction (auction n k bids)
         same-shares = shares-same xs (polynomials a c) (polynomials b c₀) same-totals;
         same-sheets = λ j i. ap flat (words-same j i on-course);
         same-searches = made-same (λ d. d .here) (λ here s s′ P. refl) on-course;
-        same-messages = λ j. made-same (λ d. probe-messages (d .probe) j) (λ here s s′ P. P .said j) on-course;
-        same-spoken = made-same (λ d. spoken n (d .probe)) (λ here s s′ P. spoken-same n _ _ (P .said)) on-course;
+        same-messages = λ j. made-same (λ d. probe-messages (way-of last) (d .probe) j) (λ here s s′ P. P .said j) on-course;
+        same-spoken = made-same (λ d. spoken (way-of last) n (d .probe)) (λ here s s′ P. spoken-same (way-of last) n _ _ (P .said)) on-course;
         same-opened =
-            totals-alike n k bids bids′ A B xs pool c c₀ C first-ranged (shares-same xs (polynomials a c) (polynomials b c₀) same-totals)
+            totals-alike n k last bids bids′ A B xs pool c c₀ C first-ranged (shares-same xs (polynomials a c) (polynomials b c₀) same-totals)
             (ap₂ price-index (alike .highest) (alike .lowest)) (alike .total-demand) (alike .total-supply);
-        same-decisions = made-same decision (λ here s s′ P. ap (decision-at here) (P .same)) on-course;
+        same-decisions = made-same (decision (way-of last)) (λ here s s′ P. ap (decision-at here) (P .same)) on-course;
         same-many =
             sym (length-map (made b (polynomials b c₀) (first-search k) (matched-sheets a b xs (probed a) (c .sheets))) (λ d. d .here))
             ∙ ap length (made-same (λ d. d .here) (λ here s s′ P. refl) on-course) ∙ length-map (probes a c) (λ d. d .here);
@@ -193,6 +193,6 @@ module _ (n k : ℕ) (bids bids′ : List Bid) (A : IsAuction (auction n k bids)
 pub matching : (a b : Auction) → IsAuction a → IsAuction b → Alike a b → (xs : List ℕ) → Pool (a .n) xs
     → (c : Coins) → InRange a c → Stay a b c → Match a b xs c
 matching a b A B alike xs pool c C stay =
-    let e : b ≡ auction (a .n) (a .k) (b .bids) = λ i. record { n = alike .parties i; k = alike .prices i; bids = b .bids } in
+    let e : b ≡ auction (a .n) (a .k) (a .last) (b .bids) = λ i. record { n = alike .parties i; k = alike .prices i; last = alike .way i; bids = b .bids } in
     subst (λ (z : Auction). IsAuction z → Alike a z → Stay a z c → Match a z xs c) (sym e)
-    (λ B alike stay. match (a .n) (a .k) (a .bids) (b .bids) A B alike xs pool c C stay) B alike stay
+    (λ B alike stay. match (a .n) (a .k) (a .last) (a .bids) (b .bids) A B alike xs pool c C stay) B alike stay

@@ -4,6 +4,7 @@ use mathlib.Core.List.{List, [], _∷_}
 use Prim.Native.Nat.{ℕ, _+_, _-_, _^_}
 use Rattle.fields.proofs.Fields.{amount-field}
 use Rattle.sharing.proofs.Laws.{recolour}
+use Rattle.ways.specs.Way.{way-of}
 use Rattle.search.specs.Search.{Decision}
 use Rattle.comparison.specs.Probe.{SheetCoins}
 use Rattle.comparison.proofs.Matched.{moved, matched}
@@ -33,7 +34,7 @@ module _ (a b : Auction) (xs : List ℕ) where
   -- the right one, so that the same T opens
   unfoldable pub matched-sheet : (which i : ℕ) → SheetCoins → SheetCoins
   matched-sheet which i s =
-      matched xs (opening (left-side a which i) (right-side a which i) (s .mask))
+      matched xs (way-of (a .last)) (opening (left-side a which i) (right-side a which i) (s .mask))
       (moved (s .mask) (left-side a which i) (right-side a which i) (left-side b which i) (right-side b which i)) s
 
   -- one sheet for each probe, and unused sheets kept

@@ -64,13 +64,13 @@ lent-in-turn a own table coins (e ∷ before) after lent =
 -- ---- what is read off a run
 
 -- a reader that passes over sayings and askings
-module _ {B : Type 0} (f : Call → Option B) (no-say : (q : Party) (t s : List ℕ) → f (say-call q t s) ≡ none)
+module _ {B : Type 0} (f : Call → Option B) (no-say : (q : Party) (t s d : List ℕ) → f (say-call q t s d) ≡ none)
     (no-ask : (q : Party) → f (answer-call q) ≡ none) where
   same-reading : {cs ds : List Call} → Repeats cs ds → collect f ds ≡ collect f cs
   unfolding collect
   same-reading Repeats.end = refl
   same-reading (Repeats.next {c} h) = ap (with-read (f c)) (same-reading h)
-  same-reading (Repeats.say-again {q} {totals = t} {sheets = s} {ds} h) = ap (λ o. with-read o (collect f ds)) (no-say q t s) ∙ same-reading h
+  same-reading (Repeats.say-again {q} {totals = t} {sheets = s} {said = d} {ds} h) = ap (λ o. with-read o (collect f ds)) (no-say q t s d) ∙ same-reading h
   same-reading (Repeats.ask-again {q} {ds} h) = ap (λ o. with-read o (collect f ds)) (no-ask q) ∙ same-reading h
 
 -- the canonical list of a run
@@ -80,11 +80,11 @@ told {a} {c} {marks} run = canonical a c marks (run .desk) (run .attendance)
 module _ (a : Auction) (c : Coins) (marks : Marks) (l : List Call) (run : Run a c marks l) (j : ℕ) where
   pub run-bids : received-bids j l ≡ received-bids j (told run)
   unfolding bid-in
-  run-bids = same-reading bid-in (λ q t s. refl) (λ q. refl) (run .parties j)
+  run-bids = same-reading bid-in (λ q t s d. refl) (λ q. refl) (run .parties j)
 
   pub run-hearings : hearings j l ≡ hearings j (told run)
   unfolding hearing-in
-  run-hearings = same-reading hearing-in (λ q t s. refl) (λ q. refl) (run .parties j)
+  run-hearings = same-reading hearing-in (λ q t s d. refl) (λ q. refl) (run .parties j)
 
 -- ---- sayings repeated
 
@@ -103,15 +103,15 @@ module _ {B : Type 0} (f : Call → Option B) (x : B) where
   unfolding collect
   only-said Repeats.end m = m
   only-said (Repeats.next {c} {cs} {ds} h) m = read-in (f c) (collect f cs) (collect f ds) (λ m′. only-said h m′) m
-  only-said (Repeats.say-again {q} {totals} {sheets} {cs} {ds} h) m =
-      read-once (f (say-call q totals sheets)) (collect f cs) (collect f ds) (λ m′. only-said h m′) m
+  only-said (Repeats.say-again {q} {totals} {sheets} {said} {cs} {ds} h) m =
+      read-once (f (say-call q totals sheets said)) (collect f cs) (collect f ds) (λ m′. only-said h m′) m
   only-said (Repeats.ask-again {q} {cs} {ds} h) m = read-once (f (answer-call q)) (collect f cs) (collect f ds) (λ m′. only-said h m′) m
 
   all-said : {cs ds : List Call} → Repeats cs ds → List·Memᴰ x (collect f cs) → List·Memᴰ x (collect f ds)
   unfolding collect
   all-said Repeats.end m = m
   all-said (Repeats.next {c} {cs} {ds} h) m = read-in (f c) (collect f ds) (collect f cs) (λ m′. all-said h m′) m
-  all-said (Repeats.say-again {q} {totals} {sheets} {ds} h) m = read-more x (f (say-call q totals sheets)) (collect f ds) (all-said h m)
+  all-said (Repeats.say-again {q} {totals} {sheets} {said} {ds} h) m = read-more x (f (say-call q totals sheets said)) (collect f ds) (all-said h m)
   all-said (Repeats.ask-again {q} {ds} h) m = read-more x (f (answer-call q)) (collect f ds) (all-said h m)
 
 module _ (a : Auction) (c : Coins) (marks : Marks) (l : List Call) (run : Run a c marks l) (j : ℕ) (x : Saying) where
@@ -310,10 +310,10 @@ module _ (a : Auction) (c : Coins) (marks : Marks) (x : Call) (l m : List Call)
       (λ z. subst (List·Memᴰ z) (sym (select-skip asked x (not-asked i (whose x) (accepted x) e) l (x ∷ m))))
 
 -- accepted or not
-pub say-twice : (a : Auction) (c : Coins) (marks : Marks) (q : Party) (t s : List ℕ) (l m : List Call)
-    → Run a c marks (l ++ (say-call q t s ∷ m)) → Run a c marks (l ++ (say-call q t s ∷ say-call q t s ∷ m))
+pub say-twice : (a : Auction) (c : Coins) (marks : Marks) (q : Party) (t s d : List ℕ) (l m : List Call)
+    → Run a c marks (l ++ (say-call q t s d ∷ m)) → Run a c marks (l ++ (say-call q t s d ∷ say-call q t s d ∷ m))
 unfolding whose given
-say-twice a c marks q t s l m r = twice a c marks (say-call q t s) l m (λ cs ds es. repeats-say cs q t s ds es) (q .own) refl r
+say-twice a c marks q t s d l m r = twice a c marks (say-call q t s d) l m (λ cs ds es. repeats-say cs q t s [] ds es) (q .own) refl r
 
 pub ask-twice : (a : Auction) (c : Coins) (marks : Marks) (q : Party) (l m : List Call)
     → Run a c marks (l ++ (answer-call q ∷ m)) → Run a c marks (l ++ (answer-call q ∷ answer-call q ∷ m))

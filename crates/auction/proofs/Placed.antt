@@ -8,7 +8,7 @@ use native.Mathlib.Omega.{arith}
 use lib.Dec.{eqb, lit<}
 use lib.ListN.{take, drop}
 use borrow.Author.Tests.{le-leb, lt-leb, ne-eqb}
-use Rattle.ranges.specs.Sizes.{sheet-size}
+use Rattle.ways.specs.Way.{way-of, sheet-size}
 use Rattle.fields.specs.Amount.{p, amounts}
 use Rattle.sharing.specs.Polynomial.{value}
 use Rattle.sharing.specs.Scheme.{threshold}
@@ -18,11 +18,13 @@ use Rattle.search.specs.Searches.{finished, price, clears}
 use Rattle.search.proofs.Bounds as searches
 use Rattle.search.proofs.Cleared.{going-clears, clears-finished, clears-some, price-on-list}
 use Rattle.comparison.specs.Probe.{SheetCoins, SheetInRange, sheet-polynomials, sheet-shares, Each}
-use Rattle.comparison.proofs.Dealt.{SheetShared, dealt-shared, each-drop}
+use Rattle.comparison.proofs.Dealt.{SheetShared, dealt-shared}
+use Rattle.comparison.proofs.Lists.{each-drop}
 use Rattle.record.specs.Record.{ended}
-use Rattle.record.proofs.Soundness.{RoundSound, going-on}
-use Rattle.saying.specs.Say.{index, demand-share, supply-share, sheet-words, current}
-use Rattle.saying.proofs.Sheets.{InField, probe-words, total-words}
+use Rattle.record.proofs.Soundness.{RoundSound, going-on, last-most}
+use Rattle.message.specs.Message.{index, demand-share, supply-share, sheet-words}
+use Rattle.saying.specs.Say.{current}
+use Rattle.message.proofs.Sheets.{InField, probe-words, total-words}
 use Rattle.auction.specs.Auction.{Auction, IsAuction}
 use Rattle.auction.specs.Coins.{Coins, InRange}
 use Rattle.auction.proofs.Closed.{at-party, polynomials, demand-at, supply-at, Stage, fresh-stage, decided-stage, total-stage, record-at, sheets-at}
@@ -31,13 +33,13 @@ use Rattle.auction.proofs.Comparing.{demand-shared, supply-shared}
 use Rattle.auction.proofs.Step.{Sane, Placed, sheets-long}
 
 -- a round of a probe is in turn while the searches go on
-pub probe-turn : (here : Search) (round : ℕ) → finished here ≡ false → 1 ≤ round → round ≤ 33 → RoundSound here round
-probe-turn here round going least most =
+pub probe-turn : (here : Search) (last round : ℕ) → finished here ≡ false → 1 ≤ round → round ≤ last → RoundSound here last round
+probe-turn here last round going least most =
     record { least = least; probing = λ c. most; opening = λ c. absurd (true≢false (sym c ∙ going-clears here going)) }
 
 -- and a round for the totals once they have ended at a price
-pub total-turn : (here : Search) (round : ℕ) → clears here ≡ true → 34 ≤ round → round ≤ 36 → RoundSound here round
-total-turn here round cleared least most =
+pub total-turn : (here : Search) (last round : ℕ) → clears here ≡ true → 34 ≤ round → round ≤ 36 → RoundSound here last round
+total-turn here last round cleared least most =
     record { least = omega arith; probing = λ c. absurd (true≢false (sym cleared ∙ c)); opening = λ c. (least, most) }
 
 -- while the searches go on there is a probe next
@@ -77,14 +79,14 @@ module _ (a : Auction) (c : Coins) (A : IsAuction a) (C : InRange a c) where
 
   module _ (σ : Stage) (s : SheetCoins) (ss : List SheetCoins) (P : InProbe a c σ s ss) where
     in-probe : σ .round ≤ 33
-    in-probe = P .sane .round .probing (going-clears (σ .search) (P .going))
+    in-probe = omega (arith, P .sane .round .probing (going-clears (σ .search) (P .going)), last-most (a .last) (A .way))
 
-    pub coins-ranged : SheetInRange t s
+    pub coins-ranged : SheetInRange (way-of (a .last)) t s
     coins-ranged =
-        each-first (SheetInRange t) s ss (drop (σ .search .probes) (c .sheets)) (P .left) (each-drop (SheetInRange t) (σ .search .probes) (c .sheets) (C .sheets))
+        each-first (SheetInRange (way-of (a .last)) t) s ss (drop (σ .search .probes) (c .sheets)) (P .left) (each-drop (SheetInRange (way-of (a .last)) t) (σ .search .probes) (c .sheets) (C .sheets))
 
-    sheet-shared : SheetShared t (sheet-polynomials s)
-    sheet-shared = dealt-shared t s coins-ranged
+    sheet-shared : SheetShared (way-of (a .last)) t (sheet-polynomials s)
+    sheet-shared = dealt-shared (way-of (a .last)) t s coins-ranged
 
     probed : (1 ≤ middle (σ .search .bracket)) × (middle (σ .search .bracket) ≤ a .k)
     probed =
@@ -92,18 +94,18 @@ module _ (a : Auction) (c : Coins) (A : IsAuction a) (C : InRange a c) where
         (F .index-least, F .index-most)
 
     module _ (j : ℕ) where
-      whole-sheet : sheet-words (record-at a c σ j) ≡ sheet-size
+      whole-sheet : sheet-words (record-at a c σ j) ≡ sheet-size (way-of (a .last))
       unfolding record-at
       whole-sheet = probe-words (record-at a c σ j) in-probe
 
-      at-probes : take sheet-size (drop (sheet-size * record-at a c σ j .search .probes) (sheets-at a c j)) ≡ sheet-shares j (sheet-polynomials s)
+      at-probes : take (sheet-size (way-of (a .last))) (drop (sheet-size (way-of (a .last)) * record-at a c σ j .search .probes) (sheets-at a c j)) ≡ sheet-shares j (sheet-polynomials s)
       unfolding record-at sheets-at
-      at-probes = flat-at (λ s. sheet-shares j (sheet-polynomials s)) sheet-size (c .sheets) (σ .search .probes) s ss (sheets-long a c A C j) (P .left)
+      at-probes = flat-at (λ s. sheet-shares j (sheet-polynomials s)) (sheet-size (way-of (a .last))) (c .sheets) (σ .search .probes) s ss (sheets-long a c A C j) (P .left)
 
       current-at : current (record-at a c σ j) (sheets-at a c j) ≡ sheet-shares j (sheet-polynomials s)
-      unfolding current
+      unfolding current record-at
       current-at =
-          ap (λ (m : ℕ). take m (drop (sheet-size * record-at a c σ j .search .probes) (sheets-at a c j))) whole-sheet
+          ap (λ (m : ℕ). take m (drop (sheet-size (way-of (a .last)) * record-at a c σ j .search .probes) (sheets-at a c j))) whole-sheet
           ∙ at-probes
 
       index-at : index (record-at a c σ j) ≡ middle (σ .search .bracket)
@@ -124,8 +126,8 @@ module _ (a : Auction) (c : Coins) (A : IsAuction a) (C : InRange a c) where
           demand = λ u e. rw (probed-demand j) (amount-below j small _ (demand-shared a c A C (middle (σ .search .bracket)) (probed .0) (probed .1) .1));
           supply = λ u e. rw (probed-supply j) (amount-below j small _ (supply-shared a c A C (middle (σ .search .bracket)) (probed .0) (probed .1) .1));
           total = λ u late. absurd (omega (arith, in-probe));
-          mask = rw (mask-word t j (sheet-polynomials s) sheet-shared) (amount-below j small _ (sheet-shared .mask .1));
-          bytes = sheet-bytes-below t j small (sheet-polynomials s) sheet-shared;
+          mask = rw (mask-word (way-of (a .last)) t j (sheet-polynomials s) sheet-shared) (amount-below j small _ (sheet-shared .mask .1));
+          bytes = sheet-bytes-below t j small (way-of (a .last)) (sheet-polynomials s) sheet-shared;
         }
 
     pub probe-placed : Placed a c σ (λ j. sheet-shares j (sheet-polynomials s))

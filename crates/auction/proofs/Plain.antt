@@ -11,6 +11,7 @@ use lib.ListN.{length, replicate, length-map, length-replicate}
 use borrow.Author.Tests.{le-leb, lt-ltb}
 use Rattle.fields.specs.Amount.{p}
 use Rattle.sharing.specs.Scheme.{threshold}
+use Rattle.ways.specs.Way.{Way, way-of}
 use Rattle.search.specs.Limit.{most-probes}
 use Rattle.search.specs.Search.{Decision}
 use Rattle.comparison.specs.Probe.{SheetCoins, SheetInRange, Group, Each}
@@ -27,7 +28,7 @@ middle = 2 ^ 57
 module _ (a : Auction) where
   -- every coefficient 0, every mask in the middle
   plain-sheet : SheetCoins
-  plain-sheet = plain-coins (threshold (a .n)) middle
+  plain-sheet = plain-coins (way-of (a .last)) (threshold (a .n)) middle
 
   plain : Coins
   plain =
@@ -46,7 +47,7 @@ module _ (a : Auction) where
             each-replicate (λ groups. (length groups ≡ 2 * a .k) × Each (Group p t) groups) (length (a .bids)) _
             (length-replicate (2 * a .k) _, each-replicate (Group p t) (2 * a .k) _ (zeros-group p t (lit< tt)));
         sheets-many = length-replicate (most-probes (a .k)) _;
-        sheets = each-replicate (SheetInRange t) (most-probes (a .k)) _ (plain-ranged t middle (lit< tt));
+        sheets = each-replicate (SheetInRange (way-of (a .last)) t) (most-probes (a .k)) _ (plain-ranged (way-of (a .last)) t middle (lit< tt));
       }
 
 module _ (a b : Auction) (A : IsAuction a) (B : IsAuction b) where
@@ -66,16 +67,16 @@ module _ (a b : Auction) (A : IsAuction a) (B : IsAuction b) where
   unfolding plain-sheet zip
   all-stay [] m = tt
   all-stay (d ∷ ds) zero = tt
-  all-stay (d ∷ ds) (suc m) = (rw (plain-mask (threshold (a .n)) middle) (middle-stays (d .which) (d .index)), all-stay ds m)
+  all-stay (d ∷ ds) (suc m) = (rw (plain-mask (way-of (a .last)) (threshold (a .n)) middle) (middle-stays (d .which) (d .index)), all-stay ds m)
 
   -- all masks in the middle
   module _ (c : Coins) (C : InRange a c) where
     middle-coins : Coins
     middle-coins = record { bids = c .bids; sheets = map (remasked middle) (c .sheets) }
 
-    remasked-in-range : (t : ℕ) (ss : List SheetCoins) → Each (SheetInRange t) ss → Each (SheetInRange t) (map (remasked middle) ss)
-    remasked-in-range t [] h = tt
-    remasked-in-range t (s ∷ ss) h = (
+    remasked-in-range : (w : Way) (t : ℕ) (ss : List SheetCoins) → Each (SheetInRange w t) ss → Each (SheetInRange w t) (map (remasked middle) ss)
+    remasked-in-range w t [] h = tt
+    remasked-in-range w t (s ∷ ss) h = (
       record {
         mask = lit< tt;
         of-mask = h .0 .of-mask;
@@ -84,7 +85,7 @@ module _ (a b : Auction) (A : IsAuction a) (B : IsAuction b) where
         triples = h .0 .triples;
         triples-long = h .0 .triples-long;
       },
-      remasked-in-range t ss (h .1),
+      remasked-in-range w t ss (h .1),
     )
 
     middle-in-range : InRange a middle-coins
@@ -94,7 +95,7 @@ module _ (a b : Auction) (A : IsAuction a) (B : IsAuction b) where
           bids-many = C .bids-many;
           bids = C .bids;
           sheets-many = length-map (c .sheets) (remasked middle) ∙ C .sheets-many;
-          sheets = remasked-in-range (threshold (a .n)) (c .sheets) (C .sheets);
+          sheets = remasked-in-range (way-of (a .last)) (threshold (a .n)) (c .sheets) (C .sheets);
         }
 
     middles-stay : (ds : List Decision) (ss : List SheetCoins)

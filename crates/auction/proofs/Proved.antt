@@ -11,7 +11,6 @@ use lib.Dec.{leb, eqb}
 use lib.ListN.{length, take, drop, getD, replicate, length-map, length-take, List·getD-append}
 use lib.Seq.{take-all, take-length}
 use borrow.Author.Tests.{leb-true, leb-false}
-use Rattle.ranges.specs.Sizes.{sheet-size, probe-rounds}
 use Rattle.ranges.specs.Distinct.{Distinct}
 use Rattle.presence.specs.Presence.{is-present}
 use Rattle.search.specs.Limit.{most-probes}
@@ -37,7 +36,10 @@ use Rattle.auction.specs.Run.{Run, own}
 use Rattle.auction.specs.Received.{collect, asking-in, decision-in, Saying, received-bids, sayings, hearings, askings, answers, messages, decisions, verdicts}
 use Rattle.auction.specs.Demands.{FleetTold, Found, Outcome, Demand2, Alike, Pool, AsFar, SaidAlike, unused, Same, Matched, Demand3}
 use Rattle.auction.proofs.Matched.{match-coins}
-use Rattle.auction.proofs.Closed.{bid-words, polynomials, full-roll, all-spoken, totals-spoken, record-at, sheets-at, probes}
+use Rattle.ways.specs.Way.{Way, is-way, way-of, last-round, sheet-size}
+use Rattle.kept_pairs.specs.Pairs as kept
+use Rattle.auction.proofs.Kept.{rounds-of, div-all, div-over}
+use Rattle.auction.proofs.Closed.{bid-words, polynomials, full-roll, all-spoken, totals-spoken, record-at, sheets-at, probes, no-words}
 use Rattle.auction.proofs.Setup.{sheets-dealt}
 use Rattle.auction.proofs.Calls.{read-there}
 use Rattle.auction.proofs.Elsewhere.{none-told}
@@ -46,15 +48,13 @@ use Rattle.auction.proofs.Hours.{fleet-told, price-covered, fills-come-
 use Rattle.auction.proofs.Canonical.{canonical-accepted, canonical-bids, canonical-heard, canonical-rolled, canonical-messages, canonical-decisions, canonical-askings, canonical-sayings, canonical-says}
 use Rattle.auction.proofs.Totals.{totals-monotone}
 use Rattle.auction.proofs.Search.{whole, probes-trail, probes-many, probes-few, highest-found, lowest-found, none-found, spent-found, price-found}
-use Rattle.fields.specs.Byte.{bytes}
-use Rattle.sharing.specs.Polynomial.{value}
 use Rattle.sharing.specs.Scheme.{threshold}
 use Rattle.comparison.specs.Probe.{Each}
 use Rattle.comparison.proofs.Dealt.{ProbeShared}
 use Rattle.comparison.proofs.Plain.{each-replicate}
 use Rattle.auction.proofs.Whole.{end, end-search, end-totals, end-bare, whole-spoken}
 use Rattle.auction.proofs.SameSheets.{all-spoken-long}
-use Rattle.auction.proofs.Rounds.{end-answer, present-of, spoken-word, Says}
+use Rattle.auction.proofs.Rounds.{end-answer, present-of, spoken-words, Says}
 use Rattle.auction.proofs.Falling.{few-fall}
 use Rattle.auction.proofs.Plain.{some-coins, but-masks}
 use Rattle.auction.proofs.Fixed.{all-fixed}
@@ -93,16 +93,25 @@ far-as : {A : Type 0} (m k : ℕ) (xs : List A) {ys zs : List A} → ys ≡ take
 far-as m k xs e f = rw (e, f) (as-far m k xs)
 
 -- the probes of as many rounds as there are, and of more; the totals' rounds are fewer than a probe's
-probes-in : {A : Type 0} (m more : ℕ) (xs : List A) → more ≤ 2 → take (m / probe-rounds) xs ≡ take (min m (probe-rounds * length xs + more) / probe-rounds) xs
-probes-in {A} m more xs h =
-    elim (decLe m (probe-rounds * length xs + more)) [
+probes-by : {A : Type 0} (v : Way) (m more : ℕ) (xs : List A) → more ≤ 2 → take (m / last-round v) xs ≡ take (min m (last-round v * length xs + more) / last-round v) xs
+probes-by {A} v m more xs h =
+    elim (decLe m (last-round v * length xs + more)) [
       | yes le ↦
-          let e : m ≡ min m (probe-rounds * length xs + more) = omega arith in
-          ap (λ (k : ℕ). take (k / probe-rounds) xs) e
+          let e : m ≡ min m (last-round v * length xs + more) = omega arith in
+          ap (λ (k : ℕ). take (k / last-round v) xs) e
       | no gt ↦
-          let e : length xs ≡ min m (probe-rounds * length xs + more) / probe-rounds = omega arith in
-          take-all (m / probe-rounds) xs (omega arith) ∙ sym (take-length xs) ∙ ap (λ (k : ℕ). take k xs) e
+          let e : min m (last-round v * length xs + more) ≡ last-round v * length xs + more = omega arith in
+          take-all (m / last-round v) xs (div-all v m (length xs) (omega arith)) ∙ sym (take-length xs)
+          ∙ ap (λ (k : ℕ). take k xs) (sym (ap (λ (k : ℕ). k / last-round v) e ∙ div-over v (length xs) more h))
     ]
+
+module _ (last : ℕ) (way : is-way last ≡ true) where
+  probes-in : {A : Type 0} (m more : ℕ) (xs : List A) → more ≤ 2 → take (m / last) xs ≡ take (min m (last * length xs + more) / last) xs
+  probes-in m more xs h =
+      subst (λ (k : ℕ). take (m / k) xs ≡ take (min m (k * length xs + more) / k) xs) (rounds-of last way) (probes-by (way-of last) m more xs h)
+
+  div-last : (m n : ℕ) → last * n ≤ m → n ≤ m / last
+  div-last m n = subst (λ (k : ℕ). k * n ≤ m → n ≤ m / k) (rounds-of last way) (div-all (way-of last) m n)
 
 -- two at most
 few-more : (b : Bool) → cond b 0 2 ≤ 2
@@ -132,13 +141,13 @@ module _ (a : Auction) (c : Coins) (A : IsAuction a) (C : InRange a c) (marks : 
   messages-are : messages j l ≡ take most (present-of marks 0 (whole-spoken a c))
   messages-are = ap (map _) (run-hearings a c marks l run j) ∙ canonical-messages a c A C marks M (run .desk) (run .complete) (run .attendance) j j1 jn
 
-  decisions-are : decisions j l ≡ take (most / probe-rounds) (probed a)
+  decisions-are : decisions j l ≡ take (most / a .last) (probed a)
   decisions-are =
       ap (collect decision-in) (run-hearings a c marks l run j) ∙ canonical-decisions a c A C marks M (run .desk) (run .complete) (run .attendance) j j1 jn
-      ∙ ap (take (most / probe-rounds)) (probes-trail a c A C)
+      ∙ ap₂ (λ (k : ℕ) (ds : List Decision). take (most / k) ds) (rounds-of (a .last) (A .way)) (probes-trail a c A C)
 
-  verdicts-are : verdicts j l ≡ take (most / probe-rounds) (map (λ d. d .verdict) (probed a))
-  verdicts-are = ap (map (λ d. d .verdict)) decisions-are ∙ map-take (λ d. d .verdict) (most / probe-rounds) (probed a)
+  verdicts-are : verdicts j l ≡ take (most / a .last) (map (λ d. d .verdict) (probed a))
+  verdicts-are = ap (map (λ d. d .verdict)) decisions-are ∙ map-take (λ d. d .verdict) (most / a .last) (probed a)
 
   sayings-are : (x : Saying) → List·Memᴰ x (sayings j l) → (i : ℕ) × Says a c i j x
   sayings-are x m =
@@ -162,14 +171,14 @@ module _ (a : Auction) (c : Coins) (A : IsAuction a) (C : InRange a c) (marks : 
     q = record-at a c (end a c) j
 
     decided-all : decisions j l ≡ probed a
-    decided-all = decisions-are ∙ take-all (most / probe-rounds) (probed a) (omega arith)
+    decided-all = decisions-are ∙ take-all (most / a .last) (probed a) (div-last (a .last) (A .way) most (length (probed a)) (omega arith))
 
     many-all : length (verdicts j l) ≡ length (probed a)
     many-all = length-map (decisions j l) (λ d. d .verdict) ∙ ap length decided-all
 
     -- what the searches found, at the end
     found-are : Found a (decisions j l) q
-    unfolding record-at value
+    unfolding record-at no-words kept.none
     found-are =
         record {
           highest = ap (λ (s : Search). s .first) (end-search a c) ∙ highest-found a c A C;
@@ -178,7 +187,7 @@ module _ (a : Auction) (c : Coins) (A : IsAuction a) (C : InRange a c) (marks : 
           none = λ e. ap (λ (s : Search). s .bracket .hi) (end-search a c) ∙ none-found a c A C e;
           total-demand = end-totals a c (price-found a c A C) .0;
           total-supply = end-totals a c (price-found a c A C) .1;
-          bare = (end-bare a c .0, ap (λ (cs : List ℕ). value bytes cs j) (end-bare a c .1));
+          bare = (end-bare a c .0, end-bare a c .1 j, ap (λ (ws : List ℕ). record { words = ws }) (end-bare a c .2 j));
         }
 
   -- whether it asks where it has heard all
@@ -240,10 +249,10 @@ module _ (a : Auction) (c : Coins) (A : IsAuction a) (C : InRange a c) (marks : 
       record {
         heard = heard-are;
         promised =
-            verdicts-are ∙ ap (take (most / probe-rounds)) (trail-given given (most-probes (a .k)) (first-search (a .k)))
-            ∙ sym (map-take (λ d. given (d .which) (d .index)) (most / probe-rounds) (probed a))
+            verdicts-are ∙ ap (take (most / a .last)) (trail-given given (most-probes (a .k)) (first-search (a .k)))
+            ∙ sym (map-take (λ d. given (d .which) (d .index)) (most / a .last) (probed a))
             ∙ ap (map (λ d. given (d .which) (d .index))) (sym decisions-are);
-        searched = decisions-are ∙ probes-in most (total-rounds a) (probed a) (few-more (eqb (price-answer a) 0)) ∙ ap (λ (k : ℕ). take (k / probe-rounds) (probed a)) (sym heard-are);
+        searched = decisions-are ∙ probes-in (a .last) (A .way) most (total-rounds a) (probed a) (few-more (eqb (price-answer a) 0)) ∙ ap (λ (k : ℕ). take (k / a .last) (probed a)) (sym heard-are);
         asked = asks .times;
         once-over = asks .once-over;
         cleared =
@@ -255,7 +264,7 @@ module _ (a : Auction) (c : Coins) (A : IsAuction a) (C : InRange a c) (marks : 
               arith,
               length-map (decisions j l) (λ d. d .verdict),
               ap length decisions-are,
-              length-take (most / probe-rounds) (probed a),
+              length-take (most / a .last) (probed a),
               probes-few a c A C,
               probes-many a c A C,
             );
@@ -319,21 +328,21 @@ module _ {a : Auction} (A : IsAuction a) where
   balanced-nowhere-else = equal-nowhere-else (totals-monotone A)
 
 -- "No bids now clears at (k + 1)/2 rounded down."
-pub no-bids : (n k : ℕ) → 1 ≤ k → price-answer (record { n = n; k = k; bids = [] }) ≡ (k + 1) / 2
+pub no-bids : (n k last : ℕ) → 1 ≤ k → price-answer (record { n = n; k = k; last = last; bids = [] }) ≡ (k + 1) / 2
 unfolding demand supply sum
-no-bids n k some =
-    let nobody : Auction = record { n = n; k = k; bids = [] } in
+no-bids n k last some =
+    let nobody : Auction = record { n = n; k = k; last = last; bids = [] } in
     all-equal (demand nobody) (supply nobody) k some (λ i. refl)
 
 -- ---- demand 3
 
 -- a word of a probe's round
-probe-word : (a : Auction) (c : Coins) (i j : ℕ) → i < probe-rounds * length (probes a c)
-    → spoken-word a c i j ≡ getD (getD (all-spoken (a .n) (probes a c)) i []) (j - 1) 0
+probe-word : (a : Auction) (c : Coins) (i j : ℕ) → i < last-round (way-of (a .last)) * length (probes a c)
+    → spoken-words a c i j ≡ getD (getD (all-spoken (way-of (a .last)) (a .n) (probes a c)) i []) (j - 1) []
 unfolding whole-spoken
 probe-word a c i j h =
-    ap (λ (ws : List ℕ). getD ws (j - 1) 0)
-    (List·getD-append (all-spoken (a .n) (probes a c)) (totals-spoken a (polynomials a c)) [] i (omega (arith, all-spoken-long (a .n) (probes a c))))
+    ap (λ (ws : List (List ℕ)). getD ws (j - 1) [])
+    (List·getD-append (all-spoken (way-of (a .last)) (a .n) (probes a c)) (totals-spoken a (polynomials a c)) [] i (omega (arith, all-spoken-long (way-of (a .last)) (a .n) (probes a c))))
 
 module _ (a b : Auction) (A : IsAuction a) (B : IsAuction b) (alike : Alike a b) (pool : List ℕ) (P : Pool (a .n) pool)
     (c : Coins) (C : InRange a c) (N : Match a b pool c) where
@@ -349,7 +358,9 @@ module _ (a b : Auction) (A : IsAuction a) (B : IsAuction b) (alike : Alike a b)
   same-price = ap₂ price-index (alike .highest) (alike .lowest)
 
   same-rounds : rounds b ≡ rounds a
-  same-rounds = ap₂ (λ (ds : List Decision) (m : ℕ). probe-rounds * length ds + cond (eqb m 0) 0 2) same-probes same-price
+  same-rounds =
+      ap (λ (k : ℕ). k * length (probed b) + total-rounds b) (alike .way)
+      ∙ ap₂ (λ (ds : List Decision) (m : ℕ). a .last * length ds + cond (eqb m 0) 0 2) same-probes same-price
 
   same-answer : Cleared (price-answer b) (length (probed b)) ≡ Cleared (price-answer a) (length (probed a))
   same-answer = ap₂ Cleared same-price (ap length same-probes)
@@ -369,25 +380,26 @@ module _ (a b : Auction) (A : IsAuction a) (B : IsAuction b) (alike : Alike a b)
     sheets-b : (j : ℕ) → 1 ≤ j → j ≤ a .n → sheets-for b o j ≡ sheets-at b o j
     sheets-b j j1 jn = sheets-dealt B R j j1 (jb j jn)
 
-    unused-a : (j : ℕ) → 1 ≤ j → j ≤ a .n → unused a c j ≡ drop (sheet-size * L) (sheets-at a c j)
-    unused-a j j1 jn = ap₂ (λ (k : ℕ) (xs : List ℕ). drop (sheet-size * k) xs) (sym (probes-many a c A C)) (sheets-a j j1 jn)
+    unused-a : (j : ℕ) → 1 ≤ j → j ≤ a .n → unused a c j ≡ drop (sheet-size (way-of (a .last)) * L) (sheets-at a c j)
+    unused-a j j1 jn = ap₂ (λ (k : ℕ) (xs : List ℕ). drop (sheet-size (way-of (a .last)) * k) xs) (sym (probes-many a c A C)) (sheets-a j j1 jn)
 
-    unused-b : (j : ℕ) → 1 ≤ j → j ≤ a .n → unused b o j ≡ drop (sheet-size * L) (sheets-at b o j)
+    unused-b : (j : ℕ) → 1 ≤ j → j ≤ a .n → unused b o j ≡ drop (sheet-size (way-of (a .last)) * L) (sheets-at b o j)
     unused-b j j1 jn =
-        ap₂ (λ (k : ℕ) (xs : List ℕ). drop (sheet-size * k) xs) (ap length same-probes ∙ sym (probes-many a c A C)) (sheets-b j j1 jn)
+        ap (λ (z : ℕ). drop (sheet-size (way-of z) * length (probed b)) (sheets-for b o j)) (alike .way)
+        ∙ ap₂ (λ (k : ℕ) (xs : List ℕ). drop (sheet-size (way-of (a .last)) * k) xs) (ap length same-probes ∙ sym (probes-many a c A C)) (sheets-b j j1 jn)
 
     -- whoever says a word, present or not
     said-from : whole-spoken b o ≡ whole-spoken a c → (round j : ℕ) → 1 ≤ j → j ≤ a .n → SaidAlike round j l m
     said-from spoken round j j1 jn x y mx my ex ey =
         let X = sayings-are a c A C marks M l runL j j1 jn x mx in
         let Y = sayings-are b o B R marks (both-enough M) m runM j j1 (jb j jn) y my in
-        Y .1 .word
-        ∙ ap₂ (λ (wss : List (List ℕ)) (i : ℕ). getD (getD wss i []) (j - 1) 0) spoken (sym (Y .1 .in-round) ∙ ey ∙ sym ex ∙ X .1 .in-round)
-        ∙ sym (X .1 .word)
+        Y .1 .words
+        ∙ ap₂ (λ (wss : List (List (List ℕ))) (i : ℕ). getD (getD wss i []) (j - 1) []) spoken (sym (Y .1 .in-round) ∙ ey ∙ sym ex ∙ X .1 .in-round)
+        ∙ sym (X .1 .words)
 
     same-from : ((j : ℕ) → List·Memᴰ j pool → bid-words j (b .bids) (o .bids) ≡ bid-words j (a .bids) (c .bids))
         → ((j : ℕ) → List·Memᴰ j pool → sheets-at b o j ≡ sheets-at a c j)
-        → ((j : ℕ) → drop (sheet-size * L) (sheets-at b o j) ≡ drop (sheet-size * L) (sheets-at a c j))
+        → ((j : ℕ) → drop (sheet-size (way-of (a .last)) * L) (sheets-at b o j) ≡ drop (sheet-size (way-of (a .last)) * L) (sheets-at a c j))
         → whole-spoken b o ≡ whole-spoken a c → Same a b pool c o marks l m
     same-from bids sheets-same left spoken =
         record {
@@ -401,11 +413,11 @@ module _ (a b : Auction) (A : IsAuction a) (B : IsAuction b) (alike : Alike a b)
           words = λ round j j1 jn p. said-from spoken round j j1 jn;
           words-heard = λ j j1 jn.
               far-as (runL .attendance .hears j) (runM .attendance .hears j) _ (messages-are a c A C marks M l runL j j1 jn)
-              (messages-are b o B R marks (both-enough M) m runM j j1 (jb j jn) ∙ ap (λ (wss : List (List ℕ)). take (runM .attendance .hears j) (present-of marks 0 wss)) spoken);
+              (messages-are b o B R marks (both-enough M) m runM j j1 (jb j jn) ∙ ap (λ (wss : List (List (List ℕ))). take (runM .attendance .hears j) (present-of marks 0 wss)) spoken);
           verdicts-heard = λ j j1 jn.
-              far-as (runL .attendance .hears j / probe-rounds) (runM .attendance .hears j / probe-rounds) _ (verdicts-are a c A C marks M l runL j j1 jn)
+              far-as (runL .attendance .hears j / a .last) (runM .attendance .hears j / a .last) _ (verdicts-are a c A C marks M l runL j j1 jn)
               (verdicts-are b o B R marks (both-enough M) m runM j j1 (jb j jn)
-              ∙ ap (λ (ds : List Decision). take (runM .attendance .hears j / probe-rounds) (map (λ d. d .verdict) ds)) same-probes);
+              ∙ ap₂ (λ (z : ℕ) (ds : List Decision). take (runM .attendance .hears j / z) (map (λ d. d .verdict) ds)) (alike .way) same-probes);
           answered = λ j j1 jn.
               let asksL = asks a c A C marks M l runL j j1 jn in
               let asksM = asks b o B R marks (both-enough M) m runM j j1 (jb j jn) in
@@ -417,34 +429,41 @@ module _ (a b : Auction) (A : IsAuction a) (B : IsAuction b) (alike : Alike a b)
     -- and what two runs that are the same say of the coins
     module _ (S : Same a b pool c o marks l m) where
       -- whoever is present says the same
-      present-same : (i : ℕ) → i < rounds a → (j : ℕ) → 1 ≤ j → j ≤ a .n → is-present (marks i) j ≡ true → spoken-word b o i j ≡ spoken-word a c i j
+      present-same : (i : ℕ) → i < rounds a → (j : ℕ) → 1 ≤ j → j ≤ a .n → is-present (marks i) j ≡ true → spoken-words b o i j ≡ spoken-words a c i j
       present-same i h j j1 jn p =
           let X = says-are a c A C marks M l runL j j1 jn i h p in
           let Y = says-are b o B R marks (both-enough M) m runM j j1 (jb j jn) i (omega (arith, same-rounds)) p in
-          sym (Y .1 .word) ∙ S .words i j j1 jn p (X .0) (Y .0) (X .2) (Y .2) (X .1 .in-round) (Y .1 .in-round) ∙ X .1 .word
+          sym (Y .1 .words) ∙ S .words i j j1 jn p (X .0) (Y .0) (X .2) (Y .2) (X .1 .in-round) (Y .1 .in-round) ∙ X .1 .words
 
       -- there are as many probes
       same-many : length (probes b o) ≡ L
       same-many = probes-many b o B R ∙ ap length same-probes ∙ sym (probes-many a c A C)
 
       -- in the terms of the first, in the rounds of the probes
-      present-word : (i : ℕ) → i < probe-rounds * L → (j : ℕ) → 1 ≤ j → j ≤ a .n → is-present (marks i) j ≡ true
-          → getD (getD (all-spoken (a .n) (probes b o)) i []) (j - 1) 0 ≡ getD (getD (all-spoken (a .n) (probes a c)) i []) (j - 1) 0
+      in-rounds : (i : ℕ) → i < last-round (way-of (a .last)) * L → i < rounds a
+      in-rounds i h =
+          let e : last-round (way-of (a .last)) * L ≡ a .last * length (probed a) = ap₂ _*_ (rounds-of (a .last) (A .way)) (probes-many a c A C) in
+          omega arith
+
+      present-word : (i : ℕ) → i < last-round (way-of (a .last)) * L → (j : ℕ) → 1 ≤ j → j ≤ a .n → is-present (marks i) j ≡ true
+          → getD (getD (all-spoken (way-of (a .last)) (a .n) (probes b o)) i []) (j - 1) [] ≡ getD (getD (all-spoken (way-of (a .last)) (a .n) (probes a c)) i []) (j - 1) []
       present-word i h j j1 jn p =
-          ap (λ (n : ℕ). getD (getD (all-spoken n (probes b o)) i []) (j - 1) 0) (sym (alike .parties))
-          ∙ sym (probe-word b o i j (omega (arith, same-many)))
-          ∙ present-same i (omega (arith, probes-many a c A C)) j j1 jn p
+          ap₂ (λ (z n : ℕ). getD (getD (all-spoken (way-of z) n (probes b o)) i []) (j - 1) []) (sym (alike .way)) (sym (alike .parties))
+          ∙ sym (probe-word b o i j (subst (λ (m : ℕ). i < m) (sym (ap₂ (λ (z n : ℕ). last-round (way-of z) * n) (alike .way) same-many)) h))
+          ∙ present-same i (in-rounds i h) j j1 jn p
           ∙ probe-word a c i j h
 
-      shared-b : Each (λ d. ProbeShared (threshold (a .n)) (d .probe)) (probes b o)
-      shared-b = subst (λ (n : ℕ). Each (λ d. ProbeShared (threshold n) (d .probe)) (probes b o)) (alike .parties) (whole b o B R .shared)
+      shared-b : Each (λ d. ProbeShared (way-of (a .last)) (threshold (a .n)) (d .probe)) (probes b o)
+      shared-b =
+          subst (λ (z : ℕ). Each (λ d. ProbeShared (way-of z) (threshold (a .n)) (d .probe)) (probes b o)) (alike .way)
+          (subst (λ (n : ℕ). Each (λ d. ProbeShared (way-of (b .last)) (threshold n) (d .probe)) (probes b o)) (alike .parties) (whole b o B R .shared))
 
-      same-spoken : all-spoken (b .n) (probes b o) ≡ all-spoken (a .n) (probes a c)
+      same-spoken : all-spoken (way-of (b .last)) (b .n) (probes b o) ≡ all-spoken (way-of (a .last)) (a .n) (probes a c)
       same-spoken =
-          subst (λ (n : ℕ). all-spoken n (probes b o) ≡ all-spoken (a .n) (probes a c)) (sym (alike .parties))
-          (all-fixed (a .n) (A .n-least) (A .n-most) marks (probes a c) (probes b o) 0
+          ap₂ (λ (z n : ℕ). all-spoken (way-of z) n (probes b o)) (alike .way) (alike .parties)
+          ∙ (all-fixed (way-of (a .last)) (a .n) (A .n-least) (A .n-most) marks (probes a c) (probes b o) 0
           same-many (whole a c A C .shared) shared-b
-          (λ i h. rw (zero-add i) (M i (omega (arith, probes-many a c A C))))
+          (λ i h. rw (zero-add i) (M i (in-rounds i h)))
           (λ i h j j1 jn p. present-word i h j j1 jn (ap (λ (k : ℕ). is-present (marks k) j) (sym (zero-add i)) ∙ p)))
 
       same-coins : o ≡ match-coins a b pool c

@@ -12,8 +12,8 @@ repeats-refl (c ∷ cs) = Repeats.next (repeats-refl cs)
 
 -- a saying or an asking stands twice
 data Doubled : List Call → List Call → Type 0 where
-  said : {q : Party} {totals sheets : List ℕ} {l : List Call}
-      → Doubled (say-call q totals sheets ∷ l) (say-call q totals sheets ∷ say-call q totals sheets ∷ l)
+  said : {q : Party} {totals sheets said : List ℕ} {l : List Call}
+      → Doubled (say-call q totals sheets said ∷ l) (say-call q totals sheets said ∷ say-call q totals sheets said ∷ l)
   asked : {q : Party} {l : List Call} → Doubled (answer-call q ∷ l) (answer-call q ∷ answer-call q ∷ l)
   after : {x : Call} {l m : List Call} → Doubled l m → Doubled (x ∷ l) (x ∷ m)
 
@@ -26,18 +26,18 @@ repeats-doubled (Repeats.say-again h) (after d) = Repeats.say-again (repeats-dou
 repeats-doubled (Repeats.ask-again h) asked = Repeats.ask-again (Repeats.ask-again h)
 repeats-doubled (Repeats.ask-again h) (after d) = Repeats.ask-again (repeats-doubled h d)
 
-said-at : (q : Party) (totals sheets : List ℕ) (ds es : List Call)
-    → Doubled (ds ++ (say-call q totals sheets ∷ es)) (ds ++ (say-call q totals sheets ∷ say-call q totals sheets ∷ es))
-said-at q totals sheets [] es = said
-said-at q totals sheets (d ∷ ds) es = after (said-at q totals sheets ds es)
+said-at : (q : Party) (totals sheets said : List ℕ) (ds es : List Call)
+    → Doubled (ds ++ (say-call q totals sheets said ∷ es)) (ds ++ (say-call q totals sheets said ∷ say-call q totals sheets said ∷ es))
+said-at q totals sheets d [] es = said
+said-at q totals sheets d (x ∷ ds) es = after (said-at q totals sheets d ds es)
 
 asked-at : (q : Party) (ds es : List Call) → Doubled (ds ++ (answer-call q ∷ es)) (ds ++ (answer-call q ∷ answer-call q ∷ es))
 asked-at q [] es = asked
 asked-at q (d ∷ ds) es = after (asked-at q ds es)
 
-pub repeats-say : (cs : List Call) (q : Party) (totals sheets : List ℕ) (ds es : List Call)
-    → Repeats cs (ds ++ (say-call q totals sheets ∷ es)) → Repeats cs (ds ++ (say-call q totals sheets ∷ say-call q totals sheets ∷ es))
-repeats-say cs q totals sheets ds es h = repeats-doubled h (said-at q totals sheets ds es)
+pub repeats-say : (cs : List Call) (q : Party) (totals sheets said : List ℕ) (ds es : List Call)
+    → Repeats cs (ds ++ (say-call q totals sheets said ∷ es)) → Repeats cs (ds ++ (say-call q totals sheets said ∷ say-call q totals sheets said ∷ es))
+repeats-say cs q totals sheets d ds es h = repeats-doubled h (said-at q totals sheets d ds es)
 
 pub repeats-ask : (cs : List Call) (q : Party) (ds es : List Call)
     → Repeats cs (ds ++ (answer-call q ∷ es)) → Repeats cs (ds ++ (answer-call q ∷ answer-call q ∷ es))

@@ -7,12 +7,12 @@ use Prim.Native.Nat.{ℕ, zero, suc, _+_, _-_, _/_, _≤_, _<_, min}
 use native.Mathlib.Nat.{zero-add}
 use native.Mathlib.Omega.{arith}
 use lib.ListN.{length, take, getD, length-take}
-use Rattle.ranges.specs.Sizes.{probe-rounds}
+use Rattle.ways.specs.Way.{way-of, last-round}
 use Rattle.refusal.specs.Judging.{judged}
 use Rattle.refusal.specs.declared.Judgement.the-variants.{Accepted}
 use Rattle.ranges.proofs.Loops.{map-from, map-take}
 use Rattle.sharing.specs.Scheme.{points}
-use Rattle.presence.specs.Presence.{of-present, is-present}
+use Rattle.presence.specs.Presence.{marked, choose, is-present}
 use Rattle.search.specs.declared.searches.Search.{Search}
 use Rattle.search.specs.Searches.{first-search, price}
 use Rattle.comparison.specs.Probe.{Each}
@@ -26,23 +26,24 @@ use Rattle.auction.specs.Attendance.{Marks, EnoughPresent, Attendance}
 use Rattle.auction.specs.Call.{Call, accepted, is-accepted, judgement, whose, of-party, given}
 use Rattle.auction.specs.Canonical.{enough-rounds, ask, where-so, asks-then, ask-in, from-rounds}
 use Rattle.auction.specs.Run.{own}
-use Rattle.auction.specs.Received.{collect, bid-in, Saying, saying-in, round-of, Hearing, hearing-in, asking-in, decision-in}
+use Rattle.auction.specs.Received.{collect, bid-in, Saying, saying-in, round-of, Hearing, hearing-in, asking-in, decision-in, words-heard}
 use Rattle.auction.specs.Demands.{all-accepted}
 use Rattle.auction.proofs.Closed.{Stage, fresh-stage, record-at, seat, probes, decision}
 use Rattle.auction.proofs.Calls.{read-append, all-accepted-append, Own, all-accepted-made, own-made, collect-made}
 use Rattle.auction.proofs.Setup.{round-calls}
-use Rattle.auction.proofs.Step.{sound-at}
-use Rattle.auction.proofs.Present.{present-words}
-use Rattle.auction.proofs.Chain.{no-more, Turn, Chain, At, from-ending, all-done, seats, calls, saying-of, hearings-from, Enoughs, chain-rounds, chain-accepted, chain-hearings, chain-none, chain-decisions, chain-sayings, chain-says}
+use Rattle.round.specs.declared.Heard.{Heard}
+use Rattle.auction.specs.Attendance.{Enough}
+use Rattle.auction.proofs.Step.{sound-at, Step}
+use Rattle.auction.proofs.Chain.{no-more, Turn, Chain, done, round-on, hearable, hearing-of, At, from-ending, all-done, seats, calls, saying-of, hearings-from, Enoughs, chain-rounds, chain-accepted, chain-hearings, chain-none, chain-decisions, chain-sayings, chain-says}
 use Rattle.auction.proofs.Search.{Counted, probes-counted, price-found}
 use Rattle.auction.proofs.Whole.{all-words, all-turns, end, end-search, whole-spoken, all-chain, end-sane, end-over, counted, rounds-are, rounds-few, all-decide, said-are}
 
 -- ---- words, round by round
 
 -- of the words of each round those of who is present
-unfoldable pub present-of : Marks → (round : ℕ) → List (List ℕ) → List (List ℕ)
+unfoldable pub present-of : Marks → (round : ℕ) → List (List (List ℕ)) → List (List (List ℕ))
 present-of marks round [] = []
-present-of marks round (ws ∷ wss) = of-present (marks round) ws ∷ present-of marks (suc round) wss
+present-of marks round (ws ∷ wss) = choose (marked (marks round)) ws ∷ present-of marks (suc round) wss
 
 -- ---- asking for the answer
 
@@ -58,18 +59,18 @@ ask-cleared q e = rw e
 
 module _ (a : Auction) (c : Coins) (j : ℕ) where
   -- what stands at i among the sayings is of the round i, and its word is the party's there
-  said-round : (rs : List Turn) (k i : ℕ) (x : Saying) → Counted k rs → At (map (saying-of a c j) rs) i x → x .round ≡ k + i
+  said-round : (rs : List Turn) (k i : ℕ) (x : Saying) → Counted (a .last) k rs → At (map (saying-of a c j) rs) i x → x .round ≡ k + i
   unfolding record-at round-of
   said-round [] k i x C h = absurd h
   said-round (r ∷ rs) k zero x C h = ap (λ (s : Saying). s .round) h ∙ C .0 ∙ omega arith
   said-round (r ∷ rs) k (suc i) x C h = said-round rs (suc k) i x (C .1) h ∙ omega arith
 
   said-word : (rs : List Turn) (i : ℕ) (x : Saying) → 1 ≤ j → j ≤ a .n → At (map (saying-of a c j) rs) i x
-      → x .word ≡ getD (getD (map (all-words a) rs) i []) (j - 1) 0
+      → x .words ≡ getD (getD (map (all-words a) rs) i []) (j - 1) []
   said-word [] i x j1 jn h = absurd h
   said-word (r ∷ rs) zero x j1 jn h =
       let at : 1 + (j - 1) ≡ j = omega arith in
-      ap (λ (s : Saying). s .word) h ∙ sym (map-from (r .words) 0 1 (a .n) (j - 1) (omega arith) ∙ ap (r .words) at)
+      ap (λ (s : Saying). s .words) h ∙ sym (map-from (r .words) [] 1 (a .n) (j - 1) (omega arith) ∙ ap (r .words) at)
   said-word (r ∷ rs) (suc i) x j1 jn h = said-word rs i x j1 jn h
 
   some-saying : (rs : List Turn) (i : ℕ) → i < length rs → (x : Saying) × At (map (saying-of a c j) rs) i x
@@ -83,13 +84,13 @@ module _ (a : Auction) (c : Coins) (j : ℕ) where
   said-below (r ∷ rs) (suc i) x h = omega (arith, said-below rs i x h)
 
 -- party j's word in the round i, and a saying of it
-abbrev pub spoken-word : Auction → Coins → (i j : ℕ) → ℕ
-spoken-word a c i j = getD (getD (whole-spoken a c) i []) (j - 1) 0
+abbrev pub spoken-words : Auction → Coins → (i j : ℕ) → List ℕ
+spoken-words a c i j = getD (getD (whole-spoken a c) i []) (j - 1) []
 
 pub record Says (a : Auction) (c : Coins) (i j : ℕ) (x : Saying) : Type 0 where
   pub in-round : x .round ≡ i
   pub below : i < rounds a
-  pub word : x .word ≡ spoken-word a c i j
+  pub words : x .words ≡ spoken-words a c i j
 
 module _ (a : Auction) (c : Coins) (A : IsAuction a) (C : InRange a c) where
   abbrev rs : List Turn
@@ -132,7 +133,7 @@ module _ (a : Auction) (c : Coins) (A : IsAuction a) (C : InRange a c) where
         record {
           in-round = said-round a c j rs 0 i x (counted a c A C) h ∙ zero-add i;
           below = omega (arith, said-below a c j rs i x h, rounds-are a c A C);
-          word = said-word a c j rs i x j1 jn h ∙ ap (λ (wss : List (List ℕ)). getD (getD wss i []) (j - 1) 0) (said-are a c A C);
+          words = said-word a c j rs i x j1 jn h ∙ ap (λ (wss : List (List (List ℕ))). getD (getD wss i []) (j - 1) []) (said-are a c A C);
         }
 
   module _ (marks : Marks) (M : EnoughPresent a marks) (att : Attendance) where
@@ -214,35 +215,40 @@ module _ (a : Auction) (c : Coins) (A : IsAuction a) (C : InRange a c) where
           ap length rounds-hearings ∙ length-take (att .hears j) (hearings-from a c marks att j 0 rs)
           ∙ ap (min (att .hears j)) (hearings-long 0 rs ∙ rounds-are a c A C)
 
-      hears-present : (round : ℕ) (rs : List Turn) → Enoughs a c marks att many round (length rs)
-          → map (λ h. of-present (h .present) (h .messages)) (hearings-from a c marks att j round rs) ≡ present-of marks round (map (all-words a) rs)
-      unfolding hearings-from present-of
-      hears-present round [] E = refl
-      hears-present round (r ∷ rs) E =
-          ap₂ (λ (ws : List ℕ) (wss : List (List ℕ)). ws ∷ wss)
-          (present-words (a .n) (r .words) (λ i. att .elsewhere j round i) (marks round) (E round (omega arith) (omega arith)) .said)
-          (hears-present (suc round) rs (λ i l k. E i (omega arith) (omega arith)))
+      heard-as-said : (σ : Stage) (w : ℕ → List ℕ) (o : Heard) {τ : Stage} → Step a c σ τ w o → (round : ℕ) → Enough (a .n) (marks round)
+          → words-heard (hearing-of a c marks att j round (record { stage = σ; words = w; opening = o })) ≡ choose (marked (marks round)) (map w (points (a .n)))
+      unfolding words-heard record-at
+      heard-as-said σ w o s round E = hearable a c marks att many round E s j .said
 
-      pub rounds-messages : map (λ h. of-present (h .present) (h .messages)) (collect hearing-in (own j (round-calls a c marks att)))
+      hears-present : {σ τ : Stage} {rs : List Turn} → Chain a c σ rs τ → (round : ℕ) → Enoughs a c marks att many round (length rs)
+          → map words-heard (hearings-from a c marks att j round rs) ≡ present-of marks round (map (all-words a) rs)
+      unfolding hearings-from present-of
+      hears-present done round E = refl
+      hears-present (round-on {σ} {w} {o} {rs} s r) round E =
+          ap₂ (λ (ws : List (List ℕ)) (wss : List (List (List ℕ))). ws ∷ wss)
+          (heard-as-said σ w o s round (E round (omega arith) (omega arith)))
+          (hears-present r (suc round) (λ i l k. E i (omega arith) (omega arith)))
+
+      pub rounds-messages : map words-heard (collect hearing-in (own j (round-calls a c marks att)))
           ≡ take (att .hears j) (present-of marks 0 (whole-spoken a c))
       rounds-messages =
-          ap (map (λ h. of-present (h .present) (h .messages))) rounds-hearings
-          ∙ map-take (λ h. of-present (h .present) (h .messages)) (att .hears j) (hearings-from a c marks att j 0 rs)
-          ∙ ap (take (att .hears j)) (hears-present 0 rs enoughs ∙ ap (present-of marks 0) (said-are a c A C))
+          ap (map words-heard) rounds-hearings
+          ∙ map-take words-heard (att .hears j) (hearings-from a c marks att j 0 rs)
+          ∙ ap (take (att .hears j)) (hears-present L 0 enoughs ∙ ap (present-of marks 0) (said-are a c A C))
 
       pub rounds-decisions : collect decision-in (collect hearing-in (own j (round-calls a c marks att)))
-          ≡ take (att .hears j / probe-rounds) (map decision (probes a c))
+          ≡ take (att .hears j / last-round (way-of (a .last))) (map (decision (way-of (a .last))) (probes a c))
       rounds-decisions =
           ap (collect decision-in) rounds-hearings ∙ chain-decisions a c marks att many j j1 jn L 0 (att .hears j) enoughs
           ∙ all-decide a c A C (att .hears j)
 
       pub rounds-bids : collect bid-in (own j (round-calls a c marks att)) ≡ []
       unfolding collect bid-in ask
-      rounds-bids = reads bid-in [] (chain-none a c marks att many j j1 jn bid-in (λ q t s. refl) (λ q t s m p. refl) L 0 enoughs) ∙ no-more (is-over j) []
+      rounds-bids = reads bid-in [] (chain-none a c marks att many j j1 jn bid-in (λ q t s d. refl) (λ q t s m p. refl) L 0 enoughs) ∙ no-more (is-over j) []
 
       pub rounds-askings : collect asking-in (own j (round-calls a c marks att)) ≡ cond (is-over j) (record-at a c τ j ∷ []) []
       unfolding collect asking-in ask seat
-      rounds-askings = reads asking-in [] (chain-none a c marks att many j j1 jn asking-in (λ q t s. refl) (λ q t s m p. refl) L 0 enoughs)
+      rounds-askings = reads asking-in [] (chain-none a c marks att many j j1 jn asking-in (λ q t s d. refl) (λ q t s m p. refl) L 0 enoughs)
 
       -- ---- what it says
 

@@ -7,7 +7,8 @@ use native.Mathlib.Decide.{decLe}
 use native.Mathlib.Omega.{arith}
 use lib.ListN.{length, getD, length-map, length-append}
 use lib.Seq.{ext-getD}
-use Rattle.ranges.specs.Sizes.{probe-rounds}
+use Rattle.ways.specs.Way.{Way, last-round}
+use Rattle.auction.proofs.Kept.{last-round-is, all-long}
 use Rattle.fields.specs.Byte.{product, bytes}
 use Rattle.fields.proofs.Fields.{amount-field, byte-field}
 use Rattle.sharing.specs.Polynomial.{value}
@@ -15,10 +16,9 @@ use Rattle.ranges.specs.Lists.{from}
 use Rattle.sharing.specs.Scheme.{points}
 use Rattle.ranges.proofs.Loops.{length-from}
 use Rattle.fields.specs.Bits.{bit}
-use Rattle.comparison.specs.Rounds.{both}
-use Rattle.comparison.specs.Probe.{TripleCoins, SheetCoins, Group, Each, TripleInRange, SheetInRange, Probe, bit-polynomials, triple-polynomials, sheet-polynomials, triple-words, sheet-shares, probe-messages, product-rounds, last-polynomial}
+use Rattle.comparison.specs.Probe.{TripleCoins, SheetCoins, Group, Each, TripleInRange, SheetInRange, Probe, bit-polynomials, triple-polynomials, sheet-polynomials, triple-words, sheet-shares, probe-messages, product-levels, side-word, last-polynomial}
 use Rattle.comparison.proofs.Values.{bit-byte}
-use Rattle.comparison.proofs.Dealt.{ProbeShared, TripleShared, shared-cons, triple-polynomials-shared, bit-polynomials-length, product-rounds-long}
+use Rattle.comparison.proofs.Dealt.{TripleShared, shared-cons, triple-polynomials-shared, bit-polynomials-length}
 use Rattle.comparison.proofs.Agreement.{In, same-map, heard}
 use Rattle.comparison.proofs.Hiding.{append-parts}
 use Rattle.auction.proofs.Closed.{Made, spoken, all-spoken}
@@ -89,7 +89,7 @@ module _ (n t : ℕ) (more : t < n) (most : n ≤ 9) where
       (λ j h1 hn. head-eq-of-cons-eq (tail-eq-of-cons-eq (tail-eq-of-cons-eq (w j h1 hn)))))
       (triples-fixed cs cs′ (h .1) (h′ .1) (suc-inj l) (λ j h1 hn. tail-eq-of-cons-eq (tail-eq-of-cons-eq (tail-eq-of-cons-eq (w j h1 hn)))))
 
-  module _ (c c′ : SheetCoins) (h : SheetInRange t c) (h′ : SheetInRange t c′)
+  module _ (v : Way) (c c′ : SheetCoins) (h : SheetInRange v t c) (h′ : SheetInRange v t c′)
       (w : (j : ℕ) → 1 ≤ j → j ≤ n → sheet-shares j (sheet-polynomials c′) ≡ sheet-shares j (sheet-polynomials c)) where
     mask-fixed : c′ .mask ∷ c′ .of-mask ≡ c .mask ∷ c .of-mask
     unfolding sheet-shares sheet-polynomials
@@ -125,39 +125,40 @@ module _ (n t : ℕ) (more : t < n) (most : n ≤ 9) where
           triples = triples k;
         }
 
--- ---- 33 messages
+-- ---- as many messages as rounds
 
-probe-messages-long : (t : ℕ) (q : Probe) → ProbeShared t q → (j : ℕ) → length (probe-messages q j) ≡ probe-rounds
+probe-messages-long : (v : Way) (q : Probe) (j : ℕ) → length (probe-messages v q j) ≡ last-round v
 unfolding probe-messages
-probe-messages-long t q h j =
-    let words : List ℕ = map (λ r. both (value bytes (r .left) j) (value bytes (r .right) j)) (product-rounds q) in
+probe-messages-long v q j =
+    let words : List (List ℕ) = map (map (side-word j)) (product-levels v q) in
     omega (
       arith,
-      length-append words (value bytes (last-polynomial q) j ∷ []),
-      length-map (product-rounds q) (λ r. both (value bytes (r .left) j) (value bytes (r .right) j)),
-      product-rounds-long t q h,
+      length-append words ((value bytes (last-polynomial v q) j ∷ []) ∷ []),
+      length-map (product-levels v q) (map (side-word j)),
+      all-long v q,
+      last-round-is v,
     )
 
-pub spoken-long : (n : ℕ) (q : Probe) → length (spoken n q) ≡ probe-rounds
+pub spoken-long : (v : Way) (n : ℕ) (q : Probe) → length (spoken v n q) ≡ last-round v
 unfolding spoken
-spoken-long n q = length-map (from 0 probe-rounds) (λ i. map (λ j. getD (probe-messages q j) i 0) (points n)) ∙ length-from 0 probe-rounds
+spoken-long v n q = length-map (from 0 (last-round v)) (λ i. map (λ j. getD (probe-messages v q j) i []) (points n)) ∙ length-from 0 (last-round v)
 
-pub all-spoken-long : (n : ℕ) (ds : List Made) → length (all-spoken n ds) ≡ probe-rounds * length ds
+pub all-spoken-long : (v : Way) (n : ℕ) (ds : List Made) → length (all-spoken v n ds) ≡ last-round v * length ds
 unfolding flatten
-all-spoken-long n [] = refl
-all-spoken-long n (d ∷ ds) = length-append (spoken n (d .probe)) (all-spoken n ds) ∙ omega (arith, spoken-long n (d .probe), all-spoken-long n ds)
+all-spoken-long v n [] = omega arith
+all-spoken-long v n (d ∷ ds) = length-append (spoken v n (d .probe)) (all-spoken v n ds) ∙ omega (arith, spoken-long v n (d .probe), all-spoken-long v n ds)
 
-pub spoken-same : (n : ℕ) (q q′ : Probe) → ((j : ℕ) → probe-messages q′ j ≡ probe-messages q j) → spoken n q′ ≡ spoken n q
+pub spoken-same : (v : Way) (n : ℕ) (q q′ : Probe) → ((j : ℕ) → probe-messages v q′ j ≡ probe-messages v q j) → spoken v n q′ ≡ spoken v n q
 unfolding spoken
-spoken-same n q q′ h = ap (λ (f : ℕ → List ℕ). map (λ i. map (λ j. getD (f j) i 0) (points n)) (from 0 probe-rounds)) (fun-ext h)
+spoken-same v n q q′ h = ap (λ (f : ℕ → List (List ℕ)). map (λ i. map (λ j. getD (f j) i []) (points n)) (from 0 (last-round v))) (fun-ext h)
 
-pub spoken-heard : (n t : ℕ) (q q′ : Probe) → ProbeShared t q → ProbeShared t q′ → spoken n q′ ≡ spoken n q
-    → (j : ℕ) → 1 ≤ j → j ≤ n → probe-messages q′ j ≡ probe-messages q j
+pub spoken-heard : (v : Way) (n : ℕ) (q q′ : Probe) → spoken v n q′ ≡ spoken v n q
+    → (j : ℕ) → 1 ≤ j → j ≤ n → probe-messages v q′ j ≡ probe-messages v q j
 unfolding spoken
-spoken-heard n t q q′ h h′ e j h1 hn =
-    ext-getD 0 (probe-messages q′ j) (probe-messages q j) (probe-messages-long t q′ h′ j ∙ sym (probe-messages-long t q h j))
+spoken-heard v n q q′ e j h1 hn =
+    ext-getD [] (probe-messages v q′ j) (probe-messages v q j) (probe-messages-long v q′ j ∙ sym (probe-messages-long v q j))
     (λ i l.
-    same-map (λ m. getD (probe-messages q′ m) i 0) (λ m. getD (probe-messages q m) i 0) (points n)
-    (same-map (λ m. map (λ x. getD (probe-messages q′ x) m 0) (points n)) (λ m. map (λ x. getD (probe-messages q x) m 0) (points n)) (from 0 probe-rounds) e i
-    (from-in 0 probe-rounds i (omega arith) (omega (arith, probe-messages-long t q′ h′ j))))
+    same-map (λ m. getD (probe-messages v q′ m) i []) (λ m. getD (probe-messages v q m) i []) (points n)
+    (same-map (λ m. map (λ x. getD (probe-messages v q′ x) m []) (points n)) (λ m. map (λ x. getD (probe-messages v q x) m []) (points n)) (from 0 (last-round v)) e i
+    (from-in 0 (last-round v) i (omega arith) (omega (arith, probe-messages-long v q′ j))))
     j (from-in 1 n j h1 (omega arith)))

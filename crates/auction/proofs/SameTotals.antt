@@ -45,14 +45,14 @@ same-total n pool f f′ most P h h′ seen total =
     at x (inr m) = same-map (value amounts f′) (value amounts f) pool seen x m
 
 -- of two auctions of n parties and k prices the totals that are opened
-module _ (n k : ℕ) (bids bids′ : List Bid) (A : IsAuction (auction n k bids)) (B : IsAuction (auction n k bids′)) (pool : List ℕ) (P : Pool n pool)
-    (c c′ : Coins) (C : InRange (auction n k bids) c) (C′ : InRange (auction n k bids′) c′)
-    (seen : (e : ℕ) → shares amounts (getD (polynomials (auction n k bids′) c′) e []) pool ≡ shares amounts (getD (polynomials (auction n k bids) c) e []) pool) where
+module _ (n k last : ℕ) (bids bids′ : List Bid) (A : IsAuction (auction n k last bids)) (B : IsAuction (auction n k last bids′)) (pool : List ℕ) (P : Pool n pool)
+    (c c′ : Coins) (C : InRange (auction n k last bids) c) (C′ : InRange (auction n k last bids′) c′)
+    (seen : (e : ℕ) → shares amounts (getD (polynomials (auction n k last bids′) c′) e []) pool ≡ shares amounts (getD (polynomials (auction n k last bids) c) e []) pool) where
   abbrev a : Auction
-  a = auction n k bids
+  a = auction n k last bids
 
   abbrev b : Auction
-  b = auction n k bids′
+  b = auction n k last bids′
 
   abbrev m : ℕ
   m = price-answer a
@@ -77,16 +77,16 @@ module _ (n k : ℕ) (bids bids′ : List Bid) (A : IsAuction (auction n k bids)
   totals-alike e d s =
       ap
       (λ (i : ℕ).
-      cond (eqb i 0) [] (map (λ j. value amounts (demand-at b (polynomials b c′) i) j) (points n) ∷ map (λ j. value amounts (supply-at b (polynomials b c′) i) j) (points n) ∷ []))
+      cond (eqb i 0) [] (map (λ j. value amounts (demand-at b (polynomials b c′) i) j ∷ []) (points n) ∷ map (λ j. value amounts (supply-at b (polynomials b c′) i) j ∷ []) (points n) ∷ []))
       e
       ∙ split (eqb m 0) refl
     where
-      split : (z : Bool) → eqb m 0 ≡ z → _≡_ {A = List (List ℕ)}
-          (cond z [] (map (λ j. value amounts (demand-at b (polynomials b c′) m) j) (points n) ∷ map (λ j. value amounts (supply-at b (polynomials b c′) m) j) (points n) ∷ []))
-          (cond z [] (map (λ j. value amounts (demand-at a (polynomials a c) m) j) (points n) ∷ map (λ j. value amounts (supply-at a (polynomials a c) m) j) (points n) ∷ []))
+      split : (z : Bool) → eqb m 0 ≡ z → _≡_ {A = List (List (List ℕ))}
+          (cond z [] (map (λ j. value amounts (demand-at b (polynomials b c′) m) j ∷ []) (points n) ∷ map (λ j. value amounts (supply-at b (polynomials b c′) m) j ∷ []) (points n) ∷ []))
+          (cond z [] (map (λ j. value amounts (demand-at a (polynomials a c) m) j ∷ []) (points n) ∷ map (λ j. value amounts (supply-at a (polynomials a c) m) j ∷ []) (points n) ∷ []))
       split true z = refl
       split false z =
           let other = eqb-false m 0 z in
           let some : 0 < m = omega (arith, other) in
-          ap₂ (λ (f g : List ℕ). map (λ j. value amounts f j) (points n) ∷ map (λ j. value amounts g j) (points n) ∷ [])
+          ap₂ (λ (f g : List ℕ). map (λ j. value amounts f j ∷ []) (points n) ∷ map (λ j. value amounts g j ∷ []) (points n) ∷ [])
           (same-demand some (d some)) (same-supply some (s some))

@@ -10,7 +10,8 @@ use native.Mathlib.Omega.{arith}
 use lib.ListN.{length, take, drop, length-append, length-map}
 use borrow.Author.Tests.{le-leb}
 use lib.Seq.{take-nil, take-append-le, take-append-add}
-use Rattle.ranges.specs.Sizes.{probe-rounds}
+use Rattle.ways.specs.Way.{Way, way-of, last-round}
+use Rattle.auction.proofs.Kept.{last-round-range, div-none, div-more}
 use Rattle.ranges.specs.Lists.{from}
 use Rattle.ranges.proofs.Loops.{length-from}
 use Rattle.search.specs.declared.searches.Search.{Search}
@@ -37,45 +38,45 @@ use Rattle.auction.proofs.Placed.{decided-going}
 use Rattle.auction.proofs.Probed.{turn-of, probe-chain, probe-decides, part-decides}
 
 -- the rounds of a probe, and of probes
-abbrev pub turns-in : Made → List Turn
-turns-in d = map (turn-of (d .here) (d .probe)) (from 0 probe-rounds)
+abbrev pub turns-in : Way → Made → List Turn
+turns-in v d = map (turn-of v (d .here) (d .probe)) (from 0 (last-round v))
 
-turns-in-length : (d : Made) → length (turns-in d) ≡ probe-rounds
-turns-in-length d = length-map (from 0 probe-rounds) (turn-of (d .here) (d .probe)) ∙ length-from 0 probe-rounds
+turns-in-length : (v : Way) (d : Made) → length (turns-in v d) ≡ last-round v
+turns-in-length v d = length-map (from 0 (last-round v)) (turn-of v (d .here) (d .probe)) ∙ length-from 0 (last-round v)
 
-unfoldable pub turns-of : List Made → List Turn
-turns-of [] = []
-turns-of (d ∷ ds) = turns-in d ++ turns-of ds
+unfoldable pub turns-of : Way → List Made → List Turn
+turns-of v [] = []
+turns-of v (d ∷ ds) = turns-in v d ++ turns-of v ds
 
-pub turns-length : (ds : List Made) → length (turns-of ds) ≡ probe-rounds * length ds
+pub turns-length : (v : Way) (ds : List Made) → length (turns-of v ds) ≡ last-round v * length ds
 unfolding turns-of
-turns-length [] = refl
-turns-length (d ∷ ds) = length-append (turns-in d) (turns-of ds) ∙ omega (arith, turns-in-length d, turns-length ds)
+turns-length v [] = omega arith
+turns-length v (d ∷ ds) = length-append (turns-in v d) (turns-of v ds) ∙ omega (arith, turns-in-length v d, turns-length v ds)
 
 -- in the first m rounds as many verdicts are heard as probes end
-pub turns-decide : (ds : List Made) (m : ℕ) → collect decision-of (take m (turns-of ds)) ≡ take (m / probe-rounds) (map decision ds)
+pub turns-decide : (v : Way) (ds : List Made) (m : ℕ) → collect decision-of (take m (turns-of v ds)) ≡ take (m / last-round v) (map (decision v) ds)
 unfolding turns-of collect
-turns-decide [] m = ap (collect decision-of) (take-nil m) ∙ sym (take-nil (m / probe-rounds))
-turns-decide (d ∷ ds) m =
-    elim (decLt m probe-rounds) [
+turns-decide v [] m = ap (collect decision-of) (take-nil m) ∙ sym (take-nil (m / last-round v))
+turns-decide v (d ∷ ds) m =
+    elim (decLt m (last-round v)) [
       | yes lt ↦
-          let none : m / probe-rounds ≡ 0 = omega arith in
-          ap (collect decision-of) (take-append-le m (turns-in d) (turns-of ds) (omega (arith, turns-in-length d)))
-          ∙ part-decides (d .here) (d .probe) m lt ∙ ap (λ (k : ℕ). take k (map decision (d ∷ ds))) (sym none)
+          let none : m / last-round v ≡ 0 = div-none v m lt in
+          ap (collect decision-of) (take-append-le m (turns-in v d) (turns-of v ds) (omega (arith, turns-in-length v d)))
+          ∙ part-decides v (d .here) (d .probe) m lt ∙ ap (λ (k : ℕ). take k (map (decision v) (d ∷ ds))) (sym none)
       | no ge ↦
-          let later : ℕ = m - probe-rounds in
-          let at : m ≡ length (turns-in d) + later = omega (arith, turns-in-length d) in
-          let count : suc (later / probe-rounds) ≡ m / probe-rounds = omega arith in
-          ap (λ (k : ℕ). collect decision-of (take k (turns-in d ++ turns-of ds))) at
-          ∙ ap (collect decision-of) (take-append-add (turns-in d) (turns-of ds) later)
-          ∙ collect-append decision-of (turns-in d) (take later (turns-of ds))
-          ∙ ap₂ _++_ (probe-decides (d .here) (d .probe)) (turns-decide ds later)
-          ∙ ap (λ (k : ℕ). take k (map decision (d ∷ ds))) count
+          let later : ℕ = m - last-round v in
+          let at : m ≡ length (turns-in v d) + later = omega (arith, turns-in-length v d) in
+          let count : suc (later / last-round v) ≡ m / last-round v = div-more v m (omega arith) in
+          ap (λ (k : ℕ). collect decision-of (take k (turns-in v d ++ turns-of v ds))) at
+          ∙ ap (collect decision-of) (take-append-add (turns-in v d) (turns-of v ds) later)
+          ∙ collect-append decision-of (turns-in v d) (take later (turns-of v ds))
+          ∙ ap₂ _++_ (probe-decides v (d .here) (d .probe)) (turns-decide v ds later)
+          ∙ ap (λ (k : ℕ). take k (map (decision v) (d ∷ ds))) count
     ]
 
 -- where probes lead
-abbrev pub after-probes : Search → List Made → Search
-after-probes here ds = follow here (map decided ds)
+abbrev pub after-probes : Way → Search → List Made → Search
+after-probes v here ds = follow here (map (decided v) ds)
 
 -- a part of a list
 drop-next : {A : Type 0} (m : ℕ) (xs : List A) (s : A) (ss : List A) → drop m xs ≡ s ∷ ss → drop (suc m) xs ≡ ss
@@ -92,74 +93,81 @@ module _ (a : Auction) (fs : List (List ℕ)) where
 
   pub made-going : (here : Search) (s : SheetCoins) (ss : List SheetCoins) → finished here ≡ false
       → made a fs here (s ∷ ss)
-      ≡ record { here = here; probe = probe-of a fs here s } ∷ made a fs (next here (secret (last-polynomial (probe-of a fs here s)))) ss
+      ≡ record { here = here; probe = probe-of a fs here s } ∷ made a fs (next here (secret (last-polynomial (way-of (a .last)) (probe-of a fs here s)))) ss
   unfolding made
   made-going here s ss e = rw (e, made)
 
 -- ---- the rounds are counted from 0 on
 
 -- the round that a turn is, and that these turns are the rounds from k on
-abbrev pub round-is : Turn → ℕ
-round-is r = round-after (r .stage .search .probes) (r .stage .round)
+abbrev pub round-is : ℕ → Turn → ℕ
+round-is last r = round-after last (r .stage .search .probes) (r .stage .round)
 
-abbrev pub Counted : ℕ → List Turn → Type 0
-Counted k [] = Unit {0}
-Counted k (r ∷ rs) = (round-is r ≡ k) × Counted (suc k) rs
+abbrev pub Counted : (last : ℕ) → ℕ → List Turn → Type 0
+Counted last k [] = Unit {0}
+Counted last k (r ∷ rs) = (round-is last r ≡ k) × Counted last (suc k) rs
 
-pub counted-append : (k l : ℕ) (rs rs′ : List Turn) → k + length rs ≡ l → Counted k rs → Counted l rs′ → Counted k (rs ++ rs′)
-counted-append k l [] rs′ e h g = subst (λ (x : ℕ). Counted x rs′) (sym e ∙ add-zero k) g
-counted-append k l (r ∷ rs) rs′ e h g = (h .0, counted-append (suc k) l rs rs′ (omega arith) (h .1) g)
+pub counted-append : (last k l : ℕ) (rs rs′ : List Turn) → k + length rs ≡ l → Counted last k rs → Counted last l rs′ → Counted last k (rs ++ rs′)
+counted-append last k l [] rs′ e h g = subst (λ (x : ℕ). Counted last x rs′) (sym e ∙ add-zero k) g
+counted-append last k l (r ∷ rs) rs′ e h g = (h .0, counted-append last (suc k) l rs rs′ (omega arith) (h .1) g)
 
 -- a round of a probe, among those counted
-in-probe : (m round : ℕ) → round ≤ probe-rounds → round-after m round ≡ probe-rounds * m + (round - 1)
-in-probe m round h = rw (le-leb round probe-rounds h)
+in-probe : (last m round : ℕ) → round ≤ 33 → round-after last m round ≡ last * m + (round - 1)
+in-probe last m round h = rw (le-leb round 33 h)
 
-counted-probe : (here : Search) (q : Probe) (i m : ℕ) → i + m ≤ probe-rounds → Counted (probe-rounds * here .probes + i) (map (turn-of here q) (from i m))
+counted-probe : (v : Way) (here : Search) (q : Probe) (i m : ℕ) → i + m ≤ last-round v
+    → Counted (last-round v) (last-round v * here .probes + i) (map (turn-of v here q) (from i m))
 unfolding from
-counted-probe here q i zero h = tt
-counted-probe here q zero (suc m) h =
-    let next : probe-rounds * here .probes + 1 ≡ suc (probe-rounds * here .probes + 0) = omega arith in
-    (in-probe (here .probes) 1 (omega arith) ∙ omega arith, subst (λ (k : ℕ). Counted k (map (turn-of here q) (from 1 m))) next (counted-probe here q 1 m (omega arith)))
-counted-probe here q (suc i) (suc m) h =
-    let next : probe-rounds * here .probes + suc (suc i) ≡ suc (probe-rounds * here .probes + suc i) = omega arith in (
-      in-probe (here .probes) (i + 2) (omega arith) ∙ omega arith,
-      subst (λ (k : ℕ). Counted k (map (turn-of here q) (from (suc (suc i)) m))) next (counted-probe here q (suc (suc i)) m (omega arith)),
+counted-probe v here q i zero h = tt
+counted-probe v here q zero (suc m) h =
+    let next : last-round v * here .probes + 1 ≡ suc (last-round v * here .probes + 0) = omega arith in
+    (in-probe (last-round v) (here .probes) 1 (omega arith) ∙ omega arith, subst (λ (k : ℕ). Counted (last-round v) k (map (turn-of v here q) (from 1 m))) next (counted-probe v here q 1 m (omega arith)))
+counted-probe v here q (suc i) (suc m) h =
+    let next : last-round v * here .probes + suc (suc i) ≡ suc (last-round v * here .probes + suc i) = omega arith in (
+      in-probe (last-round v) (here .probes) (i + 2) (omega (arith, last-round-range v .1)) ∙ omega arith,
+      subst (λ (k : ℕ). Counted (last-round v) k (map (turn-of v here q) (from (suc (suc i)) m))) next (counted-probe v here q (suc (suc i)) m (omega arith)),
     )
 
-none-counted : (k : ℕ) → Counted k (turns-of [])
+none-counted : (v : Way) (k : ℕ) → Counted (last-round v) k (turns-of v [])
 unfolding turns-of
-none-counted k = tt
+none-counted v k = tt
 
-one-counted : (d : Made) (ds : List Made) (after : Search) → after .probes ≡ d .here .probes + 1
-    → Counted (probe-rounds * after .probes) (turns-of ds) → Counted (probe-rounds * d .here .probes) (turns-of (d ∷ ds))
+one-counted : (v : Way) (d : Made) (ds : List Made) (after : Search) → after .probes ≡ d .here .probes + 1
+    → Counted (last-round v) (last-round v * after .probes) (turns-of v ds) → Counted (last-round v) (last-round v * d .here .probes) (turns-of v (d ∷ ds))
 unfolding turns-of
-one-counted d ds after e h =
-    counted-append (probe-rounds * d .here .probes) (probe-rounds * after .probes) (turns-in d) (turns-of ds)
-    (omega (arith, e, turns-in-length d))
-    (subst (λ (k : ℕ). Counted k (turns-in d)) (add-zero _) (counted-probe (d .here) (d .probe) 0 probe-rounds (omega arith)))
+one-counted v d ds after e h =
+    counted-append (last-round v) (last-round v * d .here .probes) (last-round v * after .probes) (turns-in v d) (turns-of v ds)
+    (next-count (last-round v) (d .here .probes) (after .probes) (length (turns-in v d)) e (turns-in-length v d))
+    (subst (λ (k : ℕ). Counted (last-round v) k (turns-in v d)) (add-zero _) (counted-probe v (d .here) (d .probe) 0 (last-round v) (omega arith)))
     h
+  where
+    next-count : (l m n k : ℕ) → n ≡ m + 1 → k ≡ l → l * m + k ≡ l * n
+    next-count l m n k f g = ap (λ (z : ℕ). l * m + z) g ∙ sym (ap (λ (z : ℕ). l * z) f ∙ omega arith)
 
 module _ (a : Auction) (fs : List (List ℕ)) where
-  pub made-counted : (here : Search) (ss : List SheetCoins) → Counted (probe-rounds * here .probes) (turns-of (made a fs here ss))
+  abbrev w : Way
+  w = way-of (a .last)
+
+  pub made-counted : (here : Search) (ss : List SheetCoins) → Counted (last-round w) (last-round w * here .probes) (turns-of w (made a fs here ss))
   unfolding made
-  made-counted here [] = none-counted _
+  made-counted here [] = none-counted w _
   made-counted here (s ∷ ss) = split (finished here) refl (made-counted (next here verdict) ss)
     where
       verdict : ℕ
-      verdict = secret (last-polynomial (probe-of a fs here s))
+      verdict = secret (last-polynomial (way-of (a .last)) (probe-of a fs here s))
 
-      split : (o : Bool) → finished here ≡ o → Counted (probe-rounds * next here verdict .probes) (turns-of (made a fs (next here verdict) ss))
-          → Counted (probe-rounds * here .probes) (turns-of (made a fs here (s ∷ ss)))
-      split true o later = rw (made-over a fs here (s ∷ ss) o) (none-counted _)
-      split false o later = rw (made-going a fs here s ss o) (one-counted _ _ (next here verdict) (next-probes here verdict) later)
+      split : (o : Bool) → finished here ≡ o → Counted (last-round w) (last-round w * next here verdict .probes) (turns-of w (made a fs (next here verdict) ss))
+          → Counted (last-round w) (last-round w * here .probes) (turns-of w (made a fs here (s ∷ ss)))
+      split true o later = rw (made-over a fs here (s ∷ ss) o) (none-counted w _)
+      split false o later = rw (made-going a fs here s ss o) (one-counted w _ _ (next here verdict) (next-probes here verdict) later)
 
 -- what the probes ds with these sheets are, from here on
 pub record Leads (a : Auction) (c : Coins) (here : Search) (ss : List SheetCoins) (ds : List Made) : Type 0 where
-  pub chain : Chain a c (decided-stage here) (turns-of ds) (decided-stage (after-probes here ds))
-  pub promised : Promised (demand a) (supply a) (a .k) (after-probes here ds)
-  pub ended : finished (after-probes here ds) ≡ true
-  pub trail-is : map decision ds ≡ trail (promise (demand a) (supply a)) (length ss) here
-  pub shared : Each (λ d. ProbeShared (threshold (a .n)) (d .probe)) ds
+  pub chain : Chain a c (decided-stage here) (turns-of (way-of (a .last)) ds) (decided-stage (after-probes (way-of (a .last)) here ds))
+  pub promised : Promised (demand a) (supply a) (a .k) (after-probes (way-of (a .last)) here ds)
+  pub ended : finished (after-probes (way-of (a .last)) here ds) ≡ true
+  pub trail-is : map (decision (way-of (a .last))) ds ≡ trail (promise (demand a) (supply a)) (length ss) here
+  pub shared : Each (λ d. ProbeShared (way-of (a .last)) (threshold (a .n)) (d .probe)) ds
 
 module _ (a : Auction) (c : Coins) (A : IsAuction a) (C : InRange a c) where
   abbrev given : (which i : ℕ) → ℕ
@@ -179,7 +187,7 @@ module _ (a : Auction) (c : Coins) (A : IsAuction a) (C : InRange a c) where
     q = probe-of a (polynomials a c) here s
 
     abbrev v : ℕ
-    v = secret (last-polynomial q)
+    v = secret (last-polynomial (way-of (a .last)) q)
 
     promise-kept : v ≡ given (here .which) (middle (here .bracket))
     promise-kept = verdict-is a c A C here s ss R
@@ -190,7 +198,7 @@ module _ (a : Auction) (c : Coins) (A : IsAuction a) (C : InRange a c) where
     one-more ds L =
         record {
           chain =
-              chain-append (subst (λ (σ : Stage). Chain a c σ (turns-in (record { here = here; probe = q })) (decided-stage (next here v))) (sym (decided-going here (R .going))) (probe-chain a c A C here s ss R)) (L .chain);
+              chain-append (subst (λ (σ : Stage). Chain a c σ (turns-in (way-of (a .last)) (record { here = here; probe = q })) (decided-stage (next here v))) (sym (decided-going here (R .going))) (probe-chain a c A C here s ss R)) (L .chain);
           promised = L .promised;
           ended = L .ended;
           trail-is =
@@ -210,7 +218,7 @@ module _ (a : Auction) (c : Coins) (A : IsAuction a) (C : InRange a c) where
   leads (s ∷ ss) here K e l = split (finished here) refl (leads ss (next here verdict))
     where
       verdict : ℕ
-      verdict = secret (last-polynomial (probe-of a (polynomials a c) here s))
+      verdict = secret (last-polynomial (way-of (a .last)) (probe-of a (polynomials a c) here s))
 
       count : next here verdict .probes ≡ here .probes + 1
       count = next-probes here verdict
@@ -233,14 +241,14 @@ module _ (a : Auction) (c : Coins) (A : IsAuction a) (C : InRange a c) where
   whole =
       leads (c .sheets) (first-search (a .k)) (promised-start (demand a) (supply a) (a .k) (A .k-least)) refl (zero-add _ ∙ C .sheets-many)
 
-  pub probes-trail : map decision (probes a c) ≡ probed a
+  pub probes-trail : map (decision (way-of (a .last))) (probes a c) ≡ probed a
   probes-trail = whole .trail-is ∙ ap (λ (x : ℕ). trail given x (first-search (a .k))) (C .sheets-many)
 
   pub probes-many : length (probes a c) ≡ length (probed a)
-  probes-many = sym (length-map (probes a c) decision) ∙ ap length probes-trail
+  probes-many = sym (length-map (probes a c) (decision (way-of (a .last)))) ∙ ap length probes-trail
 
   abbrev end : Search
-  end = after-probes (first-search (a .k)) (probes a c)
+  end = after-probes (way-of (a .last)) (first-search (a .k)) (probes a c)
 
   searched : Searched (demand a) (supply a) (a .k) (end .probes) end
   searched = enclosed (totals-monotone A) end (whole .promised)
@@ -248,7 +256,7 @@ module _ (a : Auction) (c : Coins) (A : IsAuction a) (C : InRange a c) where
   pub probes-counted : end .probes ≡ length (probes a c)
   unfolding first-search
   probes-counted =
-      follow-probes (map decided (probes a c)) (first-search (a .k)) ∙ zero-add _ ∙ length-map (probes a c) decided
+      follow-probes (map (decided (way-of (a .last))) (probes a c)) (first-search (a .k)) ∙ zero-add _ ∙ length-map (probes a c) (decided (way-of (a .last)))
 
   pub probes-few : length (probes a c) ≤ most-probes (a .k)
   probes-few = omega (arith, searched .few, probes-counted)
@@ -279,5 +287,5 @@ module _ (a : Auction) (c : Coins) (A : IsAuction a) (C : InRange a c) where
 
   pub spent-found : end .spent ≡ made-in 1 (probed a)
   spent-found =
-      ap (λ (vs : List ℕ). follow (first-search (a .k)) vs .spent) (sym (map-map (λ d. d .verdict) decision (probes a c)) ∙ ap (map (λ d. d .verdict)) probes-trail)
+      ap (λ (vs : List ℕ). follow (first-search (a .k)) vs .spent) (sym (map-map (λ d. d .verdict) (decision (way-of (a .last))) (probes a c)) ∙ ap (map (λ d. d .verdict)) probes-trail)
       ∙ spent-on-first given (a .k) (A .k-least)

@@ -7,8 +7,8 @@ use mathlib.Core.Option.{Option, none}
 use Prim.Native.Nat.{ℕ, _≤_}
 use lib.ListN.{length, replicate, length-replicate}
 use Rattle.refusal.specs.declared.Judgement.the-variants.{Accepted}
-use Rattle.ranges.specs.Sizes.{sheet-size}
-use Rattle.sharing.specs.Polynomial.{value}
+use Rattle.ways.specs.Way.{way-of, sheet-size}
+use Rattle.kept_pairs.specs.Pairs as kept
 use Rattle.sharing.specs.Scheme.{threshold, points}
 use Rattle.search.specs.Searches.{first-search}
 use Rattle.comparison.specs.Probe.{SheetCoins, SheetInRange, Each}
@@ -26,7 +26,7 @@ use Rattle.auction.specs.Canonical.{zeros, seated, bundle-calls, splits-
 use Rattle.auction.specs.Run.{select, own}
 use Rattle.auction.specs.Received.{collect, bid-in}
 use Rattle.auction.specs.Demands.{all-accepted}
-use Rattle.auction.proofs.Closed.{entries, added-polynomials, totals-after, at-party, bid-for, bid-words, no-totals, polynomials, full-roll, fresh-stage, record-at, sheets-at, seat}
+use Rattle.auction.proofs.Closed.{entries, added-polynomials, totals-after, at-party, bid-for, bid-words, no-totals, polynomials, full-roll, fresh-stage, record-at, sheets-at, seat, no-words}
 use Rattle.auction.proofs.Calls.{own-append, collect-none, all-accepted-append, all-accepted-map, all-accepted-points, each-point, map-each, map-points, map-through, Own, own-points, own-none, all-accepted-flatten, own-flatten, own-bundle}
 use Rattle.auction.proofs.Totals.{each-imp, map-zip, GoodBid, Held, entries-held, added-held, no-totals-held, all-good}
 use Rattle.ranges.proofs.Ranges.{one-of-n}
@@ -69,17 +69,17 @@ accepts c e = rw e
 
 module _ (a : Auction) (c : Coins) where
   unfoldable pub open-at : ℕ → Call
-  open-at j = open-call (a .n) j (a .k) (zeros a)
+  open-at j = open-call (a .n) j (a .k) (a .last) (zeros a)
 
   unfoldable pub splits-at : Desk → DrawnBid → ℕ → List Call
   splits-at desk b j = bundle-calls a j (b .0 .table) (flat (b .1)) (desk (b .0 .bidder) j)
 
   -- with the bids of these on the roll held and the polynomials fs behind the totals
   unfoldable pub add-at : DrawnBid → (roll : Roll) (fs : List (List ℕ)) → ℕ → Call
-  add-at b roll fs j = add-call (holding (a .n) (a .k) roll j) (at-party j fs) (b .0 .bidder) (at-party j (entries (b .0 .table) (b .1)))
+  add-at b roll fs j = add-call (holding (a .n) (a .k) (a .last) roll j) (at-party j fs) (b .0 .bidder) (at-party j (entries (b .0 .table) (b .1)))
 
   unfoldable pub deal-at : ℕ → SheetCoins → Call
-  deal-at j s = deal-call (a .n) j (coin-words s) (coin-bytes s) (replicate sheet-size 0)
+  deal-at j s = deal-call (a .n) j (a .last) (coin-words s) (coin-bytes s) (replicate (sheet-size (way-of (a .last))) 0)
 
   unfoldable pub bid-calls : Desk → List DrawnBid → (roll : Roll) (fs : List (List ℕ)) → List Call
   bid-calls desk [] roll fs = []
@@ -121,13 +121,13 @@ module _ {a : Auction} {c : Coins} (A : IsAuction a) (C : InRange a c) where
   sheets-dealt j h1 hn =
       ap flat
       (map-each _ _ (c .sheets)
-      (each-imp (SheetInRange t) _ (c .sheets) (λ s h. deal-writes (a .n) j (one-of-n _ _ _ (member A j h1 hn)) s h (replicate sheet-size 0) (length-replicate {A = ℕ} sheet-size 0)) (C .sheets)))
+      (each-imp (SheetInRange (way-of (a .last)) t) _ (c .sheets) (λ s h. deal-writes (a .n) j (a .last) (one-of-n _ _ _ (member A j h1 hn)) (A .way) s h (replicate (sheet-size (way-of (a .last))) 0) (length-replicate {A = ℕ} (sheet-size (way-of (a .last))) 0)) (C .sheets)))
 
   pub dealt-seat : (j : ℕ) → 1 ≤ j → j ≤ a .n
       → after-dealing a c (holding-seat a (full-roll a) (polynomials a c) j) ≡ seat a c (fresh-stage (first-search (a .k))) j
-  unfolding after-dealing holding-seat holding seat record-at value
+  unfolding after-dealing holding-seat holding seat record-at no-words kept.none
   dealt-seat j h1 hn =
-      ap (λ (z : List ℕ). record { party = holding (a .n) (a .k) (full-roll a) j; totals = at-party j (polynomials a c); sheets = z }) (sheets-dealt j h1 hn)
+      ap (λ (z : List ℕ). record { party = holding (a .n) (a .k) (a .last) (full-roll a) j; totals = at-party j (polynomials a c); sheets = z }) (sheets-dealt j h1 hn)
 
   dealt-all : map (after-dealing a c) (map (holding-seat a (full-roll a) (polynomials a c)) (points (a .n)))
       ≡ map (seat a c (fresh-stage (first-search (a .k)))) (points (a .n))
@@ -153,16 +153,16 @@ module _ {a : Auction} {c : Coins} (A : IsAuction a) (C : InRange a c) where
   add-own b B roll fs F P free j h1 hn =
       record { accepted = accepts (add-at a c b roll fs j) (adding-accepted A j h1 hn b B roll fs F P free); whose = λ i. refl }
 
-  pub deal-at-accepted : (j : ℕ) → 1 ≤ j → j ≤ a .n → (s : SheetCoins) → SheetInRange t s → accepted (deal-at a c j s) ≡ true
+  pub deal-at-accepted : (j : ℕ) → 1 ≤ j → j ≤ a .n → (s : SheetCoins) → SheetInRange (way-of (a .last)) t s → accepted (deal-at a c j s) ≡ true
   unfolding deal-at judgement
-  deal-at-accepted j h1 hn s h = accepts (deal-at a c j s) (deals-sheet (a .n) j (one-of-n _ _ _ (member A j h1 hn)) s h (replicate sheet-size 0) (length-replicate {A = ℕ} sheet-size 0))
+  deal-at-accepted j h1 hn s h = accepts (deal-at a c j s) (deals-sheet (a .n) j (a .last) (one-of-n _ _ _ (member A j h1 hn)) (A .way) s h (replicate (sheet-size (way-of (a .last))) 0) (length-replicate {A = ℕ} (sheet-size (way-of (a .last))) 0))
 
   deals-accepted : (js : List ℕ) → Each (λ j. (1 ≤ j) × (j ≤ a .n)) js → all-accepted (deal-calls a c js) ≡ true
   unfolding deal-calls all-accepted
   deals-accepted [] h = refl
   deals-accepted (j ∷ js) h =
       all-accepted-append (map (deal-at a c j) (c .sheets)) (deal-calls a c js)
-      (all-accepted-map (deal-at a c j) (c .sheets) (each-imp (SheetInRange t) (λ s. accepted (deal-at a c j s) ≡ true) (c .sheets) (deal-at-accepted j (h .0 .0) (h .0 .1)) (C .sheets)))
+      (all-accepted-map (deal-at a c j) (c .sheets) (each-imp (SheetInRange (way-of (a .last)) t) (λ s. accepted (deal-at a c j s) ≡ true) (c .sheets) (deal-at-accepted j (h .0 .0) (h .0 .1)) (C .sheets)))
       (deals-accepted js (h .1))
 
   -- ---- with the bundles written in these ways
@@ -178,7 +178,7 @@ module _ {a : Auction} {c : Coins} (A : IsAuction a) (C : InRange a c) where
     unfolding add-by add-at holding-seat
     adds-holding b B roll fs F =
         map-through (add-by a desk b) (holding-seat a roll fs) (add-at a c b roll fs) (a .n)
-        (λ j h1 hn. ap (add-call (holding (a .n) (a .k) roll j) (at-party j fs) (b .0 .bidder)) (shares-for-party A j h1 hn b B desk D roll fs))
+        (λ j h1 hn. ap (add-call (holding (a .n) (a .k) (a .last) roll j) (at-party j fs) (b .0 .bidder)) (shares-for-party A j h1 hn b B desk D roll fs))
 
     from-bids-calls : (bs : List DrawnBid) (roll : Roll) (fs : List (List ℕ)) → Each (GoodBid (a .k) t) bs → Held (a .k) t fs
         → Entering a roll bs → totals-after bs fs ≡ polynomials a c
@@ -311,8 +311,8 @@ module _ {a : Auction} {c : Coins} (A : IsAuction a) (C : InRange a c) (desk : D
   setup-bids = ap (collect bid-in) own-setup ∙ adds-bids a c j (zip (a .bids) (c .bids)) empty (no-totals a)
 
   -- a reader that passes over openings and addings
-  pub setup-none : {B : Type 0} (f : Call → Option B) → ((n own k : ℕ) (t : List ℕ) → f (open-call n own k t) ≡ none)
+  pub setup-none : {B : Type 0} (f : Call → Option B) → ((n own k last : ℕ) (t : List ℕ) → f (open-call n own k last t) ≡ none)
       → ((q : Party) (t : List ℕ) (bidder : ℕ) (s : List ℕ) → f (add-call q t bidder s) ≡ none) → collect f (own j (setup-calls a c desk)) ≡ []
   unfolding open-at given
   setup-none f no-open no-add =
-      ap (collect f) own-setup ∙ collect-none f _ _ (no-open _ _ _ _) ∙ adds-none a c j f no-add (zip (a .bids) (c .bids)) empty (no-totals a)
+      ap (collect f) own-setup ∙ collect-none f _ _ (no-open _ _ _ _ _) ∙ adds-none a c j f no-add (zip (a .bids) (c .bids)) empty (no-totals a)

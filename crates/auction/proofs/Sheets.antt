@@ -6,7 +6,7 @@ use native.Mathlib.Nat.{mul-zero, le-of-suc-le-suc}
 use native.Mathlib.Omega.{arith}
 use lib.ListN.{length, take, drop, getD, length-append, length-map, List·getD-append, List·getD-map}
 use lib.Seq.{take-at, drop-append-add, getD-append-add}
-use Rattle.ranges.specs.Sizes.{sheet-size}
+use Rattle.ways.specs.Way.{Way, sheet-size, triples-of}
 use Rattle.fields.specs.Amount.{p, amounts}
 use Rattle.fields.specs.Byte.{bytes}
 use Rattle.ranges.specs.Below.{AllBelow}
@@ -14,7 +14,8 @@ use Rattle.ranges.proofs.Ranges.{below-append}
 use Rattle.fields.proofs.Fields.{amount-field, byte-field}
 use Rattle.sharing.specs.Polynomial.{value}
 use Rattle.sharing.proofs.Laws.{value-lt}
-use Rattle.comparison.specs.Probe.{SheetCoins, SheetInRange, sheet-polynomials, sheet-shares, Triple, Sheet, Each, triple-words}
+use Rattle.comparison.specs.Probe.{SheetCoins, SheetInRange, sheet-polynomials, sheet-shares, Sheet, Each, triple-words}
+use Rattle.comparison.specs.Pairs.{Triple}
 use Rattle.comparison.proofs.Values.{Shared}
 use Rattle.comparison.proofs.Dealt.{TripleShared, SheetShared, dealt-shared}
 use Rattle.auction.specs.Coins.{flat}
@@ -82,15 +83,15 @@ pub getD-amounts : (j : ℕ) (fs : List (List ℕ)) (i : ℕ) → getD (map (λ 
 unfolding value
 getD-amounts j fs i = List·getD-map (λ f. value amounts f j) fs i []
 
-module _ (t j : ℕ) (s : Sheet (List ℕ)) (h : SheetShared t s) where
+module _ (w : Way) (t j : ℕ) (s : Sheet (List ℕ)) (h : SheetShared w t s) where
   abbrev bit-words : List ℕ
   bit-words = map (λ b. value bytes b j) (s .bits)
 
   bit-words-length : length bit-words ≡ 33
   bit-words-length = length-map (s .bits) (λ b. value bytes b j) ∙ h .bits-long
 
-  pub sheet-length : length (sheet-shares j s) ≡ sheet-size
-  unfolding sheet-shares
+  pub sheet-length : length (sheet-shares j s) ≡ sheet-size w
+  unfolding sheet-shares sheet-size
   sheet-length =
       ap suc (length-append bit-words (triple-words j (s .triples)))
       ∙ omega (arith, bit-words-length, triple-words-length j (s .triples), h .triples-long)
@@ -112,7 +113,7 @@ module _ (t j : ℕ) (s : Sheet (List ℕ)) (h : SheetShared t s) where
       let past : k ≡ suc (length bit-words + i) = omega (arith, bit-words-length) in
       rw (past, getD-append-add)
 
-  module _ (i : ℕ) (l : i < 31) where
+  module _ (i : ℕ) (l : i < triples-of w) where
     pub alpha-word : getD (sheet-shares j s) (34 + 3 * (i + 2 - 2) + 0) 0 ≡ value bytes (getD (s .triples) i no-triple .alpha) j
     alpha-word = late-word (3 * i) _ (omega arith) ∙ alpha-in j (s .triples) i (omega (arith, h .triples-long))
 
@@ -122,8 +123,8 @@ module _ (t j : ℕ) (s : Sheet (List ℕ)) (h : SheetShared t s) where
     pub gamma-word : getD (sheet-shares j s) (34 + 3 * (i + 2 - 2) + 2) 0 ≡ value bytes (getD (s .triples) i no-triple .gamma) j
     gamma-word = late-word (3 * i + 2) _ (omega arith) ∙ gamma-in j (s .triples) i (omega (arith, h .triples-long))
 
-pub words-long : (t j : ℕ) (c : SheetCoins) → SheetInRange t c → length (sheet-shares j (sheet-polynomials c)) ≡ sheet-size
-words-long t j c h = sheet-length t j (sheet-polynomials c) (dealt-shared t c h)
+pub words-long : (w : Way) (t j : ℕ) (c : SheetCoins) → SheetInRange w t c → length (sheet-shares j (sheet-polynomials c)) ≡ sheet-size w
+words-long w t j c h = sheet-length w t j (sheet-polynomials c) (dealt-shared w t c h)
 
 -- ---- its words are in their fields
 
@@ -145,7 +146,7 @@ module _ (t j : ℕ) (l : j < 10) where
   triples-below (s ∷ ts) h =
       (byte-below j l (s .alpha) (h .0 .alpha .1), (byte-below j l (s .beta) (h .0 .beta .1), (byte-below j l (s .gamma) (h .0 .gamma .1), triples-below ts (h .1))))
 
-  pub sheet-bytes-below : (s : Sheet (List ℕ)) → SheetShared t s → AllBelow 256 (drop 1 (sheet-shares j s))
+  pub sheet-bytes-below : (w : Way) (s : Sheet (List ℕ)) → SheetShared w t s → AllBelow 256 (drop 1 (sheet-shares j s))
   unfolding sheet-shares
-  sheet-bytes-below s h =
+  sheet-bytes-below w s h =
       below-append 256 (map (λ b. value bytes b j) (s .bits)) (triple-words j (s .triples)) (bits-below (s .bits) (h .bits)) (triples-below (s .triples) (h .triples))

@@ -21,7 +21,8 @@ use Rattle.search.specs.Clearing.{Monotone}
 use Rattle.search.proofs.Sides.{side-of}
 use Rattle.comparison.specs.Probe.{Each, Group, secret}
 use Rattle.comparison.proofs.Values.{Shared}
-use Rattle.comparison.proofs.Dealt.{each-at, shared-cons}
+use Rattle.comparison.proofs.Lists.{each-at}
+use Rattle.comparison.proofs.Dealt.{shared-cons}
 use Rattle.comparison.proofs.Plain.{each-replicate, zeros-group}
 use Rattle.ranges.specs.Steps.{steps}
 use Rattle.bid.specs.Table.{most, monotone}

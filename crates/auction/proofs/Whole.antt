@@ -4,7 +4,7 @@ use mathlib.Core.Bool.{Bool, true, false, cond, true≢false}
 use mathlib.Core.List.{List, [], _∷_, _++_, map, map-map, map-append, flatten, append-nil}
 use mathlib.Core.Option.{none}
 use Prim.Native.Nat.{ℕ, zero, suc, _+_, _-_, _*_, _/_, _≤_}
-use native.Mathlib.Nat.{zero-add}
+use native.Mathlib.Nat.{zero-add, mul-zero, mul-le-mul-left}
 use native.Mathlib.Decide.{decLe}
 use native.Mathlib.Omega.{arith}
 use lib.Dec.{eqb}
@@ -12,7 +12,8 @@ use lib.ListN.{length, take, length-append, length-map}
 use Rattle.search.specs.Limit.{most-probes}
 use lib.Seq.{take-nil, take-all, take-length, take-append-le, take-append-add}
 use borrow.Author.Tests.{eqb-true, eqb-false}
-use Rattle.ranges.specs.Sizes.{probe-rounds}
+use Rattle.ways.specs.Way.{Way, way-of, last-round}
+use Rattle.auction.proofs.Kept.{rounds-of, last-round-range, div-all}
 use Rattle.ranges.specs.Lists.{from}
 use Rattle.fields.specs.Amount.{amounts}
 use Rattle.sharing.specs.Polynomial.{value}
@@ -24,7 +25,7 @@ use Rattle.record.specs.Record.{ended}
 use Rattle.auction.specs.Auction.{Auction, IsAuction, demand, supply, price-answer, rounds}
 use Rattle.auction.specs.Coins.{Coins, InRange}
 use Rattle.auction.specs.Received.{collect, verdict-in, decided-by}
-use Rattle.auction.proofs.Closed.{polynomials, demand-at, supply-at, Made, decision, spoken, all-spoken, totals-spoken, Stage, fresh-stage, decided-stage, record-at, probes}
+use Rattle.auction.proofs.Closed.{polynomials, demand-at, supply-at, Made, decision, spoken, all-spoken, totals-spoken, Stage, fresh-stage, decided-stage, record-at, probes, no-words, none-small}
 use Rattle.auction.proofs.Totals.{demand-small, totals-monotone}
 use Rattle.auction.proofs.Calls.{collect-append}
 use Rattle.auction.proofs.Step.{Sane}
@@ -35,20 +36,20 @@ use Rattle.auction.proofs.Probed.{turn-of}
 use Rattle.auction.proofs.Search.{turns-in, turns-of, turns-length, turns-decide, Counted, counted-append, made-counted, after-probes, whole, probes-many, probes-few, probes-counted, end-sound, price-found}
 
 -- the words of all parties in a round
-abbrev pub all-words : Auction → Turn → List ℕ
+abbrev pub all-words : Auction → Turn → List (List ℕ)
 all-words a r = map (r .words) (points (a .n))
 
-turns-spoken : (a : Auction) (ds : List Made) → map (all-words a) (turns-of ds) ≡ all-spoken (a .n) ds
+turns-spoken : (a : Auction) (v : Way) (ds : List Made) → map (all-words a) (turns-of v ds) ≡ all-spoken v (a .n) ds
 unfolding turns-of flatten spoken
-turns-spoken a [] = refl
-turns-spoken a (d ∷ ds) =
-    map-append (all-words a) (turns-in d) (turns-of ds)
-    ∙ ap₂ _++_ (map-map (all-words a) (turn-of (d .here) (d .probe)) (from 0 probe-rounds)) (turns-spoken a ds)
+turns-spoken a v [] = refl
+turns-spoken a v (d ∷ ds) =
+    map-append (all-words a) (turns-in v d) (turns-of v ds)
+    ∙ ap₂ _++_ (map-map (all-words a) (turn-of v (d .here) (d .probe)) (from 0 (last-round v))) (turns-spoken a v ds)
 
 module _ (a : Auction) (c : Coins) where
   -- where the searches end
   abbrev pub last : Search
-  last = after-probes (first-search (a .k)) (probes a c)
+  last = after-probes (way-of (a .last)) (first-search (a .k)) (probes a c)
 
   abbrev fs : List (List ℕ)
   fs = polynomials a c
@@ -66,7 +67,7 @@ module _ (a : Auction) (c : Coins) where
   no-price = eqb (price-answer a) 0
 
   unfoldable pub all-turns : List Turn
-  all-turns = turns-of (probes a c) ++ turns-after no-price
+  all-turns = turns-of (way-of (a .last)) (probes a c) ++ turns-after no-price
 
   abbrev pub end : Stage
   end = stage-after no-price
@@ -89,12 +90,12 @@ module _ (a : Auction) (c : Coins) where
       split false = (ap (demand a) e, ap (supply a) e)
 
   -- no carry is left
-  pub end-bare : (end .sum ≡ 0) × (end .carry ≡ [])
+  pub end-bare : (end .sum ≡ 0) × ((j : ℕ) → end .carry j ≡ 0) × ((j : ℕ) → end .pairs j ≡ no-words)
   end-bare = split no-price
     where
-      split : (b : Bool) → (stage-after b .sum ≡ 0) × (stage-after b .carry ≡ [])
-      split true = (refl, refl)
-      split false = (refl, refl)
+      split : (b : Bool) → (stage-after b .sum ≡ 0) × ((j : ℕ) → stage-after b .carry j ≡ 0) × ((j : ℕ) → stage-after b .pairs j ≡ no-words)
+      split true = (refl, (λ j. refl), (λ j. refl))
+      split false = (refl, (λ j. refl), (λ j. refl))
 
   -- and the last round is heard
   pub end-round : end .round ≡ cond no-price 1 36
@@ -105,8 +106,8 @@ module _ (a : Auction) (c : Coins) where
       split false = refl
 
   -- the words of all rounds
-  unfoldable pub whole-spoken : List (List ℕ)
-  whole-spoken = all-spoken (a .n) (probes a c) ++ totals-spoken a fs
+  unfoldable pub whole-spoken : List (List (List ℕ))
+  whole-spoken = all-spoken (way-of (a .last)) (a .n) (probes a c) ++ totals-spoken a fs
 
 -- the session is over where the searches have ended at no price, and where the totals are opened
 module _ (a : Auction) (c : Coins) (here : Search) (j : ℕ) where
@@ -161,6 +162,9 @@ module _ (a : Auction) (c : Coins) (A : IsAuction a) (C : InRange a c) where
 
   -- ---- what is known at the end
 
+  some-rounds : 1 ≤ a .last
+  some-rounds = omega (arith, last-round-range (way-of (a .last)) .0, rounds-of (a .last) (A .way))
+
   pub end-sane : Sane a (end a c)
   end-sane = split (no-price a c) refl
     where
@@ -168,9 +172,10 @@ module _ (a : Auction) (c : Coins) (A : IsAuction a) (C : InRange a c) where
       split true e =
           record {
             search = end-sound a c A C;
-            round = record { least = omega arith; probing = λ f. omega arith; opening = λ f. absurd (true≢false (sym f ∙ none-clears e)) };
+            round = record { least = omega arith; probing = λ f. omega (arith, some-rounds); opening = λ f. absurd (true≢false (sym f ∙ none-clears e)) };
             sum = omega arith;
-            carry = tt;
+            carry = λ j j1 jn. omega arith;
+            pairs = λ j j1 jn. none-small;
             totals = (omega arith, omega arith);
           }
       split false e =
@@ -185,16 +190,22 @@ module _ (a : Auction) (c : Coins) (A : IsAuction a) (C : InRange a c) where
 
   -- ---- the rounds are counted, and as many as are made
 
-  pub counted : Counted 0 (all-turns a c)
+  abbrev each : ℕ
+  each = last-round (way-of (a .last))
+
+  counted-way : Counted each 0 (all-turns a c)
   unfolding all-turns first-search
-  counted =
-      counted-append 0 (probe-rounds * here .probes) (turns-of (probes a c)) (turns-after a c (no-price a c))
-      (zero-add _ ∙ turns-length (probes a c) ∙ ap (λ (m : ℕ). probe-rounds * m) (sym (probes-counted a c A C)))
-      (made-counted a (polynomials a c) (first-search (a .k)) (c .sheets)) (later (no-price a c))
+  counted-way =
+      counted-append each 0 (each * here .probes) (turns-of (way-of (a .last)) (probes a c)) (turns-after a c (no-price a c))
+      (zero-add _ ∙ turns-length (way-of (a .last)) (probes a c) ∙ ap (λ (m : ℕ). each * m) (sym (probes-counted a c A C)))
+      (subst (λ (k : ℕ). Counted each k (turns-of (way-of (a .last)) (probes a c))) (mul-zero each) (made-counted a (polynomials a c) (first-search (a .k)) (c .sheets))) (later (no-price a c))
     where
-      later : (b : Bool) → Counted (probe-rounds * here .probes) (turns-after a c b)
+      later : (b : Bool) → Counted each (each * here .probes) (turns-after a c b)
       later true = tt
       later false = (omega arith, (omega arith, tt))
+
+  pub counted : Counted (a .last) 0 (all-turns a c)
+  counted = subst (λ (m : ℕ). Counted m 0 (all-turns a c)) (rounds-of (a .last) (A .way)) counted-way
 
   turns-after-long : (b : Bool) → length (turns-after a c b) ≡ cond b 0 2
   turns-after-long true = refl
@@ -210,14 +221,19 @@ module _ (a : Auction) (c : Coins) (A : IsAuction a) (C : InRange a c) where
   pub rounds-are : length (all-turns a c) ≡ rounds a
   unfolding all-turns
   rounds-are =
-      length-append (turns-of (probes a c)) (turns-after a c (no-price a c))
-      ∙ ap₂ _+_ (turns-length (probes a c) ∙ ap (λ (m : ℕ). probe-rounds * m) (probes-many a c A C)) (turns-after-long (no-price a c))
+      length-append (turns-of (way-of (a .last)) (probes a c)) (turns-after a c (no-price a c))
+      ∙ ap₂ _+_ (turns-length (way-of (a .last)) (probes a c) ∙ ap₂ _*_ (rounds-of (a .last) (A .way)) (probes-many a c A C)) (turns-after-long (no-price a c))
 
   -- 2P probes and the totals are not more than are told
-  pub rounds-few : length (all-turns a c) ≤ probe-rounds * most-probes (a .k) + 2
+  pub rounds-few : length (all-turns a c) ≤ a .last * most-probes (a .k) + 2
   unfolding all-turns
   rounds-few =
-      omega (arith, length-append (turns-of (probes a c)) (turns-after a c (no-price a c)), turns-length (probes a c), probes-few a c A C, last-few)
+      few-enough (a .last) (length (probes a c)) (most-probes (a .k)) _ _ _ (probes-few a c A C) last-few
+      (turns-length (way-of (a .last)) (probes a c) ∙ ap (λ (m : ℕ). m * length (probes a c)) (rounds-of (a .last) (A .way)))
+      (length-append (turns-of (way-of (a .last)) (probes a c)) (turns-after a c (no-price a c)))
+    where
+      few-enough : (l m n x y z : ℕ) → m ≤ n → y ≤ 2 → x ≡ l * m → z ≡ x + y → z ≤ l * n + 2
+      few-enough l m n x y z h k e f = omega (arith, mul-le-mul-left l h)
 
   -- ---- no verdict is heard after the last probe's
 
@@ -228,46 +244,52 @@ module _ (a : Auction) (c : Coins) (A : IsAuction a) (C : InRange a c) where
   quiet false (suc zero) = refl
   quiet false (suc (suc m)) = ap (λ (l : List Turn). collect decision-of l) (take-all (suc (suc m)) (turns-after a c false) (omega arith))
 
-  pub all-decide : (m : ℕ) → collect decision-of (take m (all-turns a c)) ≡ take (m / probe-rounds) (map decision (probes a c))
+  pub all-decide : (m : ℕ) → collect decision-of (take m (all-turns a c)) ≡ take (m / each) (map (decision (way-of (a .last))) (probes a c))
   unfolding all-turns
   all-decide m =
-      let rs : List Turn = turns-of (probes a c) in
+      let rs : List Turn = turns-of (way-of (a .last)) (probes a c) in
       let ts : List Turn = turns-after a c (no-price a c) in
       elim (decLe m (length rs)) [
-        | yes le ↦ ap (collect decision-of) (take-append-le m rs ts le) ∙ turns-decide (probes a c) m
+        | yes le ↦ ap (collect decision-of) (take-append-le m rs ts le) ∙ turns-decide (way-of (a .last)) (probes a c) m
         | no gt ↦
             let later : ℕ = m - length rs in
             let at : m ≡ length rs + later = omega arith in
-            let all : length (map decision (probes a c)) ≤ m / probe-rounds = omega (arith, length-map (probes a c) decision, turns-length (probes a c)) in
+            let all : length (map (decision (way-of (a .last))) (probes a c)) ≤ m / each = few-verdicts m (omega arith) in
             ap (λ (k : ℕ). collect decision-of (take k (rs ++ ts))) at
             ∙ ap (collect decision-of) (take-append-add rs ts later)
             ∙ collect-append decision-of rs (take later ts)
             ∙ ap₂ _++_ every-verdict (quiet (no-price a c) later)
-            ∙ append-nil _ ∙ sym (take-all (m / probe-rounds) (map decision (probes a c)) all)
+            ∙ append-nil _ ∙ sym (take-all (m / each) (map (decision (way-of (a .last))) (probes a c)) all)
       ]
     where
-      every-verdict : collect decision-of (turns-of (probes a c)) ≡ map decision (probes a c)
+      few-verdicts : (m : ℕ) → length (turns-of (way-of (a .last)) (probes a c)) ≤ m → length (map (decision (way-of (a .last))) (probes a c)) ≤ m / each
+      few-verdicts m h =
+          let l : length (map (decision (way-of (a .last))) (probes a c)) ≡ length (probes a c) = length-map (probes a c) (decision (way-of (a .last))) in
+          let d : length (probes a c) ≤ m / each = div-all (way-of (a .last)) m (length (probes a c)) (omega (arith, turns-length (way-of (a .last)) (probes a c))) in
+          omega arith
+
+      every-verdict : collect decision-of (turns-of (way-of (a .last)) (probes a c)) ≡ map (decision (way-of (a .last))) (probes a c)
       every-verdict =
-          ap (collect decision-of) (sym (take-length (turns-of (probes a c))))
-          ∙ turns-decide (probes a c) (length (turns-of (probes a c)))
-          ∙ take-all (length (turns-of (probes a c)) / probe-rounds) (map decision (probes a c))
-          (omega (arith, turns-length (probes a c), length-map (probes a c) decision))
+          ap (collect decision-of) (sym (take-length (turns-of (way-of (a .last)) (probes a c))))
+          ∙ turns-decide (way-of (a .last)) (probes a c) (length (turns-of (way-of (a .last)) (probes a c)))
+          ∙ take-all (length (turns-of (way-of (a .last)) (probes a c)) / each) (map (decision (way-of (a .last))) (probes a c))
+          (few-verdicts (length (turns-of (way-of (a .last)) (probes a c))) (omega arith))
 
   -- ---- what is said
 
   totals-said : (b : Bool) → no-price a c ≡ b → map (all-words a) (turns-after a c b)
-      ≡ cond b [] (map (λ j. value amounts (demand-at a (polynomials a c) (price-answer a)) j) (points (a .n))
-      ∷ map (λ j. value amounts (supply-at a (polynomials a c) (price-answer a)) j) (points (a .n)) ∷ [])
+      ≡ cond b [] (map (λ j. value amounts (demand-at a (polynomials a c) (price-answer a)) j ∷ []) (points (a .n))
+      ∷ map (λ j. value amounts (supply-at a (polynomials a c) (price-answer a)) j ∷ []) (points (a .n)) ∷ [])
   totals-said true e = refl
   totals-said false e =
       ap
       (λ (m : ℕ).
-      map (λ j. value amounts (demand-at a (polynomials a c) m) j) (points (a .n))
-      ∷ map (λ j. value amounts (supply-at a (polynomials a c) m) j) (points (a .n)) ∷ [])
+      map (λ j. value amounts (demand-at a (polynomials a c) m) j ∷ []) (points (a .n))
+      ∷ map (λ j. value amounts (supply-at a (polynomials a c) m) j ∷ []) (points (a .n)) ∷ [])
       (price-found a c A C)
 
   pub said-are : map (all-words a) (all-turns a c) ≡ whole-spoken a c
   unfolding all-turns whole-spoken totals-spoken
   said-are =
-      map-append (all-words a) (turns-of (probes a c)) (turns-after a c (no-price a c))
-      ∙ ap₂ _++_ (turns-spoken a (probes a c)) (totals-said (no-price a c) refl)
+      map-append (all-words a) (turns-of (way-of (a .last)) (probes a c)) (turns-after a c (no-price a c))
+      ∙ ap₂ _++_ (turns-spoken a (way-of (a .last)) (probes a c)) (totals-said (no-price a c) refl)

@@ -29,8 +29,8 @@ pub record Attendance : Type 0 where
   pub hears : (own : ℕ) → ℕ
   -- whether it says its word in a round in which it is not marked
   pub speaks : (own round : ℕ) → Bool
-  -- what it hears in the place of a party that is not marked
-  pub elsewhere : (own round place : ℕ) → ℕ
+  -- what it hears in the place of a party that is not marked, word by word
+  pub elsewhere : (own round place at : ℕ) → ℕ
   -- whether it is asked for the answer, where it has heard all rounds
   pub asks : (own : ℕ) → Bool
 

@@ -7,7 +7,7 @@ use lib.Dec.{leb, eqb}
 use lib.ListN.{length, getD}
 use Rattle.ranges.specs.Distinct.{Distinct}
 use Rattle.ranges.specs.Lists.{every, sum}
-use Rattle.ranges.specs.Sizes.{probe-rounds}
+use Rattle.ways.specs.Way.{is-way}
 use Rattle.bid.specs.Table.{most, monotone}
 use Rattle.search.specs.Clearing.{clearing, balancing, price-index}
 use Rattle.search.specs.Limit.{most-probes}
@@ -20,10 +20,11 @@ pub record Bid : Type 0 where
   pub bidder : ℕ
   pub table : List ℕ
 
--- n parties, k listed prices, and the bids in order of entry
+-- n parties, k listed prices, the last round of each probe, and the bids in order of entry
 pub record Auction : Type 0 where
   pub n : ℕ
   pub k : ℕ
+  pub last : ℕ
   pub bids : List Bid
 
 -- who bids, in order of entry
@@ -42,6 +43,8 @@ pub record IsAuction (a : Auction) : Type 0 where
   pub n-most : a .n ≤ 9
   pub k-least : 1 ≤ a .k
   pub k-most : a .k ≤ 1024
+  -- "The session chooses 33 or 7 as the last round of its probes"
+  pub way : is-way (a .last) ≡ true
   pub bidders : Distinct 1000 (bidders a)
   pub tables : Each (λ b. GoodTable (a .k) (b .table)) (a .bids)
 
@@ -86,4 +89,4 @@ total-rounds a = cond (eqb (price-answer a) 0) 0 2
 
 -- all rounds of a run
 abbrev pub rounds : Auction → ℕ
-rounds a = probe-rounds * length (probed a) + total-rounds a
+rounds a = a .last * length (probed a) + total-rounds a

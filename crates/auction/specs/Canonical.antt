@@ -5,7 +5,8 @@ use mathlib.Core.List.{List, [], _∷_, _++_, map, flatten, zip}
 use Prim.Native.Nat.{ℕ, zero, suc, _+_, _*_}
 use lib.Dec.{leb, ltb}
 use lib.ListN.{replicate}
-use Rattle.ranges.specs.Sizes.{sheet-size, probe-rounds}
+use Rattle.ranges.specs.Lists.{from}
+use Rattle.ways.specs.Way.{way-of, sheet-size}
 use Rattle.sharing.specs.Scheme.{threshold, points}
 use Rattle.presence.specs.Presence.{is-present}
 use Rattle.search.specs.Limit.{most-probes}
@@ -15,10 +16,10 @@ use Rattle.bid.specs.Entry.{split-entry-left, entry-coins, entries-left}
 use Rattle.dealer.specs.Deal.{deal-left}
 use Rattle.record.specs.declared.Party.{Party}
 use Rattle.record.specs.Record.{ended}
-use Rattle.saying.specs.declared.Said.{Said}
 use Rattle.session.specs.Open.{open-reply, open-left}
 use Rattle.session.specs.Add.{add-reply, add-left}
-use Rattle.saying.specs.Say.{say-reply, said-word}
+use Rattle.saying.specs.Say.{say-left}
+use Rattle.listening.specs.Listen.{width-of}
 use Rattle.hearing.specs.Hear.{hear-reply}
 use Rattle.auction.specs.Auction.{Auction}
 use Rattle.auction.specs.Coins.{Coins, DrawnBid, flat, coin-words, coin-bytes}
@@ -26,9 +27,12 @@ use Rattle.auction.specs.Desk.{Way, whole, by-entries, Desk}
 use Rattle.auction.specs.Attendance.{Marks, Attendance}
 use Rattle.auction.specs.Call.{Call, open-call, split-call, split-entry-call, deal-call, add-call, say-call, hear-call, answer-call}
 
--- what a party said
-unfoldable pub word : Said → ℕ
-word said = said-word said 0
+-- what a party says: the words that a slice as long as stated holds after the saying
+abbrev pub lent-for : Party → List ℕ
+lent-for q = replicate (width-of q) 0
+
+unfoldable pub words : (q : Party) (totals sheets : List ℕ) → List ℕ
+words q totals sheets = say-left q totals sheets (lent-for q)
 
 -- "Each of these calls for a keeper gets the book and record that the last of them for it returned or left"
 pub record Seat : Type 0 where
@@ -40,9 +44,9 @@ unfoldable pub all-over : List Seat → Bool
 all-over [] = true
 all-over (s ∷ ss) = ended (s .party) && all-over ss
 
--- 2P probes of 33 rounds, and two rounds for the totals: by then every session is over
+-- 2P probes of 33 or 7 rounds, and two rounds for the totals: by then every session is over
 abbrev pub enough-rounds : Auction → ℕ
-enough-rounds a = probe-rounds * most-probes (a .k) + 2
+enough-rounds a = a .last * most-probes (a .k) + 2
 
 module _ (a : Auction) where
   -- a slice of 2k words, to be written
@@ -53,8 +57,8 @@ module _ (a : Auction) where
   unfoldable pub seated : ℕ → Seat
   seated j =
       record {
-        party = open-reply (a .n) j (a .k) zeros .party;
-        totals = open-left (a .n) j (a .k) zeros;
+        party = open-reply (a .n) j (a .k) (a .last) zeros .party;
+        totals = open-left (a .n) j (a .k) (a .last) zeros;
         sheets = [];
       }
 
@@ -96,14 +100,14 @@ module _ (a : Auction) (desk : Desk) where
 
 -- "The dealer writes every keeper's sheets, from one set of draws per probe."
 unfoldable pub sheet-for : Auction → (own : ℕ) → SheetCoins → List ℕ
-sheet-for a own k = deal-left (a .n) own (coin-words k) (coin-bytes k) (replicate sheet-size 0)
+sheet-for a own k = deal-left (a .n) own (a .last) (coin-words k) (coin-bytes k) (replicate (sheet-size (way-of (a .last))) 0)
 
 unfoldable pub sheets-for : Auction → Coins → (own : ℕ) → List ℕ
 sheets-for a c own = flat (map (sheet-for a own) (c .sheets))
 
 module _ (a : Auction) (c : Coins) where
   unfoldable pub deal-for : Seat → SheetCoins → Call
-  deal-for s k = deal-call (a .n) (s .party .own) (coin-words k) (coin-bytes k) (replicate sheet-size 0)
+  deal-for s k = deal-call (a .n) (s .party .own) (a .last) (coin-words k) (coin-bytes k) (replicate (sheet-size (way-of (a .last))) 0)
 
   unfoldable pub deals : List Seat → List Call
   deals [] = []
@@ -112,13 +116,13 @@ module _ (a : Auction) (c : Coins) where
   unfoldable pub after-dealing : Seat → Seat
   after-dealing s = record { party = s .party; totals = s .totals; sheets = sheets-for a c (s .party .own) }
 
--- "Then, round after round, each keeper says its word and all n words go to each keeper's hearing"; "Hearing shall take, besides the n
+-- "Then, round after round, each keeper says its words and all go to each keeper's hearing"; "Hearing shall take, besides the n
 -- words, n marks of who was present"
 unfoldable pub say-by : Seat → Call
-say-by s = say-call (s .party) (s .totals) (s .sheets)
+say-by s = say-call (s .party) (s .totals) (s .sheets) (lent-for (s .party))
 
-unfoldable pub word-by : Seat → ℕ
-word-by s = word (say-reply (s .party) (s .totals) (s .sheets))
+unfoldable pub words-by : Seat → List ℕ
+words-by s = words (s .party) (s .totals) (s .sheets)
 
 unfoldable pub hear-by : (messages present : List ℕ) → Seat → Call
 hear-by messages present s = hear-call (s .party) (s .totals) (s .sheets) messages present
@@ -147,10 +151,14 @@ module _ (marks : Marks) (att : Attendance) where
   unfoldable pub say-in : (round : ℕ) → Seat → List Call
   say-in round s = where-so (says-word round (s .party .own)) (say-by s)
 
-  -- of those who were present what they said, in the other places anything
+  -- anything, as many words as a party says
+  abbrev pub anything : (round own : ℕ) → Seat → List ℕ
+  anything round own s = map (att .elsewhere own round (s .party .own)) (from 0 (width-of (s .party)))
+
+  -- of those who were present what they said, in the other places anything: "Heard words stand keeper by keeper"
   unfoldable pub words-for : (round own : ℕ) → List Seat → List ℕ
   words-for round own ss =
-      map (λ s. cond (is-present (marks round) (s .party .own)) (word-by s) (att .elsewhere own round (s .party .own))) ss
+      flat (map (λ s. cond (is-present (marks round) (s .party .own)) (words-by s) (anything round own s)) ss)
 
   unfoldable pub hear-round : (round : ℕ) → List Seat → Seat → Call
   hear-round round ss s = hear-by (words-for round (s .party .own) ss) (marks round) s
@@ -187,5 +195,5 @@ module _ (a : Auction) (c : Coins) (marks : Marks) (desk : Desk) (att : Attendan
 
   unfoldable pub canonical : List Call
   canonical =
-      map (λ j. open-call (a .n) j (a .k) (zeros a)) (points (a .n))
+      map (λ j. open-call (a .n) j (a .k) (a .last) (zeros a)) (points (a .n))
       ++ from-bids (zip (a .bids) (c .bids)) (map (seated a) (points (a .n)))

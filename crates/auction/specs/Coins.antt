@@ -5,6 +5,7 @@ use Prim.Native.Nat.{ℕ, _*_}
 use lib.ListN.{length}
 use Rattle.fields.specs.Amount.{p}
 use Rattle.sharing.specs.Scheme.{threshold}
+use Rattle.ways.specs.Way.{way-of}
 use Rattle.search.specs.Limit.{most-probes}
 use Rattle.comparison.specs.Probe.{SheetCoins, SheetInRange, Group, Each, TripleCoins}
 use Rattle.auction.specs.Auction.{Auction, Bid}
@@ -23,7 +24,7 @@ pub record InRange (a : Auction) (c : Coins) : Type 0 where
   pub bids-many : length (c .bids) ≡ length (a .bids)
   pub bids : Each (λ groups. (length groups ≡ 2 * a .k) × Each (Group p (threshold (a .n))) groups) (c .bids)
   pub sheets-many : length (c .sheets) ≡ most-probes (a .k)
-  pub sheets : Each (SheetInRange (threshold (a .n))) (c .sheets)
+  pub sheets : Each (SheetInRange (way-of (a .last)) (threshold (a .n))) (c .sheets)
 
 unfoldable pub flat : List (List ℕ) → List ℕ
 flat [] = []
@@ -37,6 +38,6 @@ coin-words c = c .mask ∷ c .of-mask
 abbrev pub triple-bytes : TripleCoins → List ℕ
 triple-bytes c = c .alpha ∷ c .beta ∷ (c .of-alpha ++ (c .of-beta ++ c .of-gamma))
 
--- "t coefficients for each of bits 1 to 33 of b .. then for i = 2 to 32" those of a triple
+-- "t coefficients for each of bits 1 to 33 of b .. then" those of each triple
 unfoldable pub coin-bytes : SheetCoins → List ℕ
 coin-bytes c = flat (c .of-bits) ++ flat (map triple-bytes (c .triples))

@@ -6,7 +6,8 @@ use mathlib.Core.List.{List, [], _∷_, map, zip, List·Memᴰ}
 use Prim.Native.Nat.{ℕ, _+_, _-_, _*_, _/_, _^_, _≤_, _<_, min}
 use lib.Dec.{leb, ltb, eqb}
 use lib.ListN.{length, take, drop, replicate}
-use Rattle.ranges.specs.Sizes.{sheet-size, probe-rounds}
+use Rattle.ways.specs.Way.{way-of, sheet-size}
+use Rattle.kept_pairs.specs.Pairs.{none as no-pairs}
 use Rattle.presence.specs.Presence.{is-present}
 use Rattle.sharing.specs.Scheme.{threshold}
 use Rattle.ranges.specs.Distinct.{Distinct}
@@ -49,7 +50,7 @@ pub record Found (a : Auction) (ds : List Decision) (q : Party) : Type 0 where
   pub total-demand : q .demand ≡ cond (eqb (price-answer a) 0) 0 (demand a (price-answer a))
   pub total-supply : q .supply ≡ cond (eqb (price-answer a) 0) 0 (supply a (price-answer a))
   -- no share is left in it, so that it may be shown to a fleet
-  pub bare : (q .sum ≡ 0) × (q .carry ≡ 0)
+  pub bare : (q .sum ≡ 0) × (q .carry ≡ 0) × (q .pairs ≡ no-pairs)
 
 -- What a fleet is told that asks with the record: "A buyer of amount a gets a times S divided by D, rounded down, and is told the exact
 -- remainder"; "16 Not cleared, .. when m is 0".
@@ -65,7 +66,7 @@ pub record Outcome (a : Auction) (hears : ℕ) (asks : Bool) (l : List Call) (j 
   -- when total supply is at least total demand
   pub promised : verdicts j l ≡ map (λ d. promise (demand a) (supply a) (d .which) (d .index)) (decisions j l)
   -- they are those of the two searches, as far as it has heard: from the first probe to the last, where it has heard all
-  pub searched : decisions j l ≡ take (length (hearings j l) / probe-rounds) (probed a)
+  pub searched : decisions j l ≡ take (length (hearings j l) / a .last) (probed a)
   -- it is asked only where it has heard all, and then at least once if it asks; each answer is the price index with the number of verdicts
   -- heard
   pub asked : ℕ
@@ -98,6 +99,8 @@ pub record Demand2 (a : Auction) (c : Coins) (marks : Marks) : Type 0 where
 pub record Alike (a b : Auction) : Type 0 where
   pub parties : b .n ≡ a .n
   pub prices : b .k ≡ a .k
+  -- the way of a session is public
+  pub way : b .last ≡ a .last
   pub bidders : bidders b ≡ bidders a
   pub highest : clearing-answer b ≡ clearing-answer a
   pub lowest : balanced-answer b ≡ balanced-answer a
@@ -130,7 +133,7 @@ pub record ButMasks (c d : Coins) : Type 0 where
 
 -- "Unused sheets are the lent ones after those of the probes made"
 abbrev pub unused : Auction → Coins → (j : ℕ) → List ℕ
-unused a c j = drop (sheet-size * length (probed a)) (sheets-for a c j)
+unused a c j = drop (sheet-size (way-of (a .last)) * length (probed a)) (sheets-for a c j)
 
 -- one list is the other as far as both go
 abbrev pub AsFar : {A : Type 0} → List A → List A → Type 0
@@ -141,7 +144,7 @@ AsFar (x ∷ xs) (y ∷ ys) = (y ≡ x) × AsFar xs ys
 -- the words that party j says in a round, where it says one in both lists
 abbrev pub SaidAlike : (round j : ℕ) → List Call → List Call → Type 0
 SaidAlike round j l m =
-    (x y : Saying) → List·Memᴰ x (sayings j l) → List·Memᴰ y (sayings j m) → x .round ≡ round → y .round ≡ round → y .word ≡ x .word
+    (x y : Saying) → List·Memᴰ x (sayings j l) → List·Memᴰ y (sayings j m) → x .round ≡ round → y .round ≡ round → y .words ≡ x .words
 
 -- What the lists of calls l and m have in common, with the coins c and d: "the same shares, .. the same unused sheets, .. the same words ..,
 -- round by round, the same verdicts and the same number of probes". The pool's sheets are what the dealer writes for it, whether it hears a

@@ -32,8 +32,8 @@ fills l = select (λ c. accepted c && of-fleet (whose c)) l
 pub data Repeats : List Call → List Call → Type 0 where
   end : Repeats [] []
   next : {c : Call} {cs ds : List Call} → Repeats cs ds → Repeats (c ∷ cs) (c ∷ ds)
-  say-again : {q : Party} {totals sheets : List ℕ} {cs ds : List Call}
-      → Repeats (say-call q totals sheets ∷ cs) ds → Repeats (say-call q totals sheets ∷ cs) (say-call q totals sheets ∷ ds)
+  say-again : {q : Party} {totals sheets said : List ℕ} {cs ds : List Call}
+      → Repeats (say-call q totals sheets said ∷ cs) ds → Repeats (say-call q totals sheets said ∷ cs) (say-call q totals sheets said ∷ ds)
   ask-again : {q : Party} {cs ds : List Call} → Repeats (answer-call q ∷ cs) ds → Repeats (answer-call q ∷ cs) (answer-call q ∷ ds)
 
 -- The desk writes each bundle in one of the two ways, and each party attends as it can. Each party's calls are those of the canonical list,

@@ -12,6 +12,7 @@ mod adding;
 
 pub use adding::Added;
 use adding::add_bids;
+use draws::LAST;
 use draws::first_state;
 use panel::open_all;
 
@@ -30,6 +31,6 @@ pub fn collect(
         × Holds (auction-of n k bids (drop at (now (input .entry)))) (full-roll (auction-of n k bids (drop at (now (input .entry)))))
         (polynomials (auction-of n k bids (drop at (now (input .entry)))) (auction-coins n k bids seed)) (r .parties) (now (totals .exit)) ⌝ }
 {
-    let parties = open_all(n, k, totals);
+    let parties = open_all(n, k, LAST, totals);
     add_bids(n, k, bids, input, at, first_state(seed), parties, totals)
 }

@@ -159,16 +159,16 @@ module _ {F : Field} {t : ℕ} {xs : List ℕ} (D : Different xs) where
             law x hx cs ds (h .first) (k .first) .read ∙ ap₂ g (h .same x m) (k .same x m) ∙ sym (law x hx cs′ ds′ (h .second) (k .second) .read);
       }
 
-  plus : {cs cs′ ds ds′ : List ℕ} → Alike F t xs cs cs′ → Alike F t xs ds ds′ → Alike F t xs (sums (F .ops) cs ds) (sums (F .ops) cs′ ds′)
+  pub plus : {cs cs′ ds ds′ : List ℕ} → Alike F t xs cs cs′ → Alike F t xs ds ds′ → Alike F t xs (sums (F .ops) cs ds) (sums (F .ops) cs′ ds′)
   plus = by-two (sums (F .ops)) (F .ops .add) (λ x hx cs ds hc hd. reads-plus hx (reads-value F t x cs hc) (reads-value F t x ds hd))
 
   negate : {cs cs′ : List ℕ} → Alike F t xs cs cs′ → Alike F t xs (negatives (F .ops) cs) (negatives (F .ops) cs′)
   negate = by-one (negatives (F .ops)) (F .ops .neg) (λ x hx cs hc. reads-negate hx (reads-value F t x cs hc))
 
-  times : (k : ℕ) → k < F .size → {cs cs′ : List ℕ} → Alike F t xs cs cs′ → Alike F t xs (scaled (F .ops) k cs) (scaled (F .ops) k cs′)
+  pub times : (k : ℕ) → k < F .size → {cs cs′ : List ℕ} → Alike F t xs cs cs′ → Alike F t xs (scaled (F .ops) k cs) (scaled (F .ops) k cs′)
   times k hk = by-one (scaled (F .ops) k) (F .ops .mul k) (λ x hx cs hc. reads-times hx k hk (reads-value F t x cs hc))
 
-  shift : (k : ℕ) → k < F .size → {cs cs′ : List ℕ} → Alike F t xs cs cs′ → Alike F t xs (shifted (F .ops) k cs) (shifted (F .ops) k cs′)
+  pub shift : (k : ℕ) → k < F .size → {cs cs′ : List ℕ} → Alike F t xs cs cs′ → Alike F t xs (shifted (F .ops) k cs) (shifted (F .ops) k cs′)
   shift k hk = by-one (shifted (F .ops) k) (F .ops .add k) (λ x hx cs hc. reads-shift hx k hk (reads-value F t x cs hc))
 
 module _ (t : ℕ) (xs : List ℕ) where

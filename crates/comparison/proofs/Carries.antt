@@ -14,8 +14,8 @@ use Rattle.fields.proofs.Ring.{semi}
 use Rattle.fields.proofs.Fields.{byte-field}
 use Rattle.comparison.specs.Local.{on-shares}
 use Rattle.fields.specs.Bits.{bit}
-use Rattle.comparison.specs.Rounds.{first-carry, differing, left, right, next-carry, last}
-use Rattle.comparison.proofs.Values.{bit-lt, bit-byte}
+use Rattle.comparison.specs.Rounds.{first-carry, differing, last}
+use Rattle.comparison.proofs.Values.{bit-lt}
 
 -- ---- numbers
 
@@ -87,7 +87,7 @@ twice-byte : (a : Below 256) → ops (byte-field .ring) .add a a ≡ ops (byte-f
 twice-byte a = same-number _ _ (byte-field .ring .add-neg (a .0) (a .1))
 
 -- what a round's carry is: u v + T_i, whatever the triple
-beaver-byte : (u v a b : ℕ) → u < 256 → v < 256 → a < 256 → b < 256
+pub beaver-byte : (u v a b : ℕ) → u < 256 → v < 256 → a < 256 → b < 256
     → xor (product (xor u a) (xor v b)) (xor (xor (product a b) (product (xor u a) b)) (product (xor v b) a)) ≡ product u v
 beaver-byte u v a b hu hv ha hb = ap (λ (z : Below 256). z .0) (beaver (ring (byte-field .ring)) twice-byte (u, hu) (v, hv) (a, ha) (b, hb))
 
@@ -96,14 +96,10 @@ module _ (f g : ℕ → ℕ → ℕ → ℕ) where
   abbrev agree : ℕ → ℕ → ℕ → Bool
   agree x y z = eqb (f x y z) (g x y z)
 
-  same-on-bits : T (below (λ x. below (λ y. below (agree x y) 2) 2) 2) → (x y z : ℕ) → x < 2 → y < 2 → z < 2 → f x y z ≡ g x y z
+  pub same-on-bits : T (below (λ x. below (λ y. below (agree x y) 2) 2) 2) → (x y z : ℕ) → x < 2 → y < 2 → z < 2 → f x y z ≡ g x y z
   same-on-bits t x y z hx hy hz =
       eqb→eq (f x y z) (g x y z)
       (at (agree x y) 2 (at (λ y. below (agree x y) 2) 2 (at (λ x. below (λ y. below (agree x y) 2) 2) 2 t x hx) y hy) z hz)
-
-majority : (x y z : ℕ) → x < 2 → y < 2 → z < 2 → xor x (product (xor x y) (xor x z)) ≡ (x + y + z) / 2
-unfolding product terms xtimes xor
-majority = same-on-bits (λ x y z. xor x (product (xor x y) (xor x z))) (λ x y z. (x + y + z) / 2) tt
 
 majority-first : (x y z : ℕ) → x < 2 → y < 2 → z < 2 → xor x (product x (xor x y)) ≡ (x + y + 0) / 2
 unfolding product terms xtimes xor
@@ -121,21 +117,6 @@ module _ (T mask : ℕ) where
   first-carry-law =
       majority-first (bit 1 T) (bit 1 mask) 0 (bit-lt 1 T) (bit-lt 1 mask) (lit< tt)
       ∙ sym (carried-suc 0 T mask ∙ ap (λ (c : ℕ). (bit 1 T + bit 1 mask + c) / 2) (carried-none T mask))
-
-  -- round i = suc k, from the carry of k bits and with any triple, makes the carry of i bits
-  pub next-carry-law : (k a b : ℕ) → a < 256 → b < 256
-      → next-carry (on-shares bytes) T (suc k) (left (on-shares bytes) T (suc k) (bit (suc k) mask) a)
-      (right (on-shares bytes) T (suc k) (carried k T mask) b) a b (product a b)
-      ≡ carried (suc k) T mask
-  unfolding next-carry left right differing
-  next-carry-law k a b ha hb =
-      let x : ℕ = bit (suc k) T in
-      let y : ℕ = bit (suc k) mask in
-      let z : ℕ = carried k T mask in
-      let hz : z < 256 = omega (arith, carried-lt k T mask) in
-      let add-lt : (m n : ℕ) → m < 256 → n < 256 → xor m n < 256 = byte-field .ring .add-lt in
-      ap (xor x) (beaver-byte (xor x y) (xor x z) a b (add-lt x y (bit-byte (suc k) T) (bit-byte (suc k) mask)) (add-lt x z (bit-byte (suc k) T) hz) ha hb)
-      ∙ majority x y z (bit-lt (suc k) T) (bit-lt (suc k) mask) (carried-lt k T mask) ∙ sym (carried-suc k T mask)
 
   pub last-law : last (on-shares bytes) T (bit 33 mask) (carried 32 T mask) ≡ bit 33 (T + mask)
   unfolding last

@@ -1,63 +1,118 @@
--- The matched coins are in range, give the pool the same words, and make every round the same. Assumes nothing.
-use mathlib.Core.Path.{_≡_, refl, sym, ap, ap₂, subst₂, _∙_}
-use mathlib.Core.List.{List, [], _∷_, map}
+-- The matched coins are in range, are alike for the pool, and make every level the same. Assumes nothing.
+use mathlib.Core.Path.{_≡_, refl, sym, ap, ap₂, subst, subst₂, _∙_}
+use mathlib.Core.List.{List, [], _∷_, _++_, map, map-append}
 use Prim.Native.Nat.{ℕ, zero, suc, _≤_, _<_}
 use native.Mathlib.Omega.{arith}
-use lib.ListN.{length, drop, getD}
+use native.Mathlib.Nat.{suc-inj}
+use lib.Dec.{lit<}
+use lib.ListN.{length, length-map, length-take, length-drop, take-append-drop}
+use lib.Seq.{drop-at}
+use Rattle.fields.specs.Bits.{bit}
 use Rattle.fields.specs.Byte.{xor, product, bytes}
 use Rattle.fields.proofs.Fields.{byte-field}
+use Rattle.sharing.specs.Linear.{sums}
 use Rattle.sharing.specs.Polynomial.{value}
 use Rattle.sharing.proofs.Points.{Different}
-use Rattle.comparison.specs.Local.{on-shares, on-polynomials}
-use Rattle.fields.specs.Bits.{bit}
-use Rattle.comparison.specs.Rounds.{differing, left, right, next-carry, both}
-use Rattle.comparison.specs.Probe.{Triple, TripleCoins, Group, Each, TripleInRange, Round, bit-polynomials, triple-polynomials, triple-words, secret, round, carry-after, rounds, final-carry}
-use Rattle.comparison.proofs.Matched.{carry-on, recoloured, matched-bits, matched-triple, matched-triples}
-use Rattle.comparison.proofs.Values.{bit-byte, secret-value, left-secret, right-secret}
-use Rattle.comparison.proofs.Dealt.{RoundShared, triple-polynomials-shared, round-shared}
-use Rattle.comparison.proofs.Agreement.{In, Bytes, recolour-group, alike-same, alike-recolour, left-alike, right-alike, next-carry-alike, restored}
+use Rattle.comparison.specs.Local.{Local, on-polynomials}
+use Rattle.ways.specs.Way.{Way, uses}
+use Rattle.comparison.specs.Pairs.{Triple, Pair, Sides, unused, sides, masked-sides, said-of, products, merged}
+use Rattle.comparison.specs.Probe.{TripleCoins, Group, Each, TripleInRange, bit-polynomials, triple-polynomials, secret, opened, said, next, levels, pairs-after}
+use Rattle.comparison.proofs.Matched.{spent, recoloured, matched-bits, matched-product, matched-level, matched-levels}
+use Rattle.comparison.proofs.Lists.{Pairs, each-take, each-drop, each-append, pairs-length, pairs-append}
+use Rattle.comparison.proofs.Values.{Shared, bit-byte, reads-plus, reads-secret, secret-reads, secret-value}
+use Rattle.comparison.proofs.Dealt.{triple-polynomials-shared}
+use Rattle.comparison.proofs.Agreement.{In, Bytes, recolour-group, alike-same, alike-recolour, restored, plus}
+use Rattle.comparison.proofs.Steps.{Keeps, keeps-alike, OnPair, OnSides, OnTriple, sides-kept, said-kept, products-kept, merged-kept}
+use Rattle.comparison.proofs.Counts.{sides-length, said-length, next-length, used}
+use Rattle.comparison.proofs.Levels.{opened-bytes}
 
--- ---- place by place
+-- ---- triples that are there for later levels
 
-abbrev pub Pairs : {A B : Type 0} → (A → B → Type 0) → List A → List B → Type 0
-Pairs R [] [] = Unit {0}
-Pairs R [] (b ∷ bs) = ⊥
-Pairs R (a ∷ as′) [] = ⊥
-Pairs R (a ∷ as′) (b ∷ bs) = R a b × Pairs R as′ bs
+module _ {X : Type 0} (L : Local X) where
+  said-of-append : (ss : List (Sides X)) (ts us : List (Triple X)) → length ss ≤ length ts → said-of L ss (ts ++ us) ≡ said-of L ss ts
+  unfolding said-of
+  said-of-append [] ts us h = refl
+  said-of-append (s ∷ ss) [] us h = absurd (omega arith)
+  said-of-append (s ∷ ss) (t ∷ ts) us h = ap (λ (zs : List (Sides X)). masked-sides L s t ∷ zs) (said-of-append ss ts us (omega arith))
 
-module _ {A B : Type 0} (R : A → B → Type 0) where
-  pub pairs-at : (as′ : List A) (bs : List B) (k : ℕ) (a : A) (b : B) → Pairs R as′ bs → k < length as′ → R (getD as′ k a) (getD bs k b)
-  pairs-at [] bs k a b h l = absurd (omega arith)
-  pairs-at (a′ ∷ as′) [] k a b h l = absurd h
-  pairs-at (a′ ∷ as′) (b′ ∷ bs) zero a b h l = h .0
-  pairs-at (a′ ∷ as′) (b′ ∷ bs) (suc k) a b h l = pairs-at as′ bs k a b (h .1) (omega arith)
+  products-append : (os : List (Sides ℕ)) (ts us : List (Triple X)) → length os ≤ length ts → products L os (ts ++ us) ≡ products L os ts
+  unfolding products
+  products-append [] ts us h = refl
+  products-append (o ∷ os) [] us h = absurd (omega arith)
+  products-append (o ∷ os) (t ∷ ts) us h = λ k. products L (o ∷ []) (t ∷ []) ++ products-append os ts us (omega arith) k
 
-  pub pairs-rest : (as′ : List A) (bs : List B) → Pairs R as′ bs → Pairs R (drop 1 as′) (drop 1 bs)
-  pairs-rest [] [] h = tt
-  pairs-rest [] (b ∷ bs) h = absurd h
-  pairs-rest (a ∷ as′) [] h = absurd h
-  pairs-rest (a ∷ as′) (b ∷ bs) h = h .1
+abbrev Ps : Type 0
+Ps = List (Pair (List ℕ))
 
--- what party j says in a round and in these rounds
-abbrev pub round-word : ℕ → Round → ℕ
-round-word j r = both (value bytes (r .left) j) (value bytes (r .right) j)
+abbrev pub dealt-triples : List TripleCoins → List (Triple (List ℕ))
+dealt-triples cs = map triple-polynomials cs
 
-abbrev pub round-words : ℕ → List Round → List ℕ
-round-words j rs = map (round-word j) rs
+module _ (w : Way) (ps : Ps) (ts us : List (Triple (List ℕ))) (h : length ts ≡ uses w (length ps)) where
+  said-append : said w ps (ts ++ us) ≡ said w ps ts
+  unfolding said
+  said-append =
+      said-of-append (on-polynomials bytes) (sides (on-polynomials bytes) w ps) ts us (omega (arith, sides-length (on-polynomials bytes) w ps))
 
-pub record TripleAlike (t : ℕ) (xs : List ℕ) (u u′ : Triple (List ℕ)) : Type 0 where
-  pub alpha : Bytes t xs (u .alpha) (u′ .alpha)
-  pub beta : Bytes t xs (u .beta) (u′ .beta)
-  pub gamma : Bytes t xs (u .gamma) (u′ .gamma)
+  next-append : next w ps (ts ++ us) ≡ next w ps ts
+  unfolding next
+  next-append =
+      ap (λ (os : List (Sides ℕ)). merged (on-polynomials bytes) w ps (products (on-polynomials bytes) os (ts ++ us))) (ap (map opened) said-append)
+      ∙ ap (merged (on-polynomials bytes) w ps)
+      (products-append (on-polynomials bytes) (map opened (said w ps ts)) ts us (omega (arith, length-map (said w ps ts) opened, said-length w ps ts (omega arith))))
 
--- the rounds from i on: the first probe's carry, bits and coins, and the second's with which they are kept
-pub record Kept (t : ℕ) (xs : List ℕ) (T i : ℕ) (C C′ : List ℕ) (bits bits′ : List (List ℕ)) (cs cs′ : List TripleCoins) : Type 0 where
+  unused-append : unused w ps (ts ++ us) ≡ us
+  unused-append = drop-at ts us (uses w (length ps)) h
+
+-- the first of n levels, with its own triples
+module _ (w : Way) (n : ℕ) (ps : Ps) (a b : List TripleCoins) (h : length a ≡ uses w (length ps)) where
+  long : length (dealt-triples a) ≡ uses w (length ps)
+  long = length-map a triple-polynomials ∙ h
+
+  pub levels-split : levels w (suc n) ps (dealt-triples (a ++ b)) ≡ said w ps (dealt-triples a) ∷ levels w n (next w ps (dealt-triples a)) (dealt-triples b)
+  unfolding levels
+  levels-split =
+      ap (levels w (suc n) ps) (map-append triple-polynomials a b)
+      ∙ (λ k.
+      said-append w ps (dealt-triples a) (dealt-triples b) long k
+      ∷ levels w n (next-append w ps (dealt-triples a) (dealt-triples b) long k) (unused-append w ps (dealt-triples a) (dealt-triples b) long k))
+
+  pub pairs-after-split : pairs-after w (suc n) ps (dealt-triples (a ++ b)) ≡ pairs-after w n (next w ps (dealt-triples a)) (dealt-triples b)
+  unfolding pairs-after
+  pairs-after-split =
+      ap (pairs-after w (suc n) ps) (map-append triple-polynomials a b)
+      ∙ ap₂ (pairs-after w n) (next-append w ps (dealt-triples a) (dealt-triples b) long) (unused-append w ps (dealt-triples a) (dealt-triples b) long)
+
+-- ---- one level
+
+-- two triples alike for the pool
+abbrev pub Seen : (t : ℕ) (xs : List ℕ) → TripleCoins → TripleCoins → Type 0
+Seen t xs c e = OnTriple (Bytes t xs) (triple-polynomials c) (triple-polynomials e)
+
+pub seen-triples : (t : ℕ) (xs : List ℕ) (cs es : List TripleCoins) → Pairs (Seen t xs) cs es
+    → Pairs (OnTriple (Bytes t xs)) (dealt-triples cs) (dealt-triples es)
+seen-triples t xs [] [] h = tt
+seen-triples t xs [] (e ∷ es) h = absurd h
+seen-triples t xs (c ∷ cs) [] h = absurd h
+seen-triples t xs (c ∷ cs) (e ∷ es) h = (h .0, seen-triples t xs cs es (h .1))
+
+pub sum-secret : (t : ℕ) (cs ds : List ℕ) → Shared 256 t cs → Shared 256 t ds → secret (sums bytes cs ds) ≡ xor (secret cs) (secret ds)
+sum-secret t cs ds hc hd =
+    secret-reads {F = byte-field} {t = t} (reads-plus {F = byte-field} (lit< tt) (reads-secret byte-field t cs hc) (reads-secret byte-field t ds hd))
+
+pub sum-shared : (t : ℕ) (cs ds : List ℕ) → Shared 256 t cs → Shared 256 t ds → Shared 256 t (sums bytes cs ds)
+sum-shared t cs ds hc hd =
+    reads-plus {F = byte-field} {t = t} {x = 0} (lit< tt) (reads-secret byte-field t cs hc) (reads-secret byte-field t ds hd) .shared
+
+pub record LevelKept (t : ℕ) (xs : List ℕ) (ss ss′ : List (Sides (List ℕ))) (cs cs′ : List TripleCoins) : Type 0 where
   pub ranged : Each (TripleInRange t) cs′
-  pub long : length cs′ ≡ length cs
-  pub words : (x : ℕ) → In x xs → triple-words x (map triple-polynomials cs′) ≡ triple-words x (map triple-polynomials cs)
-  pub said : (j : ℕ)
-      → round-words j (rounds T i C′ bits′ (map triple-polynomials cs′)) ≡ round-words j (rounds T i C bits (map triple-polynomials cs))
-  pub carried : Bytes t xs (final-carry T i C bits (map triple-polynomials cs)) (final-carry T i C′ bits′ (map triple-polynomials cs′))
+  pub seen : Pairs (Seen t xs) cs cs′
+  pub said : said-of (on-polynomials bytes) ss′ (dealt-triples cs′) ≡ said-of (on-polynomials bytes) ss (dealt-triples cs)
+
+pub record LevelsKept (w : Way) (t : ℕ) (xs : List ℕ) (n : ℕ) (ps ps′ : List (Pair (List ℕ))) (cs cs′ : List TripleCoins) : Type 0 where
+  pub ranged : Each (TripleInRange t) cs′
+  pub seen : Pairs (Seen t xs) cs cs′
+  pub said : levels w n ps′ (dealt-triples cs′) ≡ levels w n ps (dealt-triples cs)
+  pub after : Pairs (OnPair (Bytes t xs)) (pairs-after w n ps (dealt-triples cs)) (pairs-after w n ps′ (dealt-triples cs′))
 
 module _ (t : ℕ) (xs : List ℕ) (D : Different (0 ∷ xs)) (l : length xs ≡ t) where
   -- ---- bits
@@ -103,7 +158,7 @@ module _ (t : ℕ) (xs : List ℕ) (D : Different (0 ∷ xs)) (l : length xs ≡
           of-gamma = recolour-group byte-field t xs (product (c .alpha) (c .beta)) (product alpha beta) (c .of-gamma) l;
         }
 
-    recoloured-alike : TripleAlike t xs (triple-polynomials c) (triple-polynomials (recoloured xs c alpha beta))
+    recoloured-alike : OnTriple (Bytes t xs) (triple-polynomials c) (triple-polynomials (recoloured xs c alpha beta))
     unfolding recoloured triple-polynomials
     recoloured-alike =
         record {
@@ -114,118 +169,147 @@ module _ (t : ℕ) (xs : List ℕ) (D : Different (0 ∷ xs)) (l : length xs ≡
               (byte-field .ring .mul-lt (c .alpha) (c .beta) (h .alpha) (h .beta)) (byte-field .ring .mul-lt alpha beta ha hb) (h .of-gamma);
         }
 
-  -- ---- one round, opened to the same D and E: both say the same, and the carries stay alike
-
-  module _ (T i : ℕ) {C C′ b b′ : List ℕ} (u u′ : Triple (List ℕ)) (hC : Bytes t xs C C′) (hb : Bytes t xs b b′) (hu : TripleAlike t xs u u′)
-      (same-D : secret (round T i C b u .left) ≡ secret (round T i C′ b′ u′ .left))
-      (same-E : secret (round T i C b u .right) ≡ secret (round T i C′ b′ u′ .right)) where
-    same-left : round T i C′ b′ u′ .left ≡ round T i C b u .left
-    unfolding round
-    same-left = sym (alike-same byte-field t xs D l (left-alike (D .2) T i hb (hu .alpha)) same-D)
-
-    same-right : round T i C′ b′ u′ .right ≡ round T i C b u .right
-    unfolding round
-    same-right = sym (alike-same byte-field t xs D l (right-alike (D .2) T i hC (hu .beta)) same-E)
-
-    after-alike : Bytes t xs (carry-after T i (round T i C b u) u) (carry-after T i (round T i C′ b′ u′) u′)
-    unfolding round carry-after
-    after-alike =
-        let hl : secret (left (on-polynomials bytes) T i b (u .alpha)) < 256 =
-        secret-value 256 t (left (on-polynomials bytes) T i b (u .alpha)) (left-alike (D .2) T i hb (hu .alpha) .first) in
-        let hr : secret (right (on-polynomials bytes) T i C (u .beta)) < 256 =
-        secret-value 256 t (right (on-polynomials bytes) T i C (u .beta)) (right-alike (D .2) T i hC (hu .beta) .first) in
-        subst₂
-        (λ (d e : ℕ). Bytes t xs (carry-after T i (round T i C b u) u) (next-carry (on-polynomials bytes) T i d e (u′ .alpha) (u′ .beta) (u′ .gamma)))
-        same-D same-E
-        (next-carry-alike (D .2) T i (secret (left (on-polynomials bytes) T i b (u .alpha))) (secret (right (on-polynomials bytes) T i C (u .beta)))
-        hl hr (hu .alpha) (hu .beta) (hu .gamma))
-
-  -- ---- the matched triple opens to the same D and E
-
-  module _ (T i : ℕ) {C C′ b b′ : List ℕ} (c : TripleCoins) (hC : Bytes t xs C C′) (hb : Bytes t xs b b′) (h : TripleInRange t c) where
-    abbrev first-round : Round
-    first-round = round T i C b (triple-polynomials c)
+  -- a product: the matched triple opens to the same
+  module _ (s s′ : Sides (List ℕ)) (c : TripleCoins) (hs : OnSides (Bytes t xs) s s′) (h : TripleInRange t c) where
+    abbrev said-first : Sides (List ℕ)
+    said-first = masked-sides (on-polynomials bytes) s (triple-polynomials c)
 
     abbrev c′ : TripleCoins
-    c′ = matched-triple xs T i first-round C′ b′ c
+    c′ = matched-product xs said-first s′ c
 
-    abbrev u′ : ℕ
-    u′ = differing (on-shares bytes) T i (secret b′)
+    D-shared : Shared 256 t (said-first .left)
+    D-shared = sum-shared t (s .left) (triple-polynomials c .alpha) (hs .left .first) (triple-polynomials-shared t c h .alpha)
 
-    abbrev v′ : ℕ
-    v′ = xor (bit i T) (secret C′)
+    E-shared : Shared 256 t (said-first .right)
+    E-shared = sum-shared t (s .right) (triple-polynomials c .beta) (hs .right .first) (triple-polynomials-shared t c h .beta)
 
-    u′-lt : u′ < 256
-    unfolding differing
-    u′-lt = byte-field .ring .add-lt (bit i T) (secret b′) (bit-byte i T) (secret-value 256 t b′ (hb .second))
+    D-lt : secret (said-first .left) < 256
+    D-lt = secret-value 256 t (said-first .left) D-shared
 
-    v′-lt : v′ < 256
-    v′-lt = byte-field .ring .add-lt (bit i T) (secret C′) (bit-byte i T) (secret-value 256 t C′ (hC .second))
+    E-lt : secret (said-first .right) < 256
+    E-lt = secret-value 256 t (said-first .right) E-shared
 
-    shared : RoundShared t first-round
-    shared = round-shared T t i C b (triple-polynomials c) (hC .first) (hb .first) (triple-polynomials-shared t c h)
+    u′-lt : secret (s′ .left) < 256
+    u′-lt = secret-value 256 t (s′ .left) (hs .left .second)
 
-    D-lt : secret (first-round .left) < 256
-    D-lt = secret-value 256 t (first-round .left) (shared .left)
+    v′-lt : secret (s′ .right) < 256
+    v′-lt = secret-value 256 t (s′ .right) (hs .right .second)
 
-    E-lt : secret (first-round .right) < 256
-    E-lt = secret-value 256 t (first-round .right) (shared .right)
+    alpha-lt : xor (secret (said-first .left)) (secret (s′ .left)) < 256
+    alpha-lt = byte-field .ring .add-lt (secret (said-first .left)) (secret (s′ .left)) D-lt u′-lt
 
-    alpha-lt : xor (secret (first-round .left)) u′ < 256
-    alpha-lt = byte-field .ring .add-lt (secret (first-round .left)) u′ D-lt u′-lt
+    beta-lt : xor (secret (said-first .right)) (secret (s′ .right)) < 256
+    beta-lt = byte-field .ring .add-lt (secret (said-first .right)) (secret (s′ .right)) E-lt v′-lt
 
-    beta-lt : xor (secret (first-round .right)) v′ < 256
-    beta-lt = byte-field .ring .add-lt (secret (first-round .right)) v′ E-lt v′-lt
+    product-ranged : TripleInRange t c′
+    unfolding matched-product
+    product-ranged =
+        recoloured-ranged c h (xor (secret (said-first .left)) (secret (s′ .left))) (xor (secret (said-first .right)) (secret (s′ .right))) alpha-lt beta-lt
 
-    triple-ranged : TripleInRange t c′
-    unfolding matched-triple
-    triple-ranged = recoloured-ranged c h (xor (secret (first-round .left)) u′) (xor (secret (first-round .right)) v′) alpha-lt beta-lt
+    product-seen : Seen t xs c c′
+    unfolding matched-product
+    product-seen =
+        recoloured-alike c h (xor (secret (said-first .left)) (secret (s′ .left))) (xor (secret (said-first .right)) (secret (s′ .right))) alpha-lt beta-lt
 
-    triple-alike : TripleAlike t xs (triple-polynomials c) (triple-polynomials c′)
-    unfolding matched-triple
-    triple-alike = recoloured-alike c h (xor (secret (first-round .left)) u′) (xor (secret (first-round .right)) v′) alpha-lt beta-lt
-
-    left-kept : secret (first-round .left) ≡ secret (round T i C′ b′ (triple-polynomials c′) .left)
-    unfolding round matched-triple recoloured triple-polynomials left
+    left-kept : secret (masked-sides (on-polynomials bytes) s′ (triple-polynomials c′) .left) ≡ secret (said-first .left)
+    unfolding matched-product recoloured triple-polynomials
     left-kept =
-        sym
-        (left-secret T i t b′ (c′ .alpha ∷ c′ .of-alpha) (hb .second) (triple-alike .alpha .second)
-        ∙ restored u′ (secret (first-round .left)) u′-lt D-lt)
+        sum-secret t (s′ .left) (triple-polynomials c′ .alpha) (hs .left .second) (product-seen .alpha .second)
+        ∙ restored (secret (s′ .left)) (secret (said-first .left)) u′-lt D-lt
 
-    right-kept : secret (first-round .right) ≡ secret (round T i C′ b′ (triple-polynomials c′) .right)
-    unfolding round matched-triple recoloured triple-polynomials right
+    right-kept : secret (masked-sides (on-polynomials bytes) s′ (triple-polynomials c′) .right) ≡ secret (said-first .right)
+    unfolding matched-product recoloured triple-polynomials
     right-kept =
-        sym
-        (right-secret T i t C′ (c′ .beta ∷ c′ .of-beta) (hC .second) (triple-alike .beta .second)
-        ∙ restored v′ (secret (first-round .right)) v′-lt E-lt)
+        sum-secret t (s′ .right) (triple-polynomials c′ .beta) (hs .right .second) (product-seen .beta .second)
+        ∙ restored (secret (s′ .right)) (secret (said-first .right)) v′-lt E-lt
 
-  -- ---- all rounds
+    product-said : masked-sides (on-polynomials bytes) s′ (triple-polynomials c′) ≡ said-first
+    product-said =
+        let e : said-first .left ≡ masked-sides (on-polynomials bytes) s′ (triple-polynomials c′) .left =
+        alike-same byte-field t xs D l (plus (D .2) (hs .left) (product-seen .alpha)) (sym left-kept) in
+        let f : said-first .right ≡ masked-sides (on-polynomials bytes) s′ (triple-polynomials c′) .right =
+        alike-same byte-field t xs D l (plus (D .2) (hs .right) (product-seen .beta)) (sym right-kept) in
+        λ k. record { left = sym e k; right = sym f k }
 
-  pub kept : (T i : ℕ) (C C′ : List ℕ) (bits bits′ : List (List ℕ)) (cs : List TripleCoins) → length cs ≤ length bits
-      → Bytes t xs C C′ → Pairs (Bytes t xs) bits bits′ → Each (TripleInRange t) cs
-      → Kept t xs T i C C′ bits bits′ cs (matched-triples xs T i C C′ bits bits′ cs)
-  unfolding matched-triples triple-words rounds final-carry
-  kept T i C C′ bits bits′ [] n hC hb h = record { ranged = tt; long = refl; words = λ x m. refl; said = λ j. refl; carried = hC }
-  kept T i C C′ [] bits′ (c ∷ cs) n hC hb h = absurd (omega arith)
-  kept T i C C′ (b ∷ bits) [] (c ∷ cs) n hC hb h = absurd hb
-  kept T i C C′ (b ∷ bits) (b′ ∷ bits′) (c ∷ cs) n hC hb h =
-      let c′ : TripleCoins = matched-triple xs T i (round T i C b (triple-polynomials c)) C′ b′ c in
-      let u : Triple (List ℕ) = triple-polynomials c in
-      let u′ : Triple (List ℕ) = triple-polynomials c′ in
-      let hu : TripleAlike t xs u u′ = triple-alike T i c hC (hb .0) (h .0) in
-      let d : secret (round T i C b u .left) ≡ secret (round T i C′ b′ u′ .left) = left-kept T i c hC (hb .0) (h .0) in
-      let e : secret (round T i C b u .right) ≡ secret (round T i C′ b′ u′ .right) = right-kept T i c hC (hb .0) (h .0) in
-      let r : Kept t xs T (suc i) (carry-on T i C b c) (carry-on T i C′ b′ c′) bits bits′ cs
-      (matched-triples xs T (suc i) (carry-on T i C b c) (carry-on T i C′ b′ c′) bits bits′ cs) =
-      kept T (suc i) (carry-on T i C b c) (carry-on T i C′ b′ c′) bits bits′ cs (omega arith) (after-alike T i u u′ hC (hb .0) hu d e) (hb .1) (h .1) in
+  level-kept : (ss ss′ : List (Sides (List ℕ))) (cs : List TripleCoins) → length cs ≡ length ss → Pairs (OnSides (Bytes t xs)) ss ss′
+      → Each (TripleInRange t) cs
+      → LevelKept t xs ss ss′ cs (matched-level xs (said-of (on-polynomials bytes) ss (dealt-triples cs)) ss′ cs)
+  unfolding matched-level said-of
+  level-kept [] [] [] n hs h = record { ranged = tt; seen = tt; said = refl }
+  level-kept [] [] (c ∷ cs) n hs h = absurd (omega arith)
+  level-kept [] (s′ ∷ ss′) cs n hs h = absurd hs
+  level-kept (s ∷ ss) [] cs n hs h = absurd hs
+  level-kept (s ∷ ss) (s′ ∷ ss′) [] n hs h = absurd (omega arith)
+  level-kept (s ∷ ss) (s′ ∷ ss′) (c ∷ cs) n hs h =
+      let r : LevelKept t xs ss ss′ cs (matched-level xs (said-of (on-polynomials bytes) ss (dealt-triples cs)) ss′ cs) =
+      level-kept ss ss′ cs (suc-inj n) (hs .1) (h .1) in
       record {
-        ranged = (triple-ranged T i c hC (hb .0) (h .0), r .ranged);
-        long = ap suc (r .long);
-        words = λ x m. λ k. sym (hu .alpha .same x m) k ∷ sym (hu .beta .same x m) k ∷ sym (hu .gamma .same x m) k ∷ r .words x m k;
+        ranged = (product-ranged s s′ c (hs .0) (h .0), r .ranged);
+        seen = (product-seen s s′ c (hs .0) (h .0), r .seen);
+        said = ap₂ (λ (z : Sides (List ℕ)) (zs : List (Sides (List ℕ))). z ∷ zs) (product-said s s′ c (hs .0) (h .0)) (r .said);
+      }
+
+  -- pairs after a level in which the same was said
+  pub next-alike : (w : Way) (ps ps′ : Ps) (ts ts′ : List (Triple (List ℕ))) → Pairs (OnPair (Bytes t xs)) ps ps′ → Pairs (OnTriple (Bytes t xs)) ts ts′
+      → said w ps′ ts′ ≡ said w ps ts → Pairs (OnPair (Bytes t xs)) (next w ps ts) (next w ps′ ts′)
+  unfolding next said
+  next-alike w ps ps′ ts ts′ hp ht e =
+      let os : List (Sides ℕ) = map opened (said w ps ts) in
+      let K : Keeps (on-polynomials bytes) (on-polynomials bytes) (Bytes t xs) = keeps-alike t xs (D .2) in
+      subst
+      (λ (z : List (Sides (List ℕ))). Pairs (OnPair (Bytes t xs)) (next w ps ts) (merged (on-polynomials bytes) w ps′ (products (on-polynomials bytes) (map opened z) ts′)))
+      (sym e)
+      (merged-kept K w ps ps′ (products (on-polynomials bytes) os ts) (products (on-polynomials bytes) os ts′) hp
+      (products-kept K os ts ts′
+      (opened-bytes t (Bytes t xs) (λ cs ds r. r .first) (said w ps ts) (said w ps′ ts′)
+      (said-kept K (sides (on-polynomials bytes) w ps) (sides (on-polynomials bytes) w ps′) ts ts′ (sides-kept K w ps ps′ hp) ht))
+      ht))
+
+  this-level : (w : Way) (ps ps′ : Ps) (a : List TripleCoins) → length a ≡ uses w (length ps) → Pairs (OnPair (Bytes t xs)) ps ps′ → Each (TripleInRange t) a
+      → LevelKept t xs (sides (on-polynomials bytes) w ps) (sides (on-polynomials bytes) w ps′) a
+      (matched-level xs (said w ps (dealt-triples a)) (sides (on-polynomials bytes) w ps′) a)
+  unfolding said
+  this-level w ps ps′ a la hp ha =
+      level-kept (sides (on-polynomials bytes) w ps) (sides (on-polynomials bytes) w ps′) a (la ∙ sym (sides-length (on-polynomials bytes) w ps))
+      (sides-kept (keeps-alike t xs (D .2)) w ps ps′ hp) ha
+
+  this-said : (w : Way) (ps ps′ : Ps) (a a′ : List TripleCoins) → LevelKept t xs (sides (on-polynomials bytes) w ps) (sides (on-polynomials bytes) w ps′) a a′
+      → said w ps′ (dealt-triples a′) ≡ said w ps (dealt-triples a)
+  unfolding said
+  this-said w ps ps′ a a′ r = r .said
+
+  -- ---- all levels
+
+  pub kept : (w : Way) (n : ℕ) (ps ps′ : Ps) (cs : List TripleCoins) → length cs ≡ used w n (length ps) → Pairs (OnPair (Bytes t xs)) ps ps′
+      → Each (TripleInRange t) cs → LevelsKept w t xs n ps ps′ cs (matched-levels xs w n ps ps′ cs)
+  unfolding matched-levels levels pairs-after used
+  kept w zero ps ps′ [] m hp h = record { ranged = tt; seen = tt; said = refl; after = hp }
+  kept w zero ps ps′ (c ∷ cs) m hp h = absurd (omega arith)
+  kept w (suc n) ps ps′ cs m hp h =
+      let a : List TripleCoins = spent w ps cs in
+      let b : List TripleCoins = unused w ps cs in
+      let a′ : List TripleCoins = matched-level xs (said w ps (dealt-triples a)) (sides (on-polynomials bytes) w ps′) a in
+      let b′ : List TripleCoins = matched-levels xs w n (next w ps (dealt-triples a)) (next w ps′ (dealt-triples a′)) b in
+      let la : length a ≡ uses w (length ps) = simp length-take (omega arith) in
+      let r : LevelKept t xs (sides (on-polynomials bytes) w ps) (sides (on-polynomials bytes) w ps′) a a′ = this-level w ps ps′ a la hp (each-take (TripleInRange t) (uses w (length ps)) cs h) in
+      let la′ : length a′ ≡ uses w (length ps′) =
+      sym (pairs-length (Seen t xs) a a′ (r .seen)) ∙ la ∙ ap (λ (k : ℕ). uses w k) (pairs-length (OnPair (Bytes t xs)) ps ps′ hp) in
+      let hn : Pairs (OnPair (Bytes t xs)) (next w ps (dealt-triples a)) (next w ps′ (dealt-triples a′)) =
+      next-alike w ps ps′ (dealt-triples a) (dealt-triples a′) hp (seen-triples t xs a a′ (r .seen)) (this-said w ps ps′ a a′ r) in
+      let lb : length b ≡ used w n (length (next w ps (dealt-triples a))) =
+      rw (next-length w ps (dealt-triples a) (omega (arith, length-map a triple-polynomials))) (omega (arith, length-drop (uses w (length ps)) cs)) in
+      let s : LevelsKept w t xs n (next w ps (dealt-triples a)) (next w ps′ (dealt-triples a′)) b b′ =
+      kept w n (next w ps (dealt-triples a)) (next w ps′ (dealt-triples a′)) b lb hn (each-drop (TripleInRange t) (uses w (length ps)) cs h) in
+      let e : a ++ b ≡ cs = take-append-drop (uses w (length ps)) cs in
+      record {
+        ranged = each-append (TripleInRange t) a′ b′ (r .ranged) (s .ranged);
+        seen = subst (λ (z : List TripleCoins). Pairs (Seen t xs) z (a′ ++ b′)) e (pairs-append (Seen t xs) a a′ b b′ (r .seen) (s .seen));
         said =
-            λ j.
-            ap₂ (λ (z : ℕ) (zs : List ℕ). z ∷ zs)
-            (ap₂ (λ (y z : List ℕ). both (value bytes y j) (value bytes z j)) (same-left T i u u′ hC (hb .0) hu d e) (same-right T i u u′ hC (hb .0) hu d e))
-            (r .said j);
-        carried = r .carried;
+            levels-split w n ps′ a′ b′ la′
+            ∙ ap₂ (λ (z : List (Sides (List ℕ))) (zs : List (List (Sides (List ℕ)))). z ∷ zs) (this-said w ps ps′ a a′ r) (s .said)
+            ∙ sym (levels-split w n ps a b la) ∙ ap (λ (z : List TripleCoins). levels w (suc n) ps (dealt-triples z)) e;
+        after =
+            subst₂ (λ (y z : Ps). Pairs (OnPair (Bytes t xs)) y z)
+            (sym (pairs-after-split w n ps a b la) ∙ ap (λ (z : List TripleCoins). pairs-after w (suc n) ps (dealt-triples z)) e)
+            (sym (pairs-after-split w n ps′ a′ b′ la′)) (s .after);
       }

@@ -1,5 +1,6 @@
 -- Laws of dealing. Assumes nothing.
 use mathlib.Core.Path.{_≡_, refl, ap₂, _∙_}
+use mathlib.Core.Bool.{true}
 use mathlib.Core.List.{List, _∷_}
 use Prim.Native.Nat.{ℕ, zero, suc, _+_, _*_, _^_, _<_}
 use native.Mathlib.Omega.{arith}
@@ -18,6 +19,7 @@ use Rattle.fields.specs.Byte.{bytes}
 use Rattle.sharing.specs.Polynomial.{value}
 use Rattle.sharing.specs.Scheme.{threshold}
 use Rattle.sharing.proofs.Shares.{length-each, each-at}
+use Rattle.ways.specs.Way.{is-way, way-of, sheet-size, drawn-size}
 use Rattle.dealer.specs.Deal.{deal-judgement, byte-shares, mask-bits, triple, triples}
 
 -- ---- shares of bytes, one after the other
@@ -54,26 +56,29 @@ module _ (t own : ℕ) where
 
 -- ---- a call is accepted exactly where it is given this
 
-pub record Deals (n own : ℕ) (words drawn sheet : List ℕ) : Type 0 where
+pub record Deals (n own last : ℕ) (words drawn sheet : List ℕ) : Type 0 where
   pub party : IsParty n own
+  pub way : is-way last ≡ true
   pub words-long : length words ≡ 1 + threshold n
-  pub drawn-long : length drawn ≡ 126 * threshold n + 62
-  pub sheet-long : length sheet ≡ 127
+  pub drawn-long : length drawn ≡ drawn-size (way-of last) (threshold n)
+  pub sheet-long : length sheet ≡ sheet-size (way-of last)
   pub mask-below : getD words 0 0 < 2 ^ 58
   pub coins-below : AllBelow p (drop 1 words)
 
-module _ (n own : ℕ) (words drawn sheet : List ℕ) where
-  pub deals : deal-judgement n own words drawn sheet ≡ Accepted → Deals n own words drawn sheet
+module _ (n own last : ℕ) (words drawn sheet : List ℕ) where
+  pub deals : deal-judgement n own last words drawn sheet ≡ Accepted → Deals n own last words drawn sheet
   unfolding deal-judgement
   deals e =
       let range = passed _ _ _ e in
+      let who = and-true _ _ (not-false _ (range .0)) in
       let sizes = passed _ _ _ (range .1) in
       let coin = passed _ _ _ (sizes .1) in
       let l = and-true _ _ (not-false _ (sizes .0)) in
       let l′ = and-true _ _ (l .0) in
       let m = and-true _ _ (not-false _ (coin .0)) in
       record {
-        party = a-party n own (not-false _ (range .0));
+        party = a-party n own (who .0);
+        way = who .1;
         words-long = eqb-true _ _ (l′ .0);
         drawn-long = eqb-true _ _ (l′ .1);
         sheet-long = eqb-true _ _ (l .1);
@@ -81,11 +86,12 @@ module _ (n own : ℕ) (words drawn sheet : List ℕ) where
         coins-below = all-below p (drop 1 words) (m .1);
       }
 
-  pub deal-accepted : Deals n own words drawn sheet → deal-judgement n own words drawn sheet ≡ Accepted
+  pub deal-accepted : Deals n own last words drawn sheet → deal-judgement n own last words drawn sheet ≡ Accepted
   unfolding deal-judgement judged
   deal-accepted h =
       simp (
         is-party n own (h .party),
+        h .way,
         eq-eqb _ _ (h .words-long),
         eq-eqb _ _ (h .drawn-long),
         eq-eqb _ _ (h .sheet-long),

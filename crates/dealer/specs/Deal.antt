@@ -1,4 +1,4 @@
--- The dealer: "One call writes keeper j's sheet of 127 words: mask share, 33 bit shares, then alpha, beta, gamma shares for each i."
+-- The dealer: "One call writes keeper j's sheet of 127 words", or of 220 for seven rounds: "mask share, 33 bit shares, then alpha, beta, gamma shares for each i."
 -- Assumes nothing.
 use mathlib.Core.Bool.{not, _&&_}
 use mathlib.Core.List.{List, [], _∷_, _++_, map}
@@ -14,15 +14,16 @@ use Rattle.refusal.specs.declared.Refusal.the-variants.{OutOfRange, WrongLength
 use Rattle.ranges.specs.Lists.{from, every}
 use Rattle.sharing.specs.Polynomial.{value, share-each}
 use Rattle.sharing.specs.Scheme.{threshold}
-use Rattle.ranges.specs.Sizes.{party, long, sheet-size}
+use Rattle.ranges.specs.Sizes.{party, long}
+use Rattle.ways.specs.Way.{is-way, way-of, triples-of, sheet-size, drawn-size}
 
 -- The refusals of `deal`, lowest number first. "the mask b (below 2^58), then its t coefficients", which are below p.
--- "That is 1 + t words and 126t + 62 bytes."
-unfoldable pub deal-judgement : (n own : ℕ) (words drawn sheet : List ℕ) → Judgement
-deal-judgement n own words drawn sheet =
+-- "That is 1 + t words and 126t + 62 bytes", or 219t + 124. `last` is the last round of the probes that it is dealt for.
+unfoldable pub deal-judgement : (n own last : ℕ) (words drawn sheet : List ℕ) → Judgement
+deal-judgement n own last words drawn sheet =
     judged
-    ((not (party n own) ⇒ OutOfRange)
-    ∷ (not (long (1 + threshold n) words && long (126 * threshold n + 62) drawn && long sheet-size sheet) ⇒ WrongLength)
+    ((not (party n own && is-way last) ⇒ OutOfRange)
+    ∷ (not (long (1 + threshold n) words && long (drawn-size (way-of last) (threshold n)) drawn && long (sheet-size (way-of last)) sheet) ⇒ WrongLength)
     ∷ (not (ltb (getD words 0 0) (2 ^ 58) && every (λ c. ltb c p) (drop 1 words)) ⇒ CoinOutOfRange)
     ∷ [])
 
@@ -50,13 +51,14 @@ unfoldable pub triples : (t own m : ℕ) (drawn : List ℕ) → List ℕ
 triples t own zero drawn = []
 triples t own (suc m) drawn = triple t own drawn ++ triples t own m (drop (2 + 3 * t) drawn)
 
--- The words are the mask's polynomial. "The drawn bytes are t coefficients for each of bits 1 to 33 of b ..; then for i = 2 to 32" a triple.
-unfoldable pub preprocessing : (t own : ℕ) (words drawn : List ℕ) → List ℕ
-preprocessing t own words drawn =
+-- The words are the mask's polynomial. "The drawn bytes are t coefficients for each of bits 1 to 33 of b ..; then" m triples.
+unfoldable pub preprocessing : (m t own : ℕ) (words drawn : List ℕ) → List ℕ
+preprocessing m t own words drawn =
     value amounts words own
     ∷ byte-shares t own (mask-bits (getD words 0 0)) drawn
-    ++ triples t own 31 (drop (33 * t) drawn)
+    ++ triples t own m (drop (33 * t) drawn)
 
 -- what the slice lent for the preprocessing holds afterwards
-abbrev pub deal-left : (n own : ℕ) (words drawn sheet : List ℕ) → List ℕ
-deal-left n own words drawn sheet = kept (deal-judgement n own words drawn sheet) (preprocessing (threshold n) own words drawn) sheet
+abbrev pub deal-left : (n own last : ℕ) (words drawn sheet : List ℕ) → List ℕ
+deal-left n own last words drawn sheet =
+    kept (deal-judgement n own last words drawn sheet) (preprocessing (triples-of (way-of last)) (threshold n) own words drawn) sheet

@@ -8,6 +8,7 @@ ghost use Rattle.fields.specs.Byte.{bytes};
 ghost use Rattle.fields.specs.Table.{Tables};
 ghost use Rattle.byte_rows.specs.Row.{multiples};
 ghost use Rattle.sharing.specs.Polynomial.{value};
+ghost use Rattle.ways.specs.Way.{way-of, triples-of, sheet-size, drawn-size};
 ghost use Rattle.dealer.specs.Deal.{deal-judgement, byte-shares, mask-bits, triple, triples, preprocessing, deal-left};
 use byte_rows::multiples;
 use fields::P;
@@ -21,35 +22,52 @@ use refusal::Refusal;
 use sharing::share_amount;
 use sharing::share_by;
 use sharing::threshold;
+use ways::drawn_bytes;
+use ways::is_way;
+use ways::sheet_words;
+use ways::triples;
 
 // A mask is below this.
 const MASKS: u64 = 1 << 58;
 
-// How many words a party gets.
-const SHEET: usize = 127;
-
-// Writes a party's 127 words of preprocessing. Nothing is written unless all of the call is
-// accepted.
-pub fn deal(n: u64, own: u64, words: &[u64], bytes: &[u8], sheet: &mut [u64]) -> Judgement
-    ensures { λ r. ⌜ (r ≡ deal-judgement n own (now (words .entry)) (now (bytes .entry)) (now (sheet .entry)))
-        × (now (sheet .exit) ≡ deal-left n own (now (words .entry)) (now (bytes .entry)) (now (sheet .entry))) ⌝ }
+// Writes a party's 127 or 220 words of preprocessing, by the last round of the probes. Nothing is
+// written unless all of the call is accepted.
+pub fn deal(
+    n: u64,
+    own: u64,
+    last: u64,
+    words: &[u64],
+    bytes: &[u8],
+    sheet: &mut [u64],
+) -> Judgement
+    ensures { λ r. ⌜ (r ≡ deal-judgement n own last (now (words .entry)) (now (bytes .entry)) (now (sheet .entry)))
+        × (now (sheet .exit) ≡ deal-left n own last (now (words .entry)) (now (bytes .entry)) (now (sheet .entry))) ⌝ }
 {
-    let judgement = judge(n, own, words, bytes, &sheet[..]);
+    let judgement = judge(n, own, last, words, bytes, &sheet[..]);
     if let Judgement::Accepted = judgement {
-        write(threshold(n) as usize, own, words, bytes, sheet);
+        write(
+            triples(last),
+            threshold(n) as usize,
+            own,
+            words,
+            bytes,
+            sheet,
+        );
     }
     judgement
 }
 
 // The first refusal that applies. The lengths are computed only of an n in its range.
-fn judge(n: u64, own: u64, words: &[u64], bytes: &[u8], sheet: &[u64]) -> Judgement
-    ensures { λ r. ⌜ r ≡ deal-judgement n own (now (words .entry)) (now (bytes .entry)) (now (sheet .entry)) ⌝ }
+fn judge(n: u64, own: u64, last: u64, words: &[u64], bytes: &[u8], sheet: &[u64]) -> Judgement
+    ensures { λ r. ⌜ r ≡ deal-judgement n own last (now (words .entry)) (now (bytes .entry)) (now (sheet .entry)) ⌝ }
 {
-    if !is_party(n, own) {
+    if !(is_party(n, own) & is_way(last)) {
         return Judgement::Refused(Refusal::OutOfRange);
     }
     let t = threshold(n) as usize;
-    if !((words.len() == 1 + t) & (bytes.len() == 126 * t + 62) & (sheet.len() == SHEET)) {
+    if !((words.len() == 1 + t)
+        & (bytes.len() == drawn_bytes(last, t))
+        & (sheet.len() == sheet_words(last))) {
         return Judgement::Refused(Refusal::WrongLength);
     }
     let mask = words[0];
@@ -60,9 +78,9 @@ fn judge(n: u64, own: u64, words: &[u64], bytes: &[u8], sheet: &[u64]) -> Judgem
 }
 
 // The mask's share, the shares of its bits, then those of the triples.
-fn write(t: usize, own: u64, words: &[u64], bytes: &[u8], sheet: &mut [u64])
-    requires { ⌜ (own < 256) × (length (now words) ≡ 1 + t) × (length (now bytes) ≡ 126 * t + 62) × (length (now sheet) ≡ 127) ⌝ }
-    ensures { λ _. ⌜ now (sheet .exit) ≡ preprocessing t own (now (words .entry)) (now (bytes .entry)) ⌝ }
+fn write(m: usize, t: usize, own: u64, words: &[u64], bytes: &[u8], sheet: &mut [u64])
+    requires { ⌜ (own < 256) × (length (now words) ≡ 1 + t) × (length (now bytes) ≡ 33 * t + m * (2 + 3 * t)) × (length (now sheet) ≡ 34 + 3 * m) × (m ≤ 62) × (t ≤ 4) ⌝ }
+    ensures { λ _. ⌜ now (sheet .exit) ≡ preprocessing m t own (now (words .entry)) (now (bytes .entry)) ⌝ }
 {
     let mask = words[0];
     sheet[0] = share_amount(mask, &words[1..], own).0;
@@ -70,7 +88,7 @@ fn write(t: usize, own: u64, words: &[u64], bytes: &[u8], sheet: &mut [u64])
     let row = multiples(point);
     let start = 33 * t;
     write_bits(t, point, &row, mask, bytes, &mut sheet[1..34]);
-    write_triples(t, point, &row, &bytes[start..], &mut sheet[34..]);
+    write_triples(m, t, point, &row, &bytes[start..], &mut sheet[34..]);
 }
 
 // The shares of the mask's lowest 33 bits, lowest first.
@@ -90,17 +108,17 @@ fn write_bits(t: usize, point: u8, row: &[u8; 256], mask: u64, drawn: &[u8], sha
     }
 }
 
-// The shares of 31 triples.
-fn write_triples(t: usize, point: u8, row: &[u8; 256], drawn: &[u8], shares: &mut [u64])
-    requires { ⌜ (31 * (2 + 3 * t) ≤ length (now drawn)) × (length (now shares) ≡ 93) × (now row ≡ multiples point) ⌝ }
-    ensures { λ _. ⌜ now (shares .exit) ≡ triples t point 31 (now (drawn .entry)) ⌝ }
+// The shares of m triples.
+fn write_triples(m: usize, t: usize, point: u8, row: &[u8; 256], drawn: &[u8], shares: &mut [u64])
+    requires { ⌜ (m * (2 + 3 * t) ≤ length (now drawn)) × (length (now shares) ≡ 3 * m) × (now row ≡ multiples point) × (m ≤ 62) × (t ≤ 4) ⌝ }
+    ensures { λ _. ⌜ now (shares .exit) ≡ triples t point m (now (drawn .entry)) ⌝ }
 {
     let logs = log_table();
     let powers = power_table();
     let step = 2 + 3 * t;
     let mut at = 0;
     let mut i = 0;
-    while i < 31 {
+    while i < m {
         let from = 3 * i;
         let to = from + 3;
         write_triple(

@@ -8,6 +8,7 @@ ghost use Rattle.search.specs.Limit.{most-probes};
 ghost use Rattle.draws.specs.Draws.{next, next-coin, later, drawn-coins, drawn-bytes, after-sheet, all-sheets};
 ghost use Rattle.panel.specs.Parties.{All, part};
 ghost use Rattle.drawn_sheets.specs.Dealt.{sheet-put, sheets-of};
+use draws::LAST;
 use draws::draw_bytes;
 use draws::draw_coins;
 use draws::next;
@@ -47,6 +48,7 @@ fn deal_next(n: u64, state: u64, at: usize, width: usize, sheets: &mut [u64]) ->
     let after = draw_sheet(state, &mut words[..words_drawn], &mut bytes[..bytes_drawn]);
     deal_each(
         n,
+        LAST,
         &words[..words_drawn],
         &bytes[..bytes_drawn],
         at,

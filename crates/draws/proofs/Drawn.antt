@@ -17,10 +17,11 @@ use Rattle.ranges.specs.Below.{AllBelow}
 use Rattle.fields.proofs.Test.{below, at}
 use Rattle.sharing.specs.Scheme.{threshold}
 use Rattle.search.specs.Limit.{most-probes}
+use Rattle.ways.specs.Way.{way-of, triples-of}
 use Rattle.comparison.specs.Probe.{SheetInRange, Group, Each, TripleInRange}
 use Rattle.auction.specs.Auction.{Auction}
 use Rattle.auction.specs.Coins.{InRange, flat, coin-words, triple-bytes, coin-bytes}
-use Rattle.draws.specs.Draws.{xor-up, xor-down, next, first-state, next-coin, later, drawn, groups, bid-coins, after-bids, triple-coins, all-triples, sheet-coins, after-sheet, all-sheets, auction-coins}
+use Rattle.draws.specs.Draws.{xor-up, xor-down, next, first-state, next-coin, later, drawn, groups, bid-coins, after-bids, last-rehearsed, triple-coins, all-triples, sheet-coins, after-sheet, all-sheets, auction-coins}
 
 -- ---- lists of draws
 
@@ -243,8 +244,8 @@ unfolding all-triples
 triples-length t zero x = refl
 triples-length t (suc m) x = ap suc (triples-length t m (later next (2 + 3 * t) x))
 
-pub sheet-in-range : (t x : ℕ) → Word x → SheetInRange t (sheet-coins t x)
-unfolding sheet-coins
+pub sheet-in-range : (t x : ℕ) → Word x → SheetInRange (way-of last-rehearsed) t (sheet-coins t x)
+unfolding sheet-coins way-of triples-of
 sheet-in-range t x h =
     let y : Word (later next-coin t (next x)) = coins-word t (next x) (next-below x h) in
     record {
@@ -265,7 +266,7 @@ unfolding all-sheets
 all-sheets-length t zero x = refl
 all-sheets-length t (suc m) x = ap suc (all-sheets-length t m (after-sheet t x))
 
-pub all-sheets-in-range : (t m x : ℕ) → Word x → Each (SheetInRange t) (all-sheets t m x)
+pub all-sheets-in-range : (t m x : ℕ) → Word x → Each (SheetInRange (way-of last-rehearsed) t) (all-sheets t m x)
 unfolding all-sheets
 all-sheets-in-range t zero x h = tt
 all-sheets-in-range t (suc m) x h = (sheet-in-range t x h, all-sheets-in-range t m (after-sheet t x) (after-sheet-word t x h))
@@ -307,13 +308,13 @@ bytes-drawn t x =
 
 -- ---- a whole auction's coins
 
-pub coins-in-range-of : (a : Auction) (seed : ℕ) → Word seed → InRange a (auction-coins (a .n) (a .k) (length (a .bids)) seed)
+pub coins-in-range-of : (a : Auction) (seed : ℕ) → a .last ≡ last-rehearsed → Word seed → InRange a (auction-coins (a .n) (a .k) (length (a .bids)) seed)
 unfolding auction-coins
-coins-in-range-of a seed h =
+coins-in-range-of a seed e h =
     let t = threshold (a .n) in
     record {
       bids-many = bid-coins-length t (a .k) (length (a .bids)) (first-state seed);
       bids = bid-coins-in-range t (a .k) (length (a .bids)) (first-state seed) (first-word seed h);
       sheets-many = all-sheets-length t (most-probes (a .k)) _;
-      sheets = all-sheets-in-range t (most-probes (a .k)) _ (after-bids-word t (a .k) (length (a .bids)) (first-state seed) (first-word seed h));
+      sheets = rw e (all-sheets-in-range t (most-probes (a .k)) _ (after-bids-word t (a .k) (length (a .bids)) (first-state seed) (first-word seed h)));
     }

@@ -64,6 +64,10 @@ after-bids t k (suc m) x = after-bids t k m (later next-coin (2 * k * t) x)
 
 -- ---- what the sheets use
 
+-- "the rehearsal keeps to 33": the last round of its probes
+abbrev pub last-rehearsed : ℕ
+last-rehearsed = 33
+
 -- "alpha, beta and t coefficients each for alpha, beta, gamma"
 unfoldable pub triple-coins : (t : ℕ) → ℕ → TripleCoins
 triple-coins t x =

@@ -5,6 +5,9 @@ ghost use lib.ListN.{length};
 ghost use Rattle.draws.specs.Draws.{next, first-state, next-coin, later, drawn-coins, drawn-bytes};
 use fields::P;
 
+// The last round of a rehearsed probe: the rehearsal keeps to 33.
+pub const LAST: u64 = 33;
+
 // Zero would stay zero.
 pub fn first_state(seed: u64) -> u64
     ensures { λ r. ⌜ r ≡ first-state seed ⌝ }

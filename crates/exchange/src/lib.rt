@@ -1,4 +1,4 @@
-// The calls, exported for C: those on a record, which is lent as its 31 words, and those that take none.
+// The calls, exported for C: those on a record, which is lent as its 64 words, and those that take none.
 // Each answers 0, or the refusal's number, and writes what it gives into what it is lent; a refused call
 // changes nothing that is lent. Beside them stands the version, by which a caller tells that the library is
 // the one that it was written for.
@@ -8,15 +8,15 @@ ghost use Rattle.bid.specs.Entry.{split-entry-left};
 ghost use Rattle.dealer.specs.Deal.{deal-left};
 ghost use Rattle.settlement.specs.Write.{write-left};
 ghost use Rattle.settlement.specs.Read.{read-left};
-ghost use Rattle.record_calls.specs.Calls.{open-code, open-totals, open-record, add-code, add-totals, add-record, say-code, say-message, hear-code, hear-record, answer-code, answer-index, answer-probes, fill-code, fill-hours, fill-remainder};
+ghost use Rattle.record_calls.specs.Calls.{open-code, open-totals, open-record, add-code, add-totals, add-record, say-code, say-messages, hear-code, hear-record, answer-code, answer-index, answer-probes, fill-code, fill-hours, fill-remainder};
 ghost use Rattle.stateless_calls.specs.Calls.{split-code, split-entry-code, deal-code, settlement-write-code, settlement-written, settlement-read-code};
 
 // The version of these calls and of the record's words. It grows by one whenever any of them changes.
 #[no_mangle]
 pub extern "C" fn clockivy_version() -> u64
-    ensures { λ r. ⌜ r ≡ 1 ⌝ }
+    ensures { λ r. ⌜ r ≡ 2 ⌝ }
 {
-    1
+    2
 }
 
 #[no_mangle]
@@ -24,14 +24,15 @@ pub extern "C" fn clockivy_open(
     n: u64,
     own: u64,
     k: u64,
+    last: u64,
     totals: &mut [u64],
     words: &mut [u64],
 ) -> u64
-    ensures { λ r. ⌜ (r ≡ open-code n own k (now (totals .entry)) (now (words .entry)))
-        × (now (totals .exit) ≡ open-totals n own k (now (totals .entry)) (now (words .entry)))
-        × (now (words .exit) ≡ open-record n own k (now (totals .entry)) (now (words .entry))) ⌝ }
+    ensures { λ r. ⌜ (r ≡ open-code n own k last (now (totals .entry)) (now (words .entry)))
+        × (now (totals .exit) ≡ open-totals n own k last (now (totals .entry)) (now (words .entry)))
+        × (now (words .exit) ≡ open-record n own k last (now (totals .entry)) (now (words .entry))) ⌝ }
 {
-    record_calls::open(n, own, k, totals, words)
+    record_calls::open(n, own, k, last, totals, words)
 }
 
 #[no_mangle]
@@ -69,14 +70,15 @@ pub extern "C" fn clockivy_split_entry(
 pub extern "C" fn clockivy_deal(
     n: u64,
     own: u64,
+    last: u64,
     words: &[u64],
     bytes: &[u8],
     sheet: &mut [u64],
 ) -> u64
-    ensures { λ r. ⌜ (r ≡ deal-code n own (now (words .entry)) (now (bytes .entry)) (now (sheet .entry)))
-        × (now (sheet .exit) ≡ deal-left n own (now (words .entry)) (now (bytes .entry)) (now (sheet .entry))) ⌝ }
+    ensures { λ r. ⌜ (r ≡ deal-code n own last (now (words .entry)) (now (bytes .entry)) (now (sheet .entry)))
+        × (now (sheet .exit) ≡ deal-left n own last (now (words .entry)) (now (bytes .entry)) (now (sheet .entry))) ⌝ }
 {
-    stateless_calls::deal(n, own, words, bytes, sheet)
+    stateless_calls::deal(n, own, last, words, bytes, sheet)
 }
 
 #[no_mangle]
@@ -98,12 +100,12 @@ pub extern "C" fn clockivy_say(
     words: &[u64],
     totals: &[u64],
     sheets: &[u64],
-    message: &mut u64,
+    messages: &mut [u64],
 ) -> u64
-    ensures { λ r. ⌜ (r ≡ say-code (now (words .entry)) (now (totals .entry)) (now (sheets .entry)))
-        × (now (message .exit) ≡ say-message (now (words .entry)) (now (totals .entry)) (now (sheets .entry)) (now (message .entry))) ⌝ }
+    ensures { λ r. ⌜ (r ≡ say-code (now (words .entry)) (now (totals .entry)) (now (sheets .entry)) (now (messages .entry)))
+        × (now (messages .exit) ≡ say-messages (now (words .entry)) (now (totals .entry)) (now (sheets .entry)) (now (messages .entry))) ⌝ }
 {
-    record_calls::say(words, totals, sheets, message)
+    record_calls::say(words, totals, sheets, messages)
 }
 
 #[no_mangle]

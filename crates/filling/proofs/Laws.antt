@@ -13,7 +13,7 @@ use Rattle.refusal.proofs.Judging.{passed}
 use Rattle.search.specs.Searches.{clears}
 use Rattle.bid.specs.Table.{most}
 use Rattle.record.specs.declared.Party.{Party}
-use Rattle.record.proofs.Soundness.{Sound, sound-facts, sound-of}
+use Rattle.record.proofs.Soundness.{Sound, sound-facts, sound-of, last-most}
 use Rattle.filling.specs.Fill.{fill-judgement}
 
 -- a sound record is in round 36 only where the searches ended at a price
@@ -22,7 +22,7 @@ open-clears q h e = split (clears (q .search)) refl
   where
     split : (t : Bool) → clears (q .search) ≡ t → t ≡ true
     split true c = refl
-    split false c = absurd (omega (arith, h .round .probing c))
+    split false c = absurd (omega (arith, h .round .probing c, last-most (q .last) (h .way)))
 
 -- so that the round alone tells whether the totals are open
 module _ (q : Party) where

@@ -2,6 +2,7 @@
 ghost use mathlib.Core.Path.{_≡_};
 ghost use Prim.Native.Nat.{_^_, _≤_, _<_};
 ghost use Rattle.bid.specs.Table.{most};
+ghost use Rattle.record.specs.Record.{sound};
 ghost use Rattle.filling.specs.Fill.{hours, remainder, fill-reply};
 use bid::MOST;
 use record::Party;
@@ -20,7 +21,15 @@ pub enum Filled {
 pub fn fill(q: Party, amount: u64) -> Filled
     ensures { λ r. ⌜ r ≡ fill-reply q amount ⌝ }
 {
-    if !sound(q) {
+    fill_judged(q, sound(q), amount)
+}
+
+// The same, of a record that who calls has judged where it stands.
+pub fn fill_judged(q: Party, whole: bool, amount: u64) -> Filled
+    requires { ⌜ whole ≡ sound q ⌝ }
+    ensures { λ r. ⌜ r ≡ fill-reply q amount ⌝ }
+{
+    if !whole {
         return Filled::Refused(Refusal::OutOfRange);
     }
     // a sound record has this round only where the searches ended at a price

@@ -1,62 +1,58 @@
--- Hearing a round: "Heard words stand keeper by keeper, keeper 1 first", and so do the marks of who was present. Assumes nothing.
-use mathlib.Core.Bool.{Bool, false, cond, not, _&&_, _||_}
-use mathlib.Core.List.{List, [], _∷_}
-use Prim.Native.Nat.{ℕ, _-_, _*_}
-use lib.Dec.{leb, eqb}
-use lib.ListN.{getD}
-use Rattle.refusal.specs.Judging.{Test, _⇒_, judged}
+-- Hearing a round: how it is judged, and what it makes of the record. Assumes nothing.
+use mathlib.Core.Path.{_≡_}
+use mathlib.Core.Bool.{true, false, cond, not, _&&_}
+use mathlib.Core.List.{List, _∷_}
+use Prim.Native.Nat.{ℕ, _*_}
+use lib.Dec.{ltb}
+use lib.ListN.{length, drop}
+use Rattle.refusal.specs.Judging.{_⇒_, judged}
 use Rattle.refusal.specs.declared.Judgement.{Judgement}
-use Rattle.refusal.specs.declared.Refusal.the-variants as refusal
+use Rattle.refusal.specs.declared.Refusal.the-variants.{OutOfRange, WrongLength, OutOfTurn}
+use Rattle.ranges.specs.Lists.{every}
 use Rattle.ranges.specs.Sizes.{long}
-use Rattle.sharing.specs.Scheme.{threshold}
-use Rattle.presence.specs.Presence.{are-marks, how-many, is-present}
+use Rattle.presence.specs.Presence.{are-marks, how-many}
 use Rattle.record.specs.declared.Party.{Party}
 use Rattle.record.specs.declared.Reply.{Reply}
-use Rattle.round.specs.declared.Heard.{Heard}
-use Rattle.round.specs.declared.Heard.the-variants.{Sum, Factors, Verdict, Total, Unopened}
-use Rattle.round.specs.Round.{heard, unopened, sum-outside, verdict-outside}
-use Rattle.record.specs.Record.{are-totals, sound, ended, replied}
-use Rattle.stepping.specs.After.{after}
-use Rattle.saying.specs.Say.{sheets-long, current, in-field, message}
+use Rattle.record.specs.Record.{sound, ended, replied}
+use Rattle.round.specs.Round.{heard}
+use Rattle.level.specs.Level.{level-kept}
+use Rattle.level_round.specs.Columns.{level-sides}
+use Rattle.message.specs.Message.{sheet-words, in-level}
+use Rattle.saying.specs.Say.{sheets-long, current}
+use Rattle.stepping.specs.After.{role, after, after-level}
+use Rattle.listening.specs.Listen.{width-of, of-messages}
 
--- "An opened total of 2^32 or more, or S above D, is 11": round 34 opens D, round 35 S, and the other is the record's
-abbrev pub total-outside : (round demand supply : ℕ) → Heard → Bool
-total-outside round demand supply (Sum v) = false
-total-outside round demand supply (Factors d e) = false
-total-outside round demand supply (Verdict v) = false
-total-outside round demand supply (Total v) = not (are-totals (cond (eqb round 34) v demand) (cond (eqb round 34) supply v))
-total-outside round demand supply Unopened = false
+-- what the round makes of the record
+unfoldable pub heard-next : (q : Party) (sheet messages present : List ℕ) → Party
+heard-next q sheet messages present =
+    cond (in-level q) (after-level q (level-kept (q .round) (q .sum) (q .pairs .words) sheet (level-sides (q .n) (q .round) present messages)))
+    (after q sheet (heard (q .n) (role q) present messages))
 
--- "The own word is compared only if its keeper is marked." What the party would say is worked out for this comparison alone, so a party that
--- is not marked uses no word of the totals.
 unfoldable pub hear-judgement : (q : Party) (totals sheets messages present : List ℕ) → Judgement
 hear-judgement q totals sheets messages present =
-    let here = is-present present (q .own) in
-    let opening = heard (q .n) (q .round) present messages in
     judged
-    ((not (sound q && are-marks present) ⇒ refusal.OutOfRange)
-    ∷ (not (long (2 * q .k) totals && long (sheets-long (q .k)) sheets && (long (q .n) messages && long (q .n) present)) ⇒ refusal.WrongLength)
-    ∷ (ended q ⇒ refusal.OutOfTurn)
-    ∷ (leb (how-many present) (threshold (q .n)) ⇒ refusal.TooFewPresent)
-    ∷ (not (in-field q here totals (current q sheets)) ⇒ refusal.ShareOutOfRange)
-    ∷ (here && not (eqb (getD messages (q .own - 1) 0) (message q totals (current q sheets))) ⇒ refusal.OwnMessageDiffers)
-    ∷ (unopened opening ⇒ refusal.Inconsistent)
-    ∷ ((sum-outside opening || total-outside (q .round) (q .demand) (q .supply) opening) ⇒ refusal.SumOutOfRange)
-    ∷ (verdict-outside opening ⇒ refusal.VerdictNotBit)
-    ∷ [])
-
--- the tests of what the messages open to, alone
-abbrev pub of-opening : (round demand supply : ℕ) → Heard → List Test
-of-opening round demand supply opening =
-    (unopened opening ⇒ refusal.Inconsistent)
-    ∷ ((sum-outside opening || total-outside round demand supply opening) ⇒ refusal.SumOutOfRange)
-    ∷ (verdict-outside opening ⇒ refusal.VerdictNotBit)
-    ∷ []
-
-abbrev pub opening-judgement : (round demand supply : ℕ) → Heard → Judgement
-opening-judgement round demand supply opening = judged (of-opening round demand supply opening)
+    ((not (sound q && are-marks present) ⇒ OutOfRange)
+    ∷ (not (long (2 * q .k) totals && long (sheets-long (q .k) (q .last)) sheets && (long (q .n * width-of q) messages && long (q .n) present)) ⇒ WrongLength)
+    ∷ (ended q ⇒ OutOfTurn)
+    ∷ of-messages q totals (current q sheets) messages present)
 
 -- "The board steps a keeper's record by each heard round": what it leaves is the reply's record
 abbrev pub hear-reply : (q : Party) (totals sheets messages present : List ℕ) → Reply
 hear-reply q totals sheets messages present =
-    replied (hear-judgement q totals sheets messages present) (after q (current q sheets) (heard (q .n) (q .round) present messages)) q
+    replied (hear-judgement q totals sheets messages present) (heard-next q (current q sheets) messages present) q
+
+-- what a party has that has the turn: refusals 1, 2 and 3 are out
+pub record HasTurn (q : Party) (totals sheet : List ℕ) (count : ℕ) (messages present : List ℕ) : Type 0 where
+  pub sound : sound q ≡ true
+  pub going : ended q ≡ false
+  pub totals-long : length totals ≡ 2 * q .k
+  pub sheet-long : length sheet ≡ sheet-words q
+  pub counted : count ≡ how-many present
+  pub messages-long : length messages ≡ q .n * width-of q
+  pub marks-long : length present ≡ q .n
+
+-- and a sheet that is judged: refusal 8 is out
+pub record HasSheet (q : Party) (sheet : List ℕ) : Type 0 where
+  pub sound : sound q ≡ true
+  pub sheet-long : length sheet ≡ sheet-words q
+  pub sheet-bytes : every (λ w. ltb w 256) (drop 1 sheet) ≡ true

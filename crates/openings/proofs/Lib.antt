@@ -1,5 +1,5 @@
 -- The laws of opening, and lemmas that the functions' proofs share. Other crates cite Laws, for weights of their own Rows and
--- Weighing, and for an opening of their own Numbers, Settled and Parts.
+-- Weighing, and for an opening of their own Numbers, Settled, Parts, Packed and Weighted.
 pub mod Weighing
 pub mod Rows
 pub mod Laws
@@ -8,5 +8,5 @@ pub mod Settled
 pub mod Parts
 mod Sums
 mod Powers
-mod Packed
-mod Weighted
+pub mod Packed
+pub mod Weighted

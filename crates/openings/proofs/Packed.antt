@@ -37,7 +37,7 @@ products-lt [] ys hx hy = tt
 products-lt (x ∷ xs) [] hx hy = tt
 products-lt (x ∷ xs) (y ∷ ys) hx hy = (byte-field .ring .mul-lt x y (hx .0) (hy .0), products-lt xs ys (hx .1) (hy .1))
 
-packed-xor : (a b p q : ℕ) → a < 256 → b < 256 → xor (a + 256 * p) (b + 256 * q) ≡ xor a b + 256 * xor p q
+pub packed-xor : (a b p q : ℕ) → a < 256 → b < 256 → xor (a + 256 * p) (b + 256 * q) ≡ xor a b + 256 * xor p q
 unfolding xor
 packed-xor a b p q ha hb =
     let ea : a + 256 * p ≡ p * 2 ^ 8 + a = omega arith in

@@ -3,20 +3,20 @@ use mathlib.Core.Path.{_≡_, refl, sym, ap, ap₂, _∙_}
 use mathlib.Core.Bool.{Bool, true, false, cond, _&&_}
 use mathlib.Core.List.{List, [], _∷_, map}
 use Prim.Native.Nat.{ℕ, suc, _+_, _-_, _/_, _%_, _≤_, _<_}
-use native.Mathlib.Nat.{mod-lt, mod-eq-of-lt}
+use native.Mathlib.Nat.{mod-lt}
 use native.Mathlib.Omega.{arith}
 use lib.Dec.{leb, ltb, eqb, lit<}
 use lib.ListN.{length, getD, length-map}
 use lib.Seq.{getD-take}
-use borrow.Author.Tests.{ltb-true, ltb-false, lt-ltb, le-ltb}
+use borrow.Author.Tests.{ltb-true}
 use Rattle.fields.specs.Byte.{xor, bytes}
 use Rattle.openings.specs.Packed.{packed}
 use Rattle.fields.proofs.Fields.{byte-field}
 use Rattle.fields.proofs.Test.{is-true, at}
 use Rattle.ranges.specs.Below.{AllBelow}
 use Rattle.ranges.specs.Lists.{every}
-use Rattle.ranges.proofs.Loops.{and-true, and-false, length-from, getD-from, every-at}
-use Rattle.ranges.proofs.Ranges.{all-below, is-below}
+use Rattle.ranges.proofs.Loops.{and-false, length-from, getD-from, every-at}
+use Rattle.ranges.proofs.Ranges.{all-below}
 use Rattle.sharing.specs.Scheme.{threshold, points}
 use Rattle.sharing.proofs.Points.{different-points, points-below}
 use Rattle.weights.specs.Rows.{weights, byte-rows, byte-scheme}
@@ -50,17 +50,17 @@ module _ (n : ℕ) (words : List ℕ) (C : Counted n words) where
 weight-test : ℕ → Bool
 weight-test k = every (ltb 0) (weights byte-scheme (k + 3))
 
-module _ (n : ℕ) (words : List ℕ) (R : Readable 256 n words) where
-  pub weight-positive : (i : ℕ) → i < n → 0 < getD (getD byte-rows (n - 3) []) i 0
-  unfolding weight-test every
-  weight-positive i h =
-      let e : n - 3 + 3 ≡ n = omega (arith, R .least) in
-      let t : every (ltb 0) (weights byte-scheme n) ≡ true =
-      ap (λ (k : ℕ). every (ltb 0) (weights byte-scheme k)) (sym e) ∙ is-true _ (at weight-test 7 tt (n - 3) (omega (arith, R .most))) in
-      ltb-true 0 _
-      (ap (ltb 0) (sym (getD-take n (getD byte-rows (n - 3) []) i 0 h))
-      ∙ every-at (ltb 0) (weights byte-scheme n) i t (rw (length-weights byte-scheme tt n (R .least) (R .most)) h))
+pub weight-positive : (n i : ℕ) → 3 ≤ n → n ≤ 9 → i < n → 0 < getD (getD byte-rows (n - 3) []) i 0
+unfolding weight-test every
+weight-positive n i least most h =
+    let e : n - 3 + 3 ≡ n = omega arith in
+    let t : every (ltb 0) (weights byte-scheme n) ≡ true =
+    ap (λ (k : ℕ). every (ltb 0) (weights byte-scheme k)) (sym e) ∙ is-true _ (at weight-test 7 tt (n - 3) (omega arith)) in
+    ltb-true 0 _
+    (ap (ltb 0) (sym (getD-take n (getD byte-rows (n - 3) []) i 0 h))
+    ∙ every-at (ltb 0) (weights byte-scheme n) i t (rw (length-weights byte-scheme tt n least most) h))
 
+module _ (n : ℕ) (words : List ℕ) (R : Readable 256 n words) where
   weighted-many : length (weighted n words) ≡ n
   weighted-many = length-weighted byte-scheme tt n (R .least) (R .most) words (R .long)
 

@@ -108,9 +108,16 @@ fn sums(n: u64, words: &[u64], logs: &[u8; 256], powers: &[u8; 256]) -> Summed
     Summed { low, high }
 }
 
-// What a word brings to each of the sums: itself with its weight, that times its point, and so on.
-// Exponents are added, so each product more takes one look into a table.
-fn terms(weight: u8, word: u8, point: u8, count: u64, logs: &[u8; 256], powers: &[u8; 256]) -> u64
+// What a word brings to each of the sums: itself with its weight, that times its point, and so on. No weight and no
+// point of a party is 0. Exponents are added, so each product more takes one look into a table.
+pub fn terms(
+    weight: u8,
+    word: u8,
+    point: u8,
+    count: u64,
+    logs: &[u8; 256],
+    powers: &[u8; 256],
+) -> u64
     requires { ⌜ (0 < weight) × (0 < point) × (count ≤ 5) × Tables (now logs) (now powers) ⌝ }
     ensures { λ r. ⌜ r ≡ packed (moments bytes count (point ∷ []) (bytes .mul weight word ∷ [])) ⌝ }
 {

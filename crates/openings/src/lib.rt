@@ -8,4 +8,5 @@ pub use byte::Pair;
 pub use byte::open_byte;
 pub use byte::open_pair;
 pub use byte::open_pair_by;
+pub use byte::terms;
 pub use opening::Opening;

@@ -3,17 +3,17 @@ use mathlib.Core.Path.{_≡_, refl, sym, ap, ap₂, _∙_}
 use mathlib.Core.List.{List, [], _∷_, _++_, map}
 use mathlib.Core.Logic.{⊎-elim}
 use Prim.Native.Nat.{ℕ, zero, suc, _+_, _-_, _*_, _≤_, _<_}
-use native.Mathlib.Nat.{mul-le-mul-right, eq-or-lt-of-le}
+use native.Mathlib.Nat.{mul-le-mul-right, eq-or-lt-of-le, zero-mul}
 use native.Mathlib.Decide.{decLe}
 use native.Mathlib.Omega.{arith}
-use lib.ListN.{length, take, drop, set, getD, replicate, length-drop, length-set, length-map, length-append, take-append-drop}
-use lib.Seq.{length-take-le, take-append-le, drop-append-le, take-at, drop-at, drop-drop, getD-set-same, getD-set-other, ext-getD}
+use lib.ListN.{length, take, drop, set, getD, replicate, length-drop, length-set, length-append, take-append-drop}
+use lib.Seq.{length-take-le, take-append-le, drop-append-le, take-at, drop-at, drop-drop, getD-set-same, getD-set-other}
 use borrow.Rule.Slice.PartMut.{putMid, same-len-mid, drop-put}
 use Rattle.ranges.specs.Lists.{from}
-use Rattle.ranges.proofs.Loops.{length-from, map-from}
 use Rattle.search.specs.Limit.{most-probes}
 use Rattle.search.proofs.Logarithm.{limit-least}
-use Rattle.panel.specs.Parties.{part}
+use Rattle.auction.specs.Coins.{flat}
+use Rattle.panel.specs.Parties.{All, part}
 
 -- room for one part more
 pub room : (w n j : ℕ) → j < n → j * w + w ≤ n * w
@@ -143,12 +143,31 @@ pub part-read : (w i at k : ℕ) (xs : List ℕ) → at ≡ i * w → k ≡ w �
 unfolding part
 part-read w i at k xs ea ek = ap₂ (λ (u v : ℕ). take u (drop v xs)) ek ea
 
--- all places of a list are written
-pub rowed-all : (n : ℕ) (f : ℕ → ℕ) (old xs : List ℕ) (j : ℕ) → Rowed 0 n f old xs j → length old ≡ n → n ≤ j → xs ≡ map f (from 0 n)
-rowed-all n f old xs j R l h =
-    let long : length xs ≡ n = R .long ∙ l in
-    ext-getD 0 xs (map f (from 0 n)) (long ∙ sym (length-map (from 0 n) f ∙ length-from 0 n))
-    (λ i m. R .done i (omega arith) ∙ sym (map-from f 0 0 n i (omega arith) ∙ ap f (omega arith)))
+-- what all parts are, one after another, the whole is
+parts-from : (w a m : ℕ) (f : ℕ → List ℕ) (xs : List ℕ) → length xs ≡ m * w → All m (λ i. part w i xs ≡ f (a + i)) → xs ≡ flat (map f (from a m))
+unfolding part flat from
+parts-from w a zero f [] l e = refl
+parts-from w a zero f (x ∷ xs) l e = absurd (omega arith)
+parts-from w a (suc m) f xs l e =
+    let first : take w xs ≡ f a = ap (λ (k : ℕ). take w (drop k xs)) (sym (zero-mul w)) ∙ e 0 (omega arith) ∙ ap f (omega arith) in
+    sym (take-append-drop w xs)
+    ∙ ap₂ _++_ first
+    (parts-from w (suc a) m f (drop w xs) (length-drop w xs ∙ omega arith)
+    (λ i h.
+    let k : w + i * w ≡ suc i * w = omega arith in
+    ap (take w) (drop-drop (i * w) w xs ∙ ap (λ (k : ℕ). drop k xs) k) ∙ e (suc i) (omega arith) ∙ ap f (omega arith)))
+
+pub parts-flat : (w n : ℕ) (f : ℕ → List ℕ) (xs : List ℕ) → length xs ≡ n * w → All n (λ i. part w i xs ≡ f i) → xs ≡ flat (map f (from 0 n))
+parts-flat w n f xs l e = parts-from w 0 n f xs l (λ i h. e i h ∙ ap f (omega arith))
+
+-- a part of one word of a list of one number
+pub one-part : (n i x : ℕ) → i < n → part 1 i (replicate n x) ≡ x ∷ []
+unfolding part
+one-part zero i x h = absurd (omega arith)
+one-part (suc n) zero x h = refl
+one-part (suc n) (suc i) x h =
+    let k : suc i * 1 ≡ suc (i * 1) = omega arith in
+    ap (λ (k : ℕ). take 1 (drop k (replicate (suc n) x))) k ∙ one-part n i x (omega arith)
 
 pub sheets-eighteen : (k : ℕ) → k ≤ 256 → most-probes k ≤ 18
 unfolding most-probes

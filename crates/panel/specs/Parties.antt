@@ -2,6 +2,7 @@
 use mathlib.Core.List.{List, _++_}
 use Prim.Native.Nat.{ℕ, _+_, _*_, _<_}
 use lib.ListN.{take, drop, getD, replicate}
+use Rattle.ways.specs.Way.{way-of, sheet-size}
 use Rattle.bid.specs.Split.{split-left}
 use Rattle.dealer.specs.Deal.{deal-left}
 use Rattle.record.specs.declared.Party.{Party}
@@ -34,6 +35,7 @@ totals-added n k bidder table coins parties totals i =
 -- ---- a sheet
 
 -- a party's sheets, with the one at a place dealt
-unfoldable pub sheet-dealt : (n own : ℕ) (words drawn : List ℕ) (at : ℕ) → List ℕ → List ℕ
-sheet-dealt n own words drawn at sheets =
-    take at sheets ++ (deal-left n own words drawn (take 127 (drop at sheets)) ++ drop (at + 127) sheets)
+unfoldable pub sheet-dealt : (n own last : ℕ) (words drawn : List ℕ) (at : ℕ) → List ℕ → List ℕ
+sheet-dealt n own last words drawn at sheets =
+    let size = sheet-size (way-of last) in
+    take at sheets ++ (deal-left n own last words drawn (take size (drop at sheets)) ++ drop (at + size) sheets)

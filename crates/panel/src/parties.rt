@@ -18,21 +18,21 @@ pub fn returned(reply: Reply) -> Party
     reply.party
 }
 
-// Opens the sessions of all parties.
-pub fn open_all(n: u64, k: u64, totals: &mut [u64]) -> [Party; 9]
+// Opens the sessions of all parties, with the last round of their probes.
+pub fn open_all(n: u64, k: u64, last: u64, totals: &mut [u64]) -> [Party; 9]
     requires { ⌜ (n ≤ 9) × (k ≤ 256) × (length (now totals) ≡ n * (2 * k)) ⌝ }
-    ensures { λ r. ⌜ All n (λ i. (getD r i blank ≡ open-reply n (i + 1) k (part (2 * k) i (now (totals .entry))) .party)
-        × (part (2 * k) i (now (totals .exit)) ≡ open-left n (i + 1) k (part (2 * k) i (now (totals .entry))))) ⌝ }
+    ensures { λ r. ⌜ All n (λ i. (getD r i blank ≡ open-reply n (i + 1) k last (part (2 * k) i (now (totals .entry))) .party)
+        × (part (2 * k) i (now (totals .exit)) ≡ open-left n (i + 1) k last (part (2 * k) i (now (totals .entry))))) ⌝ }
 {
     let width = 2 * k as usize;
-    let last = n as usize;
+    let count = n as usize;
     let nobody = blank();
     let mut parties = [nobody; 9];
     let mut at = 0;
     let mut i = 0;
-    while i < last {
+    while i < count {
         let next = at + width;
-        let reply = open(n, i as u64 + 1, k, &mut totals[at..next]);
+        let reply = open(n, i as u64 + 1, k, last, &mut totals[at..next]);
         parties[i] = returned(reply);
         at = next;
         i += 1;

@@ -1,4 +1,4 @@
-// A round of all parties: each says its word, and all words go to each party's hearing.
+// A round of all parties: each says its words, and all words go to each party's hearing.
 mod rounds;
 mod turns;
 

@@ -3,6 +3,7 @@
 ghost use mathlib.Core.Path.{_≡_};
 ghost use mathlib.Core.List.{map};
 ghost use Prim.Native.Nat.{_/_, _%_};
+ghost use Rattle.fields.specs.Table.{Tables};
 ghost use Rattle.weights.specs.Rows.{amount-scheme, byte-scheme};
 ghost use Rattle.presence.specs.Presence.{all-or};
 ghost use Rattle.present_openings.specs.Present.{opened-by};
@@ -15,6 +16,7 @@ use openings::Pair;
 use openings::open_amount;
 use openings::open_byte;
 use openings::open_pair;
+use openings::open_pair_by;
 use openings_at::open_amounts_at;
 use openings_at::open_pairs_at;
 use sharing::threshold;
@@ -41,7 +43,7 @@ pub fn open_present_byte(n: u64, all: bool, present: &[u8], words: &[u64]) -> Op
     if !are_bytes(present, words) {
         return Opening::Inconsistent;
     }
-    let pair = open_some(n, present, words);
+    let pair = open_some_by(n, present, words, &log_table(), &power_table());
     pair.low
 }
 
@@ -53,12 +55,32 @@ pub fn open_present_pair(n: u64, all: bool, present: &[u8], words: &[u64]) -> Pa
     if all {
         return open_pair(n, words);
     }
-    open_some(n, present, words)
+    open_some_by(n, present, words, &log_table(), &power_table())
 }
 
-// Bytes are opened as words of two with nothing above them. With one function for both the compiler leaves it, and
-// its tables, apart from the rest of a hearing, which otherwise takes longer in every round.
-fn open_some(n: u64, present: &[u8], words: &[u64]) -> Pair
+// The same by tables that several openings have in common.
+pub fn open_present_pair_by(
+    n: u64,
+    all: bool,
+    present: &[u8],
+    words: &[u64],
+    logs: &[u8; 256],
+    powers: &[u8; 256],
+) -> Pair
+    requires { ⌜ Tables (now logs) (now powers) ⌝ }
+    ensures { λ r. ⌜ (r .low ≡ opened-by byte-scheme n (all-or «all» n (now (present .entry))) (map (λ w. w % 256) (now (words .entry))))
+        × (r .high ≡ opened-by byte-scheme n (all-or «all» n (now (present .entry))) (map (λ w. w / 256) (now (words .entry)))) ⌝ }
+{
+    if all {
+        return open_pair_by(n, words, logs, powers);
+    }
+    open_some_by(n, present, words, logs, powers)
+}
+
+// Bytes are opened as words of two with nothing above them. With one function for all the compiler leaves it apart from
+// the rest of a hearing, which otherwise takes longer in every round.
+fn open_some_by(n: u64, present: &[u8], words: &[u64], logs: &[u8; 256], powers: &[u8; 256]) -> Pair
+    requires { ⌜ Tables (now logs) (now powers) ⌝ }
     ensures { λ r. ⌜ (r .low ≡ opened-by byte-scheme n (now (present .entry)) (map (λ w. w % 256) (now (words .entry))))
         × (r .high ≡ opened-by byte-scheme n (now (present .entry)) (map (λ w. w / 256) (now (words .entry)))) ⌝ }
 {
@@ -66,13 +88,11 @@ fn open_some(n: u64, present: &[u8], words: &[u64]) -> Pair
     let count = heard.count;
     let points = heard.parties;
     let mut left = heard.words;
-    let logs = log_table();
-    let powers = power_table();
     open_pairs_at(
         threshold(n),
         &points[..count],
         &mut left[..count],
-        &logs,
-        &powers,
+        logs,
+        powers,
     )
 }

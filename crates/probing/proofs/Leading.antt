@@ -19,6 +19,7 @@ use Rattle.search.specs.Search.{promise, follow}
 use Rattle.search.proofs.Narrowing.{middle-above, middle-below}
 use Rattle.search.proofs.Bounds.{Sound, in-first, in-second, probing, roomy-sound, probes-few, probes-enough, next-probes, next-second, next-goes-on, next-turns, moves-told}
 use Rattle.search.proofs.Promised.{Promised, promised-start, promised-next}
+use Rattle.ways.specs.Way.{way-of}
 use Rattle.comparison.specs.Probe.{SheetCoins}
 use Rattle.record.specs.declared.Party.{Party}
 use Rattle.record.specs.Record.{blank}
@@ -41,6 +42,7 @@ use Rattle.listing.specs.declared.course.Course.{Course}
 use Rattle.listing.specs.Lines.{most-listed, course-trail}
 use Rattle.probing.specs.Follows.{as-listed, priced, Follows, moved-end, verdict-read}
 use Rattle.panel.proofs.Parts.{sheets-eighteen}
+use Rattle.standing.specs.Numbered.{rehearsed}
 use Rattle.standing.proofs.Standing.{Stands, verdict-at, Probes, Closes}
 use Rattle.standing.proofs.Rounds.{first-record}
 
@@ -130,12 +132,12 @@ pub record Led (a : Auction) (c : Coins) (now : List Party) (totals sheets index
   pub counted : here .probes ≡ done
   pub stands : Stands a c (decided-stage here) now totals sheets
   pub promised : Promised (demand a) (supply a) (a .k) here
-  pub noted : course-trail index verdicts done ++ as-listed (map decision (made a (polynomials a c) here (drop done (c .sheets)))) ≡ as-listed (probed a)
-  pub leads : after-probes here (made a (polynomials a c) here (drop done (c .sheets))) ≡ last a c
+  pub noted : course-trail index verdicts done ++ as-listed (map (decision (way-of (a .last))) (made a (polynomials a c) here (drop done (c .sheets)))) ≡ as-listed (probed a)
+  pub leads : after-probes (way-of (a .last)) here (made a (polynomials a c) here (drop done (c .sheets))) ≡ last a c
 
 module _ (n k : ℕ) (bids : List Bid) (c : Coins) where
   abbrev a : Auction
-  a = record { n = n; k = k; bids = bids }
+  a = rehearsed n k bids
 
   abbrev left : Search → ℕ → List Made
   left here done = made a (polynomials a c) here (drop done (c .sheets))
@@ -194,9 +196,9 @@ module _ (n k : ℕ) (bids : List Bid) (c : Coins) where
           ∙ made-going a (polynomials a c) at-first s (drop (suc done) (c .sheets)) open-here
           ∙ ap (λ (m : ℕ). this ∷ left (next at-first v) m) (sym (add-one done))
 
-      leads-on : after-probes (next at-first v) (left (next at-first v) (done + 1)) ≡ last a c
+      leads-on : after-probes (way-of (a .last)) (next at-first v) (left (next at-first v) (done + 1)) ≡ last a c
       unfolding follow
-      leads-on = ap (after-probes at-first) (sym one-less) ∙ L .leads
+      leads-on = ap (after-probes (way-of (a .last)) at-first) (sym one-less) ∙ L .leads
 
       -- one probe more
       pub led-more : (i mv : ℕ) → i ≡ middle (getD now 0 blank .search .bracket) → mv ≡ verdict-read (getD now 0 blank .search) (getD after 0 blank .search)
@@ -207,7 +209,7 @@ module _ (n k : ℕ) (bids : List Bid) (c : Coins) where
           let vb : mv ≡ v =
           em ∙ ap₂ verdict-read (first-search-is at-first now (L .stands)) (first-search-is (next at-first v) after later) ∙ verdict-read-is in
           let r : List (ℕ × ℕ) = course-trail index verdicts done in
-          let rest : List (ℕ × ℕ) = as-listed (map decision (left (next at-first v) (done + 1))) in
+          let rest : List (ℕ × ℕ) = as-listed (map (decision (way-of (a .last))) (left (next at-first v) (done + 1))) in
           record {
             here = next at-first v;
             counted = next-probes at-first v ∙ ap (λ (x : ℕ). x + 1) (L .counted);
@@ -217,7 +219,7 @@ module _ (n k : ℕ) (bids : List Bid) (c : Coins) where
                 ap (λ (z : List (ℕ × ℕ)). z ++ rest) (noted-more index verdicts done i mv li lm h)
                 ∙ append-assoc r ((i, mv) ∷ []) rest
                 ∙ ap₂ (λ (x y : ℕ). r ++ ((x, y) ∷ rest)) ib vb
-                ∙ ap (λ (ds : List Made). r ++ as-listed (map decision ds)) (sym one-less)
+                ∙ ap (λ (ds : List Made). r ++ as-listed (map (decision (way-of (a .last))) ds)) (sym one-less)
                 ∙ L .noted;
             leads = leads-on;
           }
@@ -230,11 +232,11 @@ module _ (n k : ℕ) (bids : List Bid) (c : Coins) where
 
       noted-all : course-trail index verdicts done ≡ as-listed (probed a)
       noted-all =
-          sym (append-nil _) ∙ ap (λ (ds : List Made). course-trail index verdicts done ++ as-listed (map decision ds)) (sym none-left) ∙ L .noted
+          sym (append-nil _) ∙ ap (λ (ds : List Made). course-trail index verdicts done ++ as-listed (map (decision (way-of (a .last))) ds)) (sym none-left) ∙ L .noted
 
       at-last : L .here ≡ last a c
       unfolding follow
-      at-last = ap (after-probes (L .here)) (sym none-left) ∙ L .leads
+      at-last = ap (after-probes (way-of (a .last)) (L .here)) (sym none-left) ∙ L .leads
 
       -- party 1's record once the session is over
       closed : getD after 0 blank ≡ record-at a c (end a c) 1

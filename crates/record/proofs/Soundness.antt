@@ -1,6 +1,6 @@
 -- A sound record, in facts. Assumes nothing.
 use mathlib.Core.Path.{_≡_, refl, sym, _∙_}
-use mathlib.Core.Bool.{Bool, true, false, cond, _&&_, true≢false}
+use mathlib.Core.Bool.{Bool, true, false, cond, _&&_, _||_, true≢false}
 use Prim.Native.Nat.{ℕ, _+_, _^_, _≤_, _<_}
 use native.Mathlib.Omega.{arith}
 use lib.Dec.{leb, eqb}
@@ -15,21 +15,23 @@ use Rattle.search.proofs.Bounds as searches
 use Rattle.search.proofs.Cleared.{going-clears}
 use Rattle.roll.specs.Marks.{marked, marks}
 use Rattle.roll.proofs.Laws.{Proper, proper-facts, proper-of, marks-most, all-marked}
+use Rattle.ways.specs.Way.{is-way}
+use Rattle.kept_pairs.specs.Pairs.{small}
 use Rattle.record.specs.declared.Party.{Party}
 use Rattle.record.specs.Record.{are-totals, round-sound, sound, ended}
 
 -- a round that is in turn: of a probe, or of the totals at the price
-pub record RoundSound (s : Search) (round : ℕ) : Type 0 where
+pub record RoundSound (s : Search) (last round : ℕ) : Type 0 where
   pub least : 1 ≤ round
-  pub probing : clears s ≡ false → round ≤ 33
+  pub probing : clears s ≡ false → round ≤ last
   pub opening : clears s ≡ true → (34 ≤ round) × (round ≤ 36)
 
-module _ (s : Search) (round : ℕ) where
-  round-facts : round-sound s round ≡ true → RoundSound s round
+module _ (s : Search) (last round : ℕ) where
+  round-facts : round-sound s last round ≡ true → RoundSound s last round
   unfolding round-sound
   round-facts e = split (clears s) refl e
     where
-      split : (t : Bool) → clears s ≡ t → cond t (leb 34 round && leb round 36) (leb 1 round && leb round 33) ≡ true → RoundSound s round
+      split : (t : Bool) → clears s ≡ t → cond t (leb 34 round && leb round 36) (leb 1 round && leb round last) ≡ true → RoundSound s last round
       split true c e =
           let h = and-true (leb 34 round) (leb round 36) e in
           let least = leb-true 34 round (h .0) in
@@ -39,20 +41,20 @@ module _ (s : Search) (round : ℕ) where
             opening = λ d. (least, leb-true round 36 (h .1));
           }
       split false c e =
-          let h = and-true (leb 1 round) (leb round 33) e in
+          let h = and-true (leb 1 round) (leb round last) e in
           record {
             least = leb-true 1 round (h .0);
-            probing = λ d. leb-true round 33 (h .1);
+            probing = λ d. leb-true round last (h .1);
             opening = λ d. absurd (true≢false (sym d ∙ c));
           }
 
-  round-of : RoundSound s round → round-sound s round ≡ true
+  round-of : RoundSound s last round → round-sound s last round ≡ true
   unfolding round-sound
   round-of h = split (clears s) refl
     where
-      split : (t : Bool) → clears s ≡ t → cond t (leb 34 round && leb round 36) (leb 1 round && leb round 33) ≡ true
+      split : (t : Bool) → clears s ≡ t → cond t (leb 34 round && leb round 36) (leb 1 round && leb round last) ≡ true
       split true c = rw (le-leb 34 round (h .opening c .0), le-leb round 36 (h .opening c .1))
-      split false c = rw (le-leb 1 round (h .least), le-leb round 33 (h .probing c))
+      split false c = rw (le-leb 1 round (h .least), le-leb round last (h .probing c))
 
 -- totals of which supply is at most demand
 pub totals-facts : (demand supply : ℕ) → are-totals demand supply ≡ true → (demand < 2 ^ 32) × (supply ≤ demand)
@@ -68,18 +70,22 @@ totals-of demand supply small le = rw (lt-ltb demand (2 ^ 32) small, lt-ltb supp
 pub record Sound (q : Party) : Type 0 where
   pub listed : OnList (q .n) (q .own) (q .k)
   pub search : searches.Sound (q .k) (q .search)
-  pub round : RoundSound (q .search) (q .round)
+  pub round : RoundSound (q .search) (q .last) (q .round)
   pub sum : q .sum < 2 ^ 59 + 2 ^ 33
   pub carry : q .carry ≤ 255
   pub roll : Proper (q .roll)
   pub bids : q .bids ≡ marks (q .roll)
   pub totals : (q .demand < 2 ^ 32) × (q .supply ≤ q .demand)
+  pub way : is-way (q .last) ≡ true
+  pub pairs : small (q .pairs) ≡ true
 
 module _ (q : Party) where
   pub sound-facts : sound q ≡ true → Sound q
   unfolding sound
   sound-facts e =
-      let x = and-true _ _ e in
+      let v = and-true _ _ e in
+      let w = and-true _ _ (v .0) in
+      let x = and-true _ _ (w .0) in
       let y = and-true _ _ (x .0) in
       let z = and-true _ _ (y .0) in
       let a = and-true _ _ (z .0) in
@@ -89,12 +95,14 @@ module _ (q : Party) where
       record {
         listed = on-list _ _ _ (d .0);
         search = searches.sound-facts (q .k) (q .search) (d .1);
-        round = round-facts (q .search) (q .round) (c .1);
+        round = round-facts (q .search) (q .last) (q .round) (c .1);
         sum = ltb-true _ _ (b .1);
         carry = leb-true _ _ (a .1);
         roll = proper-facts _ (z .1);
         bids = eqb-true _ _ (y .1);
         totals = totals-facts (q .demand) (q .supply) (x .1);
+        way = w .1;
+        pairs = v .1;
       }
 
   pub sound-of : Sound q → sound q ≡ true
@@ -103,20 +111,31 @@ module _ (q : Party) where
       rw (
         on-list-of (q .n) (q .own) (q .k) (h .listed),
         searches.sound-of (q .k) (q .search) (h .search),
-        round-of (q .search) (q .round) (h .round),
+        round-of (q .search) (q .last) (q .round) (h .round),
         lt-ltb (q .sum) (2 ^ 59 + 2 ^ 33) (h .sum),
         le-leb (q .carry) 255 (h .carry),
         proper-of (q .roll) (h .roll),
         eq-eqb (q .bids) (marks (q .roll)) (h .bids),
         totals-of (q .demand) (q .supply) (h .totals .0) (h .totals .1),
+        h .way,
+        h .pairs,
       )
+
+-- the last round of a probe
+pub last-most : (last : ℕ) → is-way last ≡ true → last ≤ 33
+unfolding is-way
+last-most last e = split (eqb last 33) refl e
+  where
+    split : (t : Bool) → eqb last 33 ≡ t → (t || eqb last 7) ≡ true → last ≤ 33
+    split true a e = omega (arith, eqb-true last 33 a)
+    split false a e = omega (arith, eqb-true last 7 e)
 
 pub few-rounds : (q : Party) → Sound q → q .round ≤ 36
 few-rounds q h = split (clears (q .search)) refl
   where
     split : (t : Bool) → clears (q .search) ≡ t → q .round ≤ 36
     split true c = h .round .opening c .1
-    split false c = omega (arith, h .round .probing c)
+    split false c = omega (arith, h .round .probing c, last-most (q .last) (h .way))
 
 -- ---- until the session is over
 
@@ -140,7 +159,7 @@ module _ (q : Party) (h : Sound q) (on : ended q ≡ false) where
       split true c e =
           let other = eqb-false (q .round) 36 e in
           (c, l, omega (arith, h .round .opening c .1, other))
-      split false c e = absurd (omega (arith, h .round .probing c))
+      split false c e = absurd (omega (arith, h .round .probing c, last-most (q .last) (h .way)))
 
 -- where the searches go on, so does the session
 pub going-on : (q : Party) → finished (q .search) ≡ false → ended q ≡ false

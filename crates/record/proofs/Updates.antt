@@ -1,9 +1,15 @@
 -- What each update leaves of a record, and when the record stays sound. What is above goes by these laws. Assumes nothing.
 use mathlib.Core.Path.{_≡_, refl, sym, _∙_}
-use mathlib.Core.Bool.{Bool, true, false, cond, true≢false}
+use mathlib.Core.Bool.{Bool, true, false, cond, _||_, true≢false}
 use Prim.Native.Nat.{ℕ, _+_, _^_, _≤_, _<_}
 use native.Mathlib.Omega.{arith}
+use lib.Dec.{eqb}
+use borrow.Author.Tests.{eqb-true}
+use Rattle.ranges.specs.Lists.{every}
 use Rattle.ranges.specs.Sizes.{party}
+use Rattle.ways.specs.Way.{is-way}
+use Rattle.kept_pairs.specs.declared.Pairs.{Pairs}
+use Rattle.kept_pairs.specs.Pairs.{none, small}
 use Rattle.search.specs.declared.searches.Search.{Search}
 use Rattle.search.specs.Searches.{first-search, finished, clears}
 use Rattle.search.proofs.Bounds as searches
@@ -26,21 +32,36 @@ pub record Same (q next : Party) : Type 0 where
 abbrev pub Roomy : Party → Type 0
 Roomy q = searches.Roomy (q .k) (q .search)
 
+-- no kept pair is above 255, and a probe has a round
+none-small : small none ≡ true
+unfolding small none every
+none-small = refl
+
+last-least : (last : ℕ) → is-way last ≡ true → 1 ≤ last
+unfolding is-way
+last-least last e = split (eqb last 33) refl e
+  where
+    split : (t : Bool) → eqb last 33 ≡ t → (t || eqb last 7) ≡ true → 1 ≤ last
+    split true a e = omega (arith, eqb-true last 33 a)
+    split false a e = omega (arith, eqb-true last 7 e)
+
 -- ---- the record that a session starts with
 
-module _ (n own k : ℕ) where
-  pub fresh-sound : OnList n own k → Sound (fresh n own k)
+module _ (n own k last : ℕ) where
+  pub fresh-sound : OnList n own k → is-way last ≡ true → Sound (fresh n own k last)
   unfolding fresh
-  fresh-sound h =
+  fresh-sound h w =
       record {
         listed = h;
         search = searches.roomy-sound k (first-search k) (searches.roomy-start k (h .prices-least));
-        round = record { least = omega arith; probing = λ c. omega arith; opening = λ c. absurd (true≢false (sym c ∙ going-clears (first-search k) (first-going k))) };
+        round = record { least = omega arith; probing = λ c. last-least last w; opening = λ c. absurd (true≢false (sym c ∙ going-clears (first-search k) (first-going k))) };
         sum = omega arith;
         carry = omega arith;
         roll = proper-empty;
         bids = sym marks-empty;
         totals = (omega arith, omega arith);
+        way = w;
+        pairs = none-small;
       }
 
 -- before the first verdict the searches have the room that they need
@@ -97,6 +118,8 @@ module _ (q : Party) (bidder : ℕ) where
           roll = proper-mark (q .roll) (s .roll) bidder free;
           bids = omega (arith, s .bids, marks-mark (q .roll) (s .roll) bidder free);
           totals = s .totals;
+          way = s .way;
+          pairs = s .pairs;
         }
 
 -- two bids more, in either order
@@ -106,19 +129,19 @@ entered-swap q b c s most = rw (mark-swap (q .roll) (s .roll) b c most)
 
 -- ---- a round more: the roll stays
 
-module _ (q : Party) (round sum carry : ℕ) where
-  pub in-round-same : Same q (in-round q round sum carry)
+module _ (q : Party) (round sum carry : ℕ) (pairs : Pairs) where
+  pub in-round-same : Same q (in-round q round sum carry pairs)
   unfolding in-round
   in-round-same = record { n = refl; own = refl; k = refl }
 
-  pub in-round-roll : in-round q round sum carry .roll ≡ q .roll
+  pub in-round-roll : in-round q round sum carry pairs .roll ≡ q .roll
   unfolding in-round
   in-round-roll = refl
 
-  pub in-round-sound : Sound q → finished (q .search) ≡ false → 1 ≤ round → round ≤ 33 → sum < 2 ^ 59 + 2 ^ 33 → carry ≤ 255
-      → Sound (in-round q round sum carry)
+  pub in-round-sound : Sound q → finished (q .search) ≡ false → 1 ≤ round → round ≤ q .last → sum < 2 ^ 59 + 2 ^ 33 → carry ≤ 255 → small pairs ≡ true
+      → Sound (in-round q round sum carry pairs)
   unfolding in-round
-  in-round-sound s going least most summed carried =
+  in-round-sound s going least most summed carried kept =
       record {
         listed = s .listed;
         search = s .search;
@@ -128,9 +151,11 @@ module _ (q : Party) (round sum carry : ℕ) where
         roll = s .roll;
         bids = s .bids;
         totals = s .totals;
+        way = s .way;
+        pairs = kept;
       }
 
-  pub roomy-in-round : Roomy q → Roomy (in-round q round sum carry)
+  pub roomy-in-round : Roomy q → Roomy (in-round q round sum carry pairs)
   unfolding in-round
   roomy-in-round h = h
 
@@ -145,11 +170,11 @@ module _ (q : Party) (t : Search) where
   unfolding decided
   decided-roll = refl
 
-  decided-turn : (c : Bool) → clears t ≡ c → RoundSound t (cond c 34 1)
-  decided-turn true e =
+  decided-turn : is-way (q .last) ≡ true → (c : Bool) → clears t ≡ c → RoundSound t (q .last) (cond c 34 1)
+  decided-turn w true e =
       record { least = omega arith; probing = λ f. absurd (true≢false (sym e ∙ f)); opening = λ f. (omega arith, omega arith) }
-  decided-turn false e =
-      record { least = omega arith; probing = λ f. omega arith; opening = λ f. absurd (true≢false (sym f ∙ e)) }
+  decided-turn w false e =
+      record { least = omega arith; probing = λ f. last-least (q .last) w; opening = λ f. absurd (true≢false (sym f ∙ e)) }
 
   pub decided-sound : Sound q → searches.Sound (q .k) t → Sound (decided q t)
   unfolding decided
@@ -157,12 +182,14 @@ module _ (q : Party) (t : Search) where
       record {
         listed = s .listed;
         search = searched;
-        round = decided-turn (clears t) refl;
+        round = decided-turn (s .way) (clears t) refl;
         sum = omega arith;
         carry = omega arith;
         roll = s .roll;
         bids = s .bids;
         totals = s .totals;
+        way = s .way;
+        pairs = none-small;
       }
 
   pub roomy-decided : searches.Roomy (q .k) t → Roomy (decided q t)
@@ -183,7 +210,7 @@ module _ (q : Party) (total : ℕ) where
   pub totalled-sound : Sound q → clears (q .search) ≡ true → q .round ≤ 35 → are-totals (totalled q total .demand) (totalled q total .supply) ≡ true
       → Sound (totalled q total)
   unfolding totalled
-  totalled-sound s cleared most small =
+  totalled-sound s cleared most fits =
       record {
         listed = s .listed;
         search = s .search;
@@ -197,7 +224,9 @@ module _ (q : Party) (total : ℕ) where
         carry = s .carry;
         roll = s .roll;
         bids = s .bids;
-        totals = totals-facts _ _ small;
+        totals = totals-facts _ _ fits;
+        way = s .way;
+        pairs = s .pairs;
       }
 
   pub roomy-totalled : Roomy q → Roomy (totalled q total)

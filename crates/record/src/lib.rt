@@ -1,14 +1,20 @@
 // A party's record: all that a session is, but for the words it is lent.
 ghost use mathlib.Core.Path.{_≡_};
+ghost use lib.ListN.{length};
 ghost use Rattle.record.specs.Record.{are-totals, round-sound, sound, ended, blank};
+use kept_pairs::Pairs;
+use ranges::all_below;
 use ranges::on_list;
 use refusal::Judgement;
 use refusal::Refusal;
 use roll::Roll;
+use roll::marks_in;
+use roll::proper_in;
 use search::Bracket;
 use search::Search;
 use search::clears;
 use search::finished;
+use ways::is_way;
 
 // T is below it.
 const SUMS: u64 = (1 << 59) + (1 << 33);
@@ -35,6 +41,10 @@ pub struct Party {
     // total demand and total supply at the price, once they are opened
     pub demand: u64,
     pub supply: u64,
+    // the last round of a probe, 33 or 7
+    pub last: u64,
+    // the pair shares kept in a probe of seven rounds
+    pub pairs: Pairs,
 }
 
 // How a call was judged, and the record afterwards: as it was, where the call is refused.
@@ -50,31 +60,86 @@ pub fn are_totals(demand: u64, supply: u64) -> bool
     (demand < TOTALS) & (supply < TOTALS) & (supply <= demand)
 }
 
-// A probe has the rounds 1 to 33. Once the searches have ended at a price, the totals there are opened in
+// A probe has the rounds 1 to the last one. Once the searches have ended at a price, the totals there are opened in
 // the rounds 34 and 35.
-fn round_sound(s: Search, round: u64) -> bool
-    ensures { λ r. ⌜ r ≡ round-sound s round ⌝ }
+fn round_sound(s: Search, last: u64, round: u64) -> bool
+    ensures { λ r. ⌜ r ≡ round-sound s last round ⌝ }
 {
     if clears(s) {
         return (34 <= round) & (round <= 36);
     }
-    (1 <= round) & (round <= 33)
+    (1 <= round) & (round <= last)
 }
 
 // Every field is in its range, the searches are searches of k indices, nobody but bidders is on the
-// roll, and as many bids are held as it has marks.
+// roll, and as many bids are held as it has marks. The record is judged in its parts, the words of the roll and of
+// the pairs where they stand, so that it is not copied for it: who calls has 16 and 32.
+pub fn are_sound(
+    n: u64,
+    own: u64,
+    k: u64,
+    bids: u64,
+    search: Search,
+    round: u64,
+    sum: u64,
+    carry: u64,
+    roll: &[u64],
+    demand: u64,
+    supply: u64,
+    last: u64,
+    pairs: &[u64],
+) -> bool
+    requires { ⌜ (length (now roll) ≡ 16) × (length (now pairs) ≡ 32) ⌝ }
+    ensures { λ r. ⌜ r ≡ sound (record {
+      n = n;
+      own = own;
+      k = k;
+      bids = bids;
+      search = search;
+      round = round;
+      sum = sum;
+      carry = carry;
+      roll = record { words = now (roll .entry) };
+      demand = demand;
+      supply = supply;
+      last = last;
+      pairs = record { words = now (pairs .entry) };
+    }) ⌝ }
+{
+    on_list(n, own, k)
+        & search::sound(k, search)
+        & round_sound(search, last, round)
+        & (sum < SUMS)
+        & (carry <= 255)
+        & proper_in(roll)
+        & (bids == marks_in(roll))
+        & are_totals(demand, supply)
+        & is_way(last)
+        & all_below(pairs, 256)
+}
+
 pub fn sound(q: Party) -> bool
     ensures { λ r. ⌜ r ≡ sound q ⌝ }
 {
     let roll = q.roll;
-    on_list(q.n, q.own, q.k)
-        & search::sound(q.k, q.search)
-        & round_sound(q.search, q.round)
-        & (q.sum < SUMS)
-        & (q.carry <= 255)
-        & roll.proper()
-        & (q.bids == roll.marks())
-        & are_totals(q.demand, q.supply)
+    let marks = roll.words;
+    let pairs = q.pairs;
+    let shares = pairs.words;
+    are_sound(
+        q.n,
+        q.own,
+        q.k,
+        q.bids,
+        q.search,
+        q.round,
+        q.sum,
+        q.carry,
+        &marks,
+        q.demand,
+        q.supply,
+        q.last,
+        &shares,
+    )
 }
 
 // Whether the session is over: with no price when the searches have ended, else when the totals are
@@ -110,6 +175,8 @@ pub fn blank() -> Party
         roll: Roll::empty(),
         demand: 0,
         supply: 0,
+        last: 0,
+        pairs: Pairs::none(),
     }
 }
 

@@ -7,6 +7,7 @@ use Prim.Native.Nat.{ℕ}
 use Rattle.refusal.specs.Refusal.{codeOf}
 use Rattle.refusal.specs.declared.Judgement.{Judgement}
 use Rattle.ranges.specs.Sizes.{party, listed, long}
+use Rattle.ways.specs.Way.{is-way}
 use Rattle.roll.specs.Marks.{is-bidder}
 use Rattle.presence.specs.Presence.{are-marks}
 use Rattle.record.specs.declared.Party.{Party}
@@ -14,7 +15,7 @@ use Rattle.record.specs.Record.{sound, replied}
 use Rattle.record.proofs.Replies.{reply-judgement}
 use Rattle.session.specs.Open.{open-judgement, open-reply}
 use Rattle.session.specs.Add.{add-judgement, add-reply}
-use Rattle.hearing.specs.Hear.{hear-judgement, hear-reply}
+use Rattle.hearing.specs.Hear.{hear-judgement}
 use Rattle.record_words.specs.Words.{record-size, number-on, code-on}
 use Rattle.record_words.proofs.Lent.{with-record, with-record-code}
 
@@ -23,10 +24,11 @@ module _ (words : List ℕ) (lent : not (long record-size words) ≡ false) wher
       → number-on words (codeOf (replied judgement next old .judgement)) ≡ code-on words in-range judgement
   told judgement next old in-range e = with-record words _ _ lent ∙ ap codeOf (reply-judgement judgement next old) ∙ sym e
 
-  pub opens : (n own k : ℕ) (totals : List ℕ)
-      → number-on words (codeOf (open-reply n own k totals .judgement)) ≡ code-on words (party n own && listed k) (open-judgement n own k totals)
+  pub opens : (n own k last : ℕ) (totals : List ℕ)
+      → number-on words (codeOf (open-reply n own k last totals .judgement))
+      ≡ code-on words (party n own && listed k && is-way last) (open-judgement n own k last totals)
   unfolding open-judgement
-  opens n own k totals = told _ _ _ _ (with-record-code words true (party n own && listed k) _ lent)
+  opens n own k last totals = told _ _ _ _ (with-record-code words true (party n own && listed k && is-way last) _ lent)
 
   pub adds : (q : Party) (totals : List ℕ) (bidder : ℕ) (shares : List ℕ)
       → number-on words (codeOf (add-reply q totals bidder shares .judgement)) ≡ code-on words (is-bidder bidder) (add-judgement q totals bidder shares)
@@ -34,7 +36,6 @@ module _ (words : List ℕ) (lent : not (long record-size words) ≡ false) wher
   adds q totals bidder shares = told _ _ _ _ (with-record-code words (sound q) (is-bidder bidder) _ lent)
 
   pub hears : (q : Party) (totals sheets messages present : List ℕ)
-      → number-on words (codeOf (hear-reply q totals sheets messages present .judgement))
-      ≡ code-on words (are-marks present) (hear-judgement q totals sheets messages present)
+      → code-on words (are-marks present) (hear-judgement q totals sheets messages present) ≡ codeOf (hear-judgement q totals sheets messages present)
   unfolding hear-judgement
-  hears q totals sheets messages present = told _ _ _ _ (with-record-code words (sound q) (are-marks present) _ lent)
+  hears q totals sheets messages present = with-record-code words (sound q) (are-marks present) _ lent

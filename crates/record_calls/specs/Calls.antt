@@ -3,29 +3,32 @@
 use mathlib.Core.Bool.{_&&_}
 use mathlib.Core.List.{List}
 use Prim.Native.Nat.{ℕ}
+use Rattle.refusal.specs.Refusal.{codeOf}
 use Rattle.ranges.specs.Sizes.{party, listed}
+use Rattle.ways.specs.Way.{is-way}
 use Rattle.roll.specs.Marks.{is-bidder}
 use Rattle.presence.specs.Presence.{are-marks}
 use Rattle.session.specs.Open.{open-judgement, open-reply, open-left}
 use Rattle.session.specs.Add.{add-judgement, add-reply, add-left}
 use Rattle.session.specs.Answer.{answer-reply, answer-number, cleared-index, cleared-probes}
-use Rattle.saying.specs.Say.{say-reply, said-number, said-word}
+use Rattle.saying.specs.Say.{say-judgement, say-left}
 use Rattle.hearing.specs.Hear.{hear-judgement, hear-reply}
 use Rattle.filling.specs.Fill.{fill-reply, filled-number, filled-hours, filled-remainder}
 use Rattle.record_words.specs.Words.{party-of, on-record, number-on, code-on, stored}
 
--- ---- the calls with something to judge that needs no record: "n, keeper number or k outside its range", "A bidder number outside 1 to
+-- ---- the calls with something to judge that needs no record: "n, keeper number or k outside its range", "33 or 7 as the
+-- last round of its probes; another, .. is 1", "A bidder number outside 1 to
 -- 1,000 is 1", "a mark above 1 is 1"
 
-module _ (n own k : ℕ) (totals words : List ℕ) where
+module _ (n own k last : ℕ) (totals words : List ℕ) where
   abbrev pub open-code : ℕ
-  open-code = code-on words (party n own && listed k) (open-judgement n own k totals)
+  open-code = code-on words (party n own && listed k && is-way last) (open-judgement n own k last totals)
 
   abbrev pub open-totals : List ℕ
-  open-totals = on-record words (open-left n own k totals) totals
+  open-totals = on-record words (open-left n own k last totals) totals
 
   abbrev pub open-record : List ℕ
-  open-record = on-record words (stored (open-reply n own k totals) words) words
+  open-record = on-record words (stored (open-reply n own k last totals) words) words
 
 module _ (words totals : List ℕ) (bidder : ℕ) (shares : List ℕ) where
   abbrev pub add-code : ℕ
@@ -46,12 +49,12 @@ module _ (words totals sheets messages present : List ℕ) where
 
 -- ---- the others: nothing of them is judged without a record
 
-module _ (words totals sheets : List ℕ) where
+module _ (words totals sheets messages : List ℕ) where
   abbrev pub say-code : ℕ
-  say-code = number-on words (said-number (say-reply (party-of words) totals sheets))
+  say-code = number-on words (codeOf (say-judgement (party-of words) totals sheets messages))
 
-  abbrev pub say-message : (old : ℕ) → ℕ
-  say-message old = on-record words (said-word (say-reply (party-of words) totals sheets) old) old
+  abbrev pub say-messages : List ℕ
+  say-messages = on-record words (say-left (party-of words) totals sheets messages) messages
 
 module _ (words : List ℕ) where
   abbrev pub answer-code : ℕ

@@ -1,30 +1,33 @@
 // The calls on a record that is lent as its words, with their replies as numbers. Where no record is lent,
-// what needs none is judged all the same: each call gives the lowest number that applies.
+// what needs none is judged all the same: each call gives the lowest number that applies. The record is judged
+// where it stands before it is read: so no copy of it is made for that.
 ghost use mathlib.Core.Path.{_≡_};
-ghost use Rattle.record_calls.specs.Calls.{open-code, open-totals, open-record, add-code, add-totals, add-record, say-code, say-message, hear-code, hear-record, answer-code, answer-index, answer-probes, fill-code, fill-hours, fill-remainder};
+ghost use Rattle.record_calls.specs.Calls.{open-code, open-totals, open-record, add-code, add-totals, add-record, say-code, say-messages, hear-code, hear-record, answer-code, answer-index, answer-probes, fill-code, fill-hours, fill-remainder};
 use filling::Filled;
 use presence::count_marks;
 use ranges::on_list;
 use record_words::is_record;
+use record_words::is_sound;
 use record_words::read;
 use record_words::store;
 use record_words::without_record;
 use refusal::Refusal;
+use refusal::code;
 use refusal::number;
 use roll::is_bidder;
-use saying::Said;
 use session::Answer;
+use ways::is_way;
 
 // Nothing is zeroed unless the record can be written too.
-pub fn open(n: u64, own: u64, k: u64, totals: &mut [u64], words: &mut [u64]) -> u64
-    ensures { λ r. ⌜ (r ≡ open-code n own k (now (totals .entry)) (now (words .entry)))
-        × (now (totals .exit) ≡ open-totals n own k (now (totals .entry)) (now (words .entry)))
-        × (now (words .exit) ≡ open-record n own k (now (totals .entry)) (now (words .entry))) ⌝ }
+pub fn open(n: u64, own: u64, k: u64, last: u64, totals: &mut [u64], words: &mut [u64]) -> u64
+    ensures { λ r. ⌜ (r ≡ open-code n own k last (now (totals .entry)) (now (words .entry)))
+        × (now (totals .exit) ≡ open-totals n own k last (now (totals .entry)) (now (words .entry)))
+        × (now (words .exit) ≡ open-record n own k last (now (totals .entry)) (now (words .entry))) ⌝ }
 {
     if !is_record(&words[..]) {
-        return without_record(on_list(n, own, k));
+        return without_record(on_list(n, own, k) & is_way(last));
     }
-    store(session::open(n, own, k, totals), words)
+    store(session::open(n, own, k, last, totals), words)
 }
 
 // The totals and the record are written, or neither is.
@@ -36,27 +39,23 @@ pub fn add(words: &mut [u64], totals: &mut [u64], bidder: u64, shares: &[u64]) -
     if !is_record(&words[..]) {
         return without_record(is_bidder(bidder));
     }
+    let whole = is_sound(&words[..]);
     store(
-        session::add(read(&words[..]), totals, bidder, shares),
+        session::add_judged(read(&words[..]), whole, totals, bidder, shares),
         words,
     )
 }
 
-// The message of the round. The record is only read.
-pub fn say(words: &[u64], totals: &[u64], sheets: &[u64], message: &mut u64) -> u64
-    ensures { λ r. ⌜ (r ≡ say-code (now (words .entry)) (now (totals .entry)) (now (sheets .entry)))
-        × (now (message .exit) ≡ say-message (now (words .entry)) (now (totals .entry)) (now (sheets .entry)) (now (message .entry))) ⌝ }
+// The words of the round. The record is only read.
+pub fn say(words: &[u64], totals: &[u64], sheets: &[u64], messages: &mut [u64]) -> u64
+    ensures { λ r. ⌜ (r ≡ say-code (now (words .entry)) (now (totals .entry)) (now (sheets .entry)) (now (messages .entry)))
+        × (now (messages .exit) ≡ say-messages (now (words .entry)) (now (totals .entry)) (now (sheets .entry)) (now (messages .entry))) ⌝ }
 {
     if !is_record(words) {
         return number(Refusal::WrongLength);
     }
-    match saying::say(read(words), totals, sheets) {
-        Said::Message(word) => {
-            *message = word;
-            0
-        }
-        Said::Refused(why) => number(why),
-    }
+    let whole = is_sound(words);
+    code(saying::say_judged(read(words), whole, totals, sheets, messages))
 }
 
 // The record after the round is written over the record before it.
@@ -74,10 +73,7 @@ pub fn hear(
         let tally = count_marks(present);
         return without_record(tally.marks);
     }
-    store(
-        hearing::hear(read(&words[..]), totals, sheets, messages, present),
-        words,
-    )
+    code(hearing::hear_words(words, totals, sheets, messages, present))
 }
 
 // The price index, 0 for no price, and how many probes both searches made.
@@ -89,7 +85,8 @@ pub fn answer(words: &[u64], index: &mut u64, probes: &mut u64) -> u64
     if !is_record(words) {
         return number(Refusal::WrongLength);
     }
-    match session::answer(read(words)) {
+    let whole = is_sound(words);
+    match session::answer_judged(read(words), whole) {
         Answer::Cleared(price, made) => {
             *index = price;
             *probes = made;
@@ -108,7 +105,8 @@ pub fn fill(words: &[u64], amount: u64, hours: &mut u64, remainder: &mut u64) ->
     if !is_record(words) {
         return number(Refusal::WrongLength);
     }
-    match filling::fill(read(words), amount) {
+    let whole = is_sound(words);
+    match filling::fill_judged(read(words), whole, amount) {
         Filled::Hours(got, left) => {
             *hours = got;
             *remainder = left;

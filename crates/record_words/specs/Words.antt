@@ -15,11 +15,11 @@ use Rattle.record.specs.declared.Party.{Party}
 use Rattle.record.specs.declared.Reply.{Reply}
 
 abbrev pub record-size : ℕ
-record-size = 31
+record-size = 64
 
--- which search is on, what the first gave with its probes, and the totals at the price
+-- which search is on, what the first gave with its probes, the totals at the price, and the last round of a probe
 abbrev pub later-words : Party → List ℕ
-later-words q = q .search .which ∷ q .search .first ∷ q .search .spent ∷ q .demand ∷ q .supply ∷ []
+later-words q = q .search .which ∷ q .search .first ∷ q .search .spent ∷ q .demand ∷ q .supply ∷ q .last ∷ []
 
 unfoldable pub words-of : Party → List ℕ
 words-of q =
@@ -33,9 +33,9 @@ words-of q =
     ∷ q .round
     ∷ q .sum
     ∷ q .carry
-    ∷ (q .roll .words ++ later-words q)
+    ∷ (q .roll .words ++ (later-words q ++ q .pairs .words))
 
--- the record that 31 words say
+-- the record that 64 words say
 unfoldable pub party-of : List ℕ → Party
 party-of words =
     record {
@@ -56,6 +56,8 @@ party-of words =
       roll = record { words = map (λ i. getD words i 0) (from 10 16) };
       demand = getD words 29 0;
       supply = getD words 30 0;
+      last = getD words 31 0;
+      pairs = record { words = map (λ i. getD words i 0) (from 32 32) };
     }
 
 -- a slice of any other length is no record

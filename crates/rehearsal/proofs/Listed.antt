@@ -7,7 +7,7 @@ use lib.ListN.{length, drop, getD, length-map}
 use Rattle.search.proofs.Clearing.{clearing-within}
 use Rattle.search.proofs.Balance.{price-within}
 use Rattle.auction.specs.Auction.{Auction, demand, supply, price-answer, probed, total-rounds, rounds}
-use Rattle.standing.specs.Numbered.{numbered}
+use Rattle.standing.specs.Numbered.{rehearsed, numbered}
 use Rattle.standing.proofs.Standing.{auction-of}
 use Rattle.plan.specs.declared.judging.Shape.{Shape}
 use Rattle.plan.specs.declared.judging.Judged.the-variants.{Faulty, Good}
@@ -70,7 +70,7 @@ rounds-printed p = ap (λ (m : ℕ). 33 * m + total-rounds (auction p)) (length-
 pub plan-auction : (bytes : List ℕ) (p : Plan) (P : Auction → Type 0) → read (lines bytes) ≡ accepted p → (shape : Shape) → shape ≡ shape-of bytes p
     → P (auction-of (shape .n) (shape .k) (shape .bids) (drop (shape .«bids_at») bytes)) → P (auction p)
 plan-auction bytes p P e shape s h =
-    subst (λ (ts : List (List ℕ)). P (record { n = p .n; k = p .k; bids = numbered 1 ts })) (sym (accepted-plan bytes p e .bids))
+    subst (λ (ts : List (List ℕ)). P (rehearsed (p .n) (p .k) (numbered 1 ts))) (sym (accepted-plan bytes p e .bids))
     (subst (λ (t : Shape). P (auction-of (t .n) (t .k) (t .bids) (drop (t .«bids_at») bytes))) s h)
 
 pub right-listing : (bytes : List ℕ) (shape : Shape) (c : Course) → judged-as bytes ≡ Good shape

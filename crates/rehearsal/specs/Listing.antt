@@ -3,7 +3,7 @@ use mathlib.Core.List.{List}
 use Prim.Native.Nat.{ℕ, _-_}
 use lib.ListN.{getD}
 use Rattle.auction.specs.Auction.{Auction, demand, supply, price-answer, probed}
-use Rattle.standing.specs.Numbered.{numbered}
+use Rattle.standing.specs.Numbered.{rehearsed, numbered}
 use Rattle.lines.specs.Lines.{lines}
 use Rattle.plan.specs.Plan.{Plan, Reading, faulty, accepted, read}
 use Rattle.listing.specs.Lines.{refused-line, course-lines}
@@ -11,7 +11,7 @@ use Rattle.probing.specs.Follows.{as-listed}
 
 -- the auction of a plan, which no seed changes
 abbrev pub auction : Plan → Auction
-auction p = record { n = p .n; k = p .k; bids = numbered 1 (p .bids) }
+auction p = rehearsed (p .n) (p .k) (numbered 1 (p .bids))
 
 -- the probes of both searches on the plan's totals: "The listing adds its probes with further numbers"
 abbrev pub plan-trail : Plan → List (ℕ × ℕ)

@@ -1,6 +1,6 @@
 -- A BID THAT IS SENT AGAIN never counts twice: its bidder stays marked, whatever is called since. Assumes nothing.
 use mathlib.Core.Path.{_≡_, refl, sym, ap, subst, _∙_}
-use mathlib.Core.Bool.{Bool, true, false, true≢false, not, _&&_}
+use mathlib.Core.Bool.{Bool, true, false, true≢false, not, _&&_, cond}
 use mathlib.Core.List.{List, [], _∷_}
 use Prim.Native.Nat.{ℕ, _*_}
 use native.Mathlib.Omega.{arith}
@@ -25,11 +25,14 @@ use Rattle.record.proofs.Updates.{Roomy, roomy-first, roomy-entered, entered-sa
 use Rattle.session.specs.Add.{begun, add-judgement, add-reply}
 use Rattle.session.proofs.Laws.{adds}
 use Rattle.round.specs.Round.{heard}
+use Rattle.message.specs.Message.{in-level}
 use Rattle.saying.specs.Say.{current}
-use Rattle.hearing.specs.Hear.{hear-judgement, hear-reply}
-use Rattle.stepping.specs.After.{after}
+use Rattle.hearing.specs.Hear.{hear-judgement, hear-reply, heard-next}
+use Rattle.stepping.specs.After.{role, after, after-level}
+use Rattle.level.specs.Level.{level-kept}
+use Rattle.level_round.specs.Columns.{level-sides}
 use Rattle.hearing.proofs.Hears.{hears}
-use Rattle.stepping.proofs.Next.{after-same, roll-after}
+use Rattle.stepping.proofs.Next.{after-same, roll-after, level-same, level-roll}
 use Rattle.hearing.proofs.Next.{hears-sound}
 use Rattle.resending.specs.Resent.{Once, again, Between, adding, saying, hearing, asking, filling, left-by, Resent, NeverTwice, NeverFull}
 
@@ -58,6 +61,29 @@ either : (P : Party → Type 0) (j : Judgement) (next old : Party) → (j ≡ Ac
 unfolding replied
 either P j next old new same = kept-either j next old P new same
 
+-- a hearing leaves the roll and the number of prices
+module _ (q : Party) (sheet messages present : List ℕ) where
+  abbrev by-way : Bool → Party
+  by-way b =
+      cond b (after-level q (level-kept (q .round) (q .sum) (q .pairs .words) sheet (level-sides (q .n) (q .round) present messages)))
+      (after q sheet (heard (q .n) (role q) present messages))
+
+  heard-roll : heard-next q sheet messages present .roll ≡ q .roll
+  unfolding heard-next
+  heard-roll = split (in-level q)
+    where
+      split : (b : Bool) → by-way b .roll ≡ q .roll
+      split true = level-roll q _
+      split false = roll-after q sheet _
+
+  heard-k : heard-next q sheet messages present .k ≡ q .k
+  unfolding heard-next
+  heard-k = split (in-level q)
+    where
+      split : (b : Bool) → by-way b .k ≡ q .k
+      split true = level-same q _ .k
+      split false = after-same q sheet _ .k
+
 module _ (k b : ℕ) where
   after-adding : (q : Party) (totals : List ℕ) (bidder : ℕ) (shares : List ℕ) → StaysIn k b q → StaysIn k b (add-reply q totals bidder shares .party)
   after-adding q totals bidder shares i =
@@ -77,15 +103,14 @@ module _ (k b : ℕ) where
       → StaysIn k b (hear-reply q totals sheets messages present .party)
   after-hearing q totals sheets messages present i =
       let sheet = current q sheets in
-      let opening = heard (q .n) (q .round) present messages in
-      either (StaysIn k b) (hear-judgement q totals sheets messages present) (after q sheet opening) q
+      either (StaysIn k b) (hear-judgement q totals sheets messages present) (heard-next q sheet messages present) q
       (λ e.
       let next = hears-sound q totals sheets messages present (hears q totals sheets messages present e) (i .roomy) in
       record {
-        is-in = rw (roll-after q sheet opening) (i .is-in);
+        is-in = rw (heard-roll q sheet messages present) (i .is-in);
         whole = next .0;
         roomy = next .1;
-        prices = after-same q sheet opening .k ∙ i .prices;
+        prices = heard-k q sheet messages present ∙ i .prices;
       })
       i
 
@@ -93,7 +118,7 @@ module _ (k b : ℕ) where
   unfolding left-by
   stays-in [] q i = i
   stays-in (adding totals bidder shares ∷ calls) q i = stays-in calls _ (after-adding q totals bidder shares i)
-  stays-in (saying totals sheets ∷ calls) q i = stays-in calls q i
+  stays-in (saying totals sheets said ∷ calls) q i = stays-in calls q i
   stays-in (hearing totals sheets messages present ∷ calls) q i = stays-in calls _ (after-hearing q totals sheets messages present i)
   stays-in (asking ∷ calls) q i = stays-in calls q i
   stays-in (filling amount ∷ calls) q i = stays-in calls q i

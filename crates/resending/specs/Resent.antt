@@ -49,7 +49,7 @@ pub record Resent (k : ℕ) (q : Party) (bidder : ℕ) : Type 0 where
 -- what a party may be called for between two bids of a session, with anything lent; opening would begin another session
 pub data Between : Type 0 where
   adding : (totals : List ℕ) (bidder : ℕ) (shares : List ℕ) → Between
-  saying : (totals sheets : List ℕ) → Between
+  saying : (totals sheets said : List ℕ) → Between
   hearing : (totals sheets messages present : List ℕ) → Between
   asking : Between
   filling : (amount : ℕ) → Between
@@ -58,7 +58,7 @@ pub data Between : Type 0 where
 unfoldable pub left-by : List Between → Party → Party
 left-by [] q = q
 left-by (adding totals bidder shares ∷ calls) q = left-by calls (add-reply q totals bidder shares .party)
-left-by (saying totals sheets ∷ calls) q = left-by calls q
+left-by (saying totals sheets said ∷ calls) q = left-by calls q
 left-by (hearing totals sheets messages present ∷ calls) q = left-by calls (hear-reply q totals sheets messages present .party)
 left-by (asking ∷ calls) q = left-by calls q
 left-by (filling amount ∷ calls) q = left-by calls q

@@ -2,6 +2,7 @@
 ghost use mathlib.Core.Path.{_≡_};
 ghost use mathlib.Core.Bool.{not};
 ghost use Prim.Native.Nat.{_≤_};
+ghost use lib.ListN.{length};
 ghost use Rattle.ranges.specs.Lists.{from, every, count};
 ghost use Rattle.roll.specs.Marks.{is-bidder, is-set, marked, marks, proper, empty, mark};
 
@@ -54,13 +55,7 @@ impl Roll {
         ensures { λ r. ⌜ r ≡ marks self ⌝ }
     {
         let words = self.words;
-        let mut sum: u64 = 0;
-        let mut i = 0;
-        while i < 16 {
-            sum += set_bits(words[i]);
-            i += 1;
-        }
-        sum
+        marks_in(&words)
     }
 
     // No mark but those of bidders.
@@ -68,8 +63,30 @@ impl Roll {
         ensures { λ r. ⌜ r ≡ proper self ⌝ }
     {
         let words = self.words;
-        (words[0] % 2 == 0) & none_above_40(words[15])
+        proper_in(&words)
     }
+}
+
+// The marks on a roll's words where they stand: who calls has 16.
+pub fn marks_in(words: &[u64]) -> u64
+    requires { ⌜ length (now words) ≡ 16 ⌝ }
+    ensures { λ r. ⌜ r ≡ marks (record { words = now (words .entry) }) ⌝ }
+{
+    let mut sum: u64 = 0;
+    let mut i = 0;
+    while i < 16 {
+        sum += set_bits(words[i]);
+        i += 1;
+    }
+    sum
+}
+
+// And whether they are proper.
+pub fn proper_in(words: &[u64]) -> bool
+    requires { ⌜ length (now words) ≡ 16 ⌝ }
+    ensures { λ r. ⌜ r ≡ proper (record { words = now (words .entry) }) ⌝ }
+{
+    (words[0] % 2 == 0) & none_above_40(words[15])
 }
 
 fn set_bits(word: u64) -> u64

@@ -10,6 +10,7 @@ use lib.Dec.{leb, eqb}
 use lib.ListN.{length, drop, getD}
 use borrow.Author.Tests.{leb-true, leb-false, eqb-true, eqb-false}
 use Rattle.ranges.proofs.Loops.{and-left, and-right}
+use Rattle.ways.specs.Way.{is-way}
 use Rattle.search.specs.Limit.{most-probes}
 use Rattle.auction.specs.Auction.{bidders, GoodTable, IsAuction}
 use Rattle.auction.proofs.Totals.{few-bids}
@@ -157,6 +158,7 @@ good-bids k (suc m) line b bytes e =
 
 good-auction : (n k m line : ℕ) (bytes : List ℕ) → 3 ≤ n → n ≤ 9 → 1 ≤ k → k ≤ 256 → m ≤ 1000 → bids-fault k m line bytes ≡ None
     → IsAuction (auction-of n k m bytes)
+unfolding is-way
 good-auction n k m line bytes a b c d f e =
     let bs : bidders (auction-of n k m bytes) ≡ from 1 m = numbered-bidders 1 (tables k m bytes) ∙ ap (from 1) (length-tables k m bytes) in
     record {
@@ -164,6 +166,7 @@ good-auction n k m line bytes a b c d f e =
       n-most = b;
       k-least = c;
       k-most = omega arith;
+      way = refl;
       bidders = rw bs (distinct-from 1000 1 m (omega arith) (omega arith));
       tables = good-bids k m line 1 bytes e;
     }

@@ -5,9 +5,8 @@ use mathlib.Core.List.{List, [], _∷_}
 use Prim.Native.Nat.{ℕ, _*_}
 use lib.ListN.{length}
 use borrow.Author.Tests.{eqb-true, not-false, eq-eqb}
-use Rattle.refusal.specs.Judging.{Test, _⇒_, judged, then}
+use Rattle.refusal.specs.Judging.{judged, then}
 use Rattle.refusal.specs.declared.Refusal.{Refusal}
-use Rattle.refusal.specs.declared.Refusal.the-variants.{ShareOutOfRange}
 use Rattle.refusal.specs.declared.Judgement.{Judgement}
 use Rattle.refusal.specs.declared.Judgement.the-variants.{Accepted, Refused}
 use Rattle.ranges.specs.Sizes.{long}
@@ -16,31 +15,17 @@ use Rattle.record.specs.Record.{sound, ended}
 use Rattle.ranges.proofs.Loops.{and-true}
 use Rattle.refusal.proofs.Judging.{passes, all-passed, passed, judged-append, then-accepted}
 use Rattle.record.proofs.Soundness.{Sound, sound-facts, sound-of}
-use Rattle.saying.specs.declared.Said.the-variants as answer
-use Rattle.saying.specs.Say.{sheets-long, current, in-field, turn-judgement, say-judgement, said}
-use Rattle.saying.proofs.Sheets.{InField, in-field-facts, in-field-of}
-
-module _ (judgement : Judgement) (word : ℕ) where
-  pub said-accepted : judgement ≡ Accepted → said judgement word ≡ answer.Message word
-  unfolding said
-  said-accepted e = rw e
-
-  pub said-refused : (why : Refusal) → judgement ≡ Refused why → said judgement word ≡ answer.Refused why
-  unfolding said
-  said-refused why e = rw e
-
--- what was said tells the judgement
-pub was-said : (j : Judgement) (word given : ℕ) → said j word ≡ answer.Message given → (j ≡ Accepted) × (given ≡ word)
-unfolding said
-was-said Accepted word given e = (refl, cc)
-was-said (Refused why) word given e = (cc, cc)
+use Rattle.message.specs.Message.{in-field}
+use Rattle.saying.specs.Say.{sheets-long, current, turn-judgement, say-judgement, words-judgement}
+use Rattle.ways.specs.Way.{way-of, width}
+use Rattle.message.proofs.Sheets.{InField, in-field-facts, in-field-of}
 
 -- ---- where it is a party's turn
 
 pub record InTurn (q : Party) (totals sheets : List ℕ) : Type 0 where
   pub sound : Sound q
   pub totals-long : length totals ≡ 2 * q .k
-  pub sheets-long : length sheets ≡ sheets-long (q .k)
+  pub sheets-long : length sheets ≡ sheets-long (q .k) (q .last)
   pub going : ended q ≡ false
 
 module _ (q : Party) (totals sheets : List ℕ) (else-sound else-long : Bool) where
@@ -71,47 +56,50 @@ module _ (q : Party) (totals sheets : List ℕ) (else-sound else-long : Bool) wh
         sound-of q (h .sound),
         s,
         eq-eqb (length totals) (2 * q .k) (h .totals-long),
-        eq-eqb (length sheets) (sheets-long (q .k)) (h .sheets-long),
+        eq-eqb (length sheets) (sheets-long (q .k) (q .last)) (h .sheets-long),
         l,
         h .going,
       )
 
--- ---- where a party says its word
+-- ---- where a party says its words
 
-pub record Says (q : Party) (totals sheets : List ℕ) : Type 0 where
+pub record Says (q : Party) (totals sheets said : List ℕ) : Type 0 where
   pub turn : InTurn q totals sheets
+  pub said-long : length said ≡ width (way-of (q .last)) (q .round)
   pub in-field : InField q true totals (current q sheets)
 
-module _ (q : Party) (totals sheets : List ℕ) where
-  abbrev pub of-words : List Test
-  of-words = (not (in-field q true totals (current q sheets)) ⇒ ShareOutOfRange) ∷ []
+module _ (q : Party) (totals sheets said : List ℕ) where
+  abbrev pub said-fits : Bool
+  said-fits = long (width (way-of (q .last)) (q .round)) said
 
-  -- nothing else is lent for a saying
-  as-turn : say-judgement q totals sheets ≡ then (turn-judgement q (sound q) totals sheets true) (judged of-words)
-  unfolding say-judgement turn-judgement
-  as-turn = rw (and-true-is (long (2 * q .k) totals && long (sheets-long (q .k)) sheets)) (judged-append (_ ∷ _ ∷ _ ∷ []) of-words)
+  as-turn : say-judgement q totals sheets said ≡ then (turn-judgement q (sound q) totals sheets said-fits) (words-judgement q totals (current q sheets))
+  unfolding say-judgement turn-judgement words-judgement
+  as-turn = judged-append (_ ∷ _ ∷ _ ∷ []) (_ ∷ [])
 
-  alone : turn-judgement q (sound q && true) totals sheets true ≡ turn-judgement q (sound q) totals sheets true
-  alone = ap (λ (b : Bool). turn-judgement q b totals sheets true) (and-true-is (sound q))
+  alone : turn-judgement q (sound q && true) totals sheets said-fits ≡ turn-judgement q (sound q) totals sheets said-fits
+  alone = ap (λ (b : Bool). turn-judgement q b totals sheets said-fits) (and-true-is (sound q))
 
-  pub says-turn : turn-judgement q (sound q) totals sheets true ≡ Accepted → InTurn q totals sheets
-  says-turn e = turns q totals sheets true true (alone ∙ e) .0
+  pub says-turn : turn-judgement q (sound q) totals sheets said-fits ≡ Accepted → InTurn q totals sheets × (length said ≡ width (way-of (q .last)) (q .round))
+  says-turn e = let t = turns q totals sheets true said-fits (alone ∙ e) in (t .0, eqb-true _ _ (t .2))
 
-  pub no-turn : (why : Refusal) → turn-judgement q (sound q) totals sheets true ≡ Refused why → say-judgement q totals sheets ≡ Refused why
-  no-turn why e = as-turn ∙ ap (λ (j : Judgement). then j (judged of-words)) e
+  pub no-turn : (why : Refusal) → turn-judgement q (sound q) totals sheets said-fits ≡ Refused why → say-judgement q totals sheets said ≡ Refused why
+  no-turn why e = as-turn ∙ ap (λ (j : Judgement). then j (words-judgement q totals (current q sheets))) e
 
-  pub by-words : turn-judgement q (sound q) totals sheets true ≡ Accepted → say-judgement q totals sheets ≡ judged of-words
-  by-words e = as-turn ∙ ap (λ (j : Judgement). then j (judged of-words)) e
+  pub by-words : turn-judgement q (sound q) totals sheets said-fits ≡ Accepted → say-judgement q totals sheets said ≡ words-judgement q totals (current q sheets)
+  by-words e = as-turn ∙ ap (λ (j : Judgement). then j (words-judgement q totals (current q sheets))) e
 
-  pub says : say-judgement q totals sheets ≡ Accepted → Says q totals sheets
+  pub says : say-judgement q totals sheets said ≡ Accepted → Says q totals sheets said
+  unfolding words-judgement
   says e =
-      let both = then-accepted _ (judged of-words) (sym as-turn ∙ e) in
+      let both = then-accepted _ (words-judgement q totals (current q sheets)) (sym as-turn ∙ e) in
       record {
-        turn = says-turn (both .0);
+        turn = says-turn (both .0) .0;
+        said-long = says-turn (both .0) .1;
         in-field = in-field-facts q true totals (current q sheets) (not-false _ (passed _ _ _ (both .1) .0));
       }
 
-  pub say-accepted : Says q totals sheets → say-judgement q totals sheets ≡ Accepted
+  pub say-accepted : Says q totals sheets said → say-judgement q totals sheets said ≡ Accepted
+  unfolding words-judgement
   say-accepted h =
-      by-words (sym alone ∙ turn-accepted q totals sheets true true (h .turn) refl refl)
+      by-words (sym alone ∙ turn-accepted q totals sheets true said-fits (h .turn) refl (eq-eqb _ _ (h .said-long)))
       ∙ passes _ _ _ (ap not (in-field-of q true totals (current q sheets) (h .in-field))) ∙ all-passed

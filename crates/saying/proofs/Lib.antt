@@ -1,4 +1,3 @@
 -- What the tests of saying say, for theorems about runs, and lemmas that the functions' proofs share.
 pub mod Sheets
-pub mod Messages
 pub mod Laws

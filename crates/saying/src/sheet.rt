@@ -1,45 +1,29 @@
-// The current sheet, and the shares of bits and bytes in it.
+// The current sheet.
 ghost use mathlib.Core.Path.{_≡_};
-ghost use mathlib.Core.Bool.{true};
-ghost use Prim.Native.Nat.{_+_, _*_, _≤_, _<_};
-ghost use lib.Dec.{ltb};
-ghost use lib.ListN.{length, drop, getD};
-ghost use Rattle.ranges.specs.Lists.{every};
-ghost use Rattle.saying.specs.Say.{sheet-words, current, triple-share};
-use fields::BitShare;
+ghost use Prim.Native.Nat.{_+_, _*_, _≤_};
+ghost use lib.ListN.{length};
+ghost use Rattle.ways.specs.Way.{way-of, sheet-size};
+ghost use Rattle.message.specs.Message.{sheet-words};
+ghost use Rattle.saying.specs.Say.{current};
 use record::Party;
+use ways::sheets_words;
 
 // How many words it has. After the last probe none is read.
 fn sheet_words(q: Party) -> usize
     ensures { λ r. ⌜ r ≡ sheet-words q ⌝ }
 {
-    if q.round <= 33 { 127 } else { 0 }
+    if q.round <= 33 {
+        ways::sheet_words(q.last)
+    } else {
+        0
+    }
 }
 
 pub fn current(q: Party, sheets: &[u64]) -> &[u64]
-    requires { ⌜ 127 * q .search .probes + sheet-words q ≤ length (now sheets) ⌝ }
+    requires { ⌜ sheet-size (way-of (q .last)) * q .search .probes + sheet-words q ≤ length (now sheets) ⌝ }
     ensures { λ r. ⌜ now r ≡ current q (now (sheets .entry)) ⌝ }
 {
-    let from = 127 * q.search.probes as usize;
+    let from = sheets_words(q.last, q.search.probes as usize);
     let to = from + sheet_words(q);
     &sheets[from..to]
-}
-
-// Every word but the mask's share is one: the share of the mask's bit i stands at i.
-pub fn byte_share(sheet: &[u64], at: u64) -> BitShare
-    requires { ⌜ (length (now sheet) ≡ 127) × (every (λ w. ltb w 256) (drop 1 (now sheet)) ≡ true)
-        × (1 ≤ at) × (at < 127) ⌝ }
-    ensures { λ r. ⌜ r .0 ≡ getD (now (sheet .entry)) at 0 ⌝ }
-{
-    let i = at as usize;
-    BitShare(sheet[i] as u8)
-}
-
-// Alpha, beta and gamma of round i are 0, 1 and 2.
-pub fn triple_share(sheet: &[u64], i: u64, part: u64) -> BitShare
-    requires { ⌜ (length (now sheet) ≡ 127) × (every (λ w. ltb w 256) (drop 1 (now sheet)) ≡ true)
-        × (2 ≤ i) × (i ≤ 32) × (part ≤ 2) ⌝ }
-    ensures { λ r. ⌜ r .0 ≡ triple-share (now (sheet .entry)) i part ⌝ }
-{
-    byte_share(sheet, 34 + 3 * (i - 2) + part)
 }

@@ -13,6 +13,7 @@ use Rattle.refusal.specs.declared.Judgement.the-variants.{Accepted}
 use Rattle.roll.proofs.Laws.{Free}
 use Rattle.record.specs.declared.Party.{Party}
 use Rattle.record.specs.Record.{sound}
+use Rattle.ways.specs.Way.{is-way}
 use Rattle.session.specs.Open.{open-judgement}
 use Rattle.session.specs.Add.{add-judgement}
 use Rattle.ranges.proofs.Loops.{and-true}
@@ -22,21 +23,23 @@ use Rattle.record.proofs.Soundness.{Sound, sound-facts, sound-of}
 
 -- ---- opening
 
-pub record Opens (n own k : ℕ) (totals : List ℕ) : Type 0 where
+pub record Opens (n own k last : ℕ) (totals : List ℕ) : Type 0 where
   pub listed : OnList n own k
+  pub way : is-way last ≡ true
   pub totals-long : length totals ≡ 2 * k
 
-module _ (n own k : ℕ) (totals : List ℕ) where
-  pub opens : open-judgement n own k totals ≡ Accepted → Opens n own k totals
+module _ (n own k last : ℕ) (totals : List ℕ) where
+  pub opens : open-judgement n own k last totals ≡ Accepted → Opens n own k last totals
   unfolding open-judgement
   opens e =
       let range = passed _ _ _ e in
       let size = passed _ _ _ (range .1) in
-      record { listed = on-list n own k (not-false _ (range .0)); totals-long = eqb-true _ _ (not-false _ (size .0)) }
+      let who = and-true _ _ (not-false _ (range .0)) in
+      record { listed = on-list n own k (who .0); way = who .1; totals-long = eqb-true _ _ (not-false _ (size .0)) }
 
-  pub open-accepted : Opens n own k totals → open-judgement n own k totals ≡ Accepted
+  pub open-accepted : Opens n own k last totals → open-judgement n own k last totals ≡ Accepted
   unfolding open-judgement judged
-  open-accepted h = rw (on-list-of n own k (h .listed), eq-eqb (length totals) (2 * k) (h .totals-long))
+  open-accepted h = rw (on-list-of n own k (h .listed), h .way, eq-eqb (length totals) (2 * k) (h .totals-long))
 
 -- ---- adding
 

@@ -7,20 +7,21 @@ use Rattle.refusal.specs.Judging.{_⇒_, judged, kept}
 use Rattle.refusal.specs.declared.Judgement.{Judgement}
 use Rattle.refusal.specs.declared.Refusal.the-variants.{OutOfRange, WrongLength}
 use Rattle.ranges.specs.Sizes.{party, listed, long}
+use Rattle.ways.specs.Way.{is-way}
 use Rattle.record.specs.declared.Reply.{Reply}
 use Rattle.record.specs.Record.{replied, blank}
 use Rattle.record.specs.Updates.{fresh}
 
-unfoldable pub open-judgement : (n own k : ℕ) (totals : List ℕ) → Judgement
-open-judgement n own k totals =
+unfoldable pub open-judgement : (n own k last : ℕ) (totals : List ℕ) → Judgement
+open-judgement n own k last totals =
     judged
-    ((not (party n own && listed k) ⇒ OutOfRange)
+    ((not (party n own && listed k && is-way last) ⇒ OutOfRange)
     ∷ (not (long (2 * k) totals) ⇒ WrongLength)
     ∷ [])
 
-abbrev pub open-reply : (n own k : ℕ) (totals : List ℕ) → Reply
-open-reply n own k totals = replied (open-judgement n own k totals) (fresh n own k) blank
+abbrev pub open-reply : (n own k last : ℕ) (totals : List ℕ) → Reply
+open-reply n own k last totals = replied (open-judgement n own k last totals) (fresh n own k last) blank
 
 -- what the totals hold afterwards
-abbrev pub open-left : (n own k : ℕ) (totals : List ℕ) → List ℕ
-open-left n own k totals = kept (open-judgement n own k totals) (replicate (2 * k) 0) totals
+abbrev pub open-left : (n own k last : ℕ) (totals : List ℕ) → List ℕ
+open-left n own k last totals = kept (open-judgement n own k last totals) (replicate (2 * k) 0) totals

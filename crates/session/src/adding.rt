@@ -4,6 +4,7 @@ ghost use Prim.Native.Nat.{_+_, _^_, _<_};
 ghost use lib.ListN.{length};
 ghost use Rattle.fields.specs.Amount.{amounts};
 ghost use Rattle.sharing.specs.Linear.{sums};
+ghost use Rattle.record.specs.Record.{sound};
 ghost use Rattle.record.specs.Updates.{entered};
 ghost use Rattle.session.specs.Add.{add-judgement, add-reply, add-left};
 use fields::AmountShare;
@@ -24,7 +25,16 @@ pub fn add(q: Party, totals: &mut [u64], bidder: u64, shares: &[u64]) -> Reply
     ensures { λ r. ⌜ (r ≡ add-reply q (now (totals .entry)) bidder (now (shares .entry)))
         × (now (totals .exit) ≡ add-left q (now (totals .entry)) bidder (now (shares .entry))) ⌝ }
 {
-    let judgement = judge(q, &totals[..], bidder, shares);
+    add_judged(q, sound(q), totals, bidder, shares)
+}
+
+// The same, of a record that who calls has judged where it stands.
+pub fn add_judged(q: Party, whole: bool, totals: &mut [u64], bidder: u64, shares: &[u64]) -> Reply
+    requires { ⌜ whole ≡ sound q ⌝ }
+    ensures { λ r. ⌜ (r ≡ add-reply q (now (totals .entry)) bidder (now (shares .entry)))
+        × (now (totals .exit) ≡ add-left q (now (totals .entry)) bidder (now (shares .entry))) ⌝ }
+{
+    let judgement = judge(q, whole, &totals[..], bidder, shares);
     if let Judgement::Refused(why) = judgement {
         return refused(why, q);
     }
@@ -33,10 +43,11 @@ pub fn add(q: Party, totals: &mut [u64], bidder: u64, shares: &[u64]) -> Reply
 }
 
 // The first refusal that applies.
-fn judge(q: Party, totals: &[u64], bidder: u64, shares: &[u64]) -> Judgement
+fn judge(q: Party, whole: bool, totals: &[u64], bidder: u64, shares: &[u64]) -> Judgement
+    requires { ⌜ whole ≡ sound q ⌝ }
     ensures { λ r. ⌜ r ≡ add-judgement q (now (totals .entry)) bidder (now (shares .entry)) ⌝ }
 {
-    if !(sound(q) & is_bidder(bidder)) {
+    if !(whole & is_bidder(bidder)) {
         return Judgement::Refused(Refusal::OutOfRange);
     }
     let words = 2 * q.k as usize;

@@ -1,5 +1,6 @@
 // Asking for the answer of a session that is over.
 ghost use mathlib.Core.Path.{_≡_};
+ghost use Rattle.record.specs.Record.{sound};
 ghost use Rattle.session.specs.Answer.{answer-reply};
 use crate::reply::Answer;
 use record::Party;
@@ -11,7 +12,15 @@ use search::price;
 pub fn answer(q: Party) -> Answer
     ensures { λ r. ⌜ r ≡ answer-reply q ⌝ }
 {
-    if !sound(q) {
+    answer_judged(q, sound(q))
+}
+
+// The same, of a record that who calls has judged where it stands.
+pub fn answer_judged(q: Party, whole: bool) -> Answer
+    requires { ⌜ whole ≡ sound q ⌝ }
+    ensures { λ r. ⌜ r ≡ answer-reply q ⌝ }
+{
+    if !whole {
         return Answer::Refused(Refusal::OutOfRange);
     }
     if !ended(q) {

@@ -5,6 +5,8 @@ mod opening;
 mod reply;
 
 pub use adding::add;
+pub use adding::add_judged;
 pub use answering::answer;
+pub use answering::answer_judged;
 pub use opening::open;
 pub use reply::Answer;

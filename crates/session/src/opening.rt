@@ -2,6 +2,7 @@
 ghost use mathlib.Core.Path.{_≡_};
 ghost use lib.ListN.{length, replicate};
 ghost use Rattle.session.specs.Open.{open-reply, open-left};
+use kept_pairs::Pairs;
 use ranges::on_list;
 use record::Party;
 use record::Reply;
@@ -12,13 +13,14 @@ use refusal::Refusal;
 use roll::Roll;
 use search::Bracket;
 use search::Search;
+use ways::is_way;
 
 // Zeroes the totals and gives the record that the session starts with.
-pub fn open(n: u64, own: u64, k: u64, totals: &mut [u64]) -> Reply
-    ensures { λ r. ⌜ (r ≡ open-reply n own k (now (totals .entry)))
-        × (now (totals .exit) ≡ open-left n own k (now (totals .entry))) ⌝ }
+pub fn open(n: u64, own: u64, k: u64, last: u64, totals: &mut [u64]) -> Reply
+    ensures { λ r. ⌜ (r ≡ open-reply n own k last (now (totals .entry)))
+        × (now (totals .exit) ≡ open-left n own k last (now (totals .entry))) ⌝ }
 {
-    if !on_list(n, own, k) {
+    if !(on_list(n, own, k) & is_way(last)) {
         return refused(Refusal::OutOfRange, blank());
     }
     if totals.len() != 2 * k as usize {
@@ -44,6 +46,8 @@ pub fn open(n: u64, own: u64, k: u64, totals: &mut [u64]) -> Reply
         roll: Roll::empty(),
         demand: 0,
         supply: 0,
+        last,
+        pairs: Pairs::none(),
     })
 }
 

@@ -20,6 +20,8 @@ use Rattle.openings.specs.Opening.{opened}
 use Rattle.openings.specs.declared.opening.Opening.{Opening}
 use Rattle.openings.specs.declared.opening.Opening.the-variants.{Secret}
 use Rattle.openings.proofs.Laws.{amount-fits, byte-fits, opens}
+use Rattle.ways.specs.Way.{way-of, triples-of}
+use Rattle.ways.proofs.Laws.{drawn-split}
 use Rattle.dealer.specs.Deal.{byte-shares, mask-bits, triple-secrets, triple, triples, preprocessing}
 use Rattle.dealer.proofs.Laws.{length-shares, share-at, length-bits, bit-at, length-triple, Deals}
 
@@ -49,46 +51,47 @@ module _ (t own : ℕ) where
       ∙ ap (λ (l : List ℕ). value bytes (getD (triple-secrets l) r 0 ∷ take t (drop (2 + r * t) l)) own)
       (drop-drop (j * (2 + 3 * t)) (2 + 3 * t) drawn ∙ ap (λ (n : ℕ). drop n drawn) k)
 
--- the drawn bytes from those of triple i on
+-- the drawn bytes from those of triple i on, counted from 0
 abbrev pub from-triple : (t i : ℕ) → List ℕ → List ℕ
-from-triple t i drawn = drop (33 * t + (i - 2) * (2 + 3 * t)) drawn
+from-triple t i drawn = drop (33 * t + i * (2 + 3 * t)) drawn
 
-module _ (t own : ℕ) (words drawn : List ℕ) where
+-- a sheet of m triples
+module _ (m t own : ℕ) (words drawn : List ℕ) where
   -- the words are the mask and its coefficients
-  mask-word : 0 < length words → getD (preprocessing t own words drawn) 0 0 ≡ value amounts (getD words 0 0 ∷ drop 1 words) own
+  mask-word : 0 < length words → getD (preprocessing m t own words drawn) 0 0 ≡ value amounts (getD words 0 0 ∷ drop 1 words) own
   unfolding preprocessing
   mask-word h = ap (λ (l : List ℕ). value amounts l own) (drop-cons words 0 0 h)
 
   bit-word : (i : ℕ) → 1 ≤ i → i ≤ 33
-      → getD (preprocessing t own words drawn) i 0 ≡ value bytes (bit i (getD words 0 0) ∷ take t (drop ((i - 1) * t) drawn)) own
+      → getD (preprocessing m t own words drawn) i 0 ≡ value bytes (bit i (getD words 0 0) ∷ take t (drop ((i - 1) * t) drawn)) own
   unfolding preprocessing
   bit-word zero l h = absurd (omega arith)
   bit-word (suc i) l h =
       let j : suc i - 1 ≡ i = omega arith in
       let k : 1 + i ≡ suc i = omega arith in
-      List·getD-append (byte-shares t own (mask-bits (getD words 0 0)) drawn) (triples t own 31 (drop (33 * t) drawn)) 0 i (rw (length-shares, length-bits) (omega arith))
+      List·getD-append (byte-shares t own (mask-bits (getD words 0 0)) drawn) (triples t own m (drop (33 * t) drawn)) 0 i (rw (length-shares, length-bits) (omega arith))
       ∙ share-at t own (mask-bits (getD words 0 0)) drawn i (rw length-bits (omega arith))
       ∙ ap (λ (b : ℕ). value bytes (b ∷ take t (drop (i * t) drawn)) own) (bit-at (getD words 0 0) i (omega arith) ∙ ap (λ (e : ℕ). bit e (getD words 0 0)) k)
       ∙ ap (λ (e : ℕ). value bytes (bit (suc i) (getD words 0 0) ∷ take t (drop (e * t) drawn)) own) (sym j)
 
   -- of triple i the shares of alpha, beta and gamma (r is 0, 1, 2), each with its own coefficients
-  triple-word : (i r : ℕ) → 2 ≤ i → i ≤ 32 → r < 3
-      → getD (preprocessing t own words drawn) (34 + 3 * (i - 2) + r) 0
+  triple-word : (i r : ℕ) → i < m → r < 3
+      → getD (preprocessing m t own words drawn) (34 + 3 * i + r) 0
       ≡ value bytes (getD (triple-secrets (from-triple t i drawn)) r 0 ∷ take t (drop (2 + r * t) (from-triple t i drawn))) own
   unfolding preprocessing
-  triple-word i r l h hr =
+  triple-word i r h hr =
       let front = byte-shares t own (mask-bits (getD words 0 0)) drawn in
-      let j : 34 + 3 * (i - 2) + r ≡ suc (length front + (3 * (i - 2) + r)) = omega (arith, length-shares t own (mask-bits (getD words 0 0)) drawn, length-bits (getD words 0 0)) in
-      ap (λ (k : ℕ). getD (value amounts words own ∷ front ++ triples t own 31 (drop (33 * t) drawn)) k 0) j
-      ∙ getD-append-add front (triples t own 31 (drop (33 * t) drawn)) (3 * (i - 2) + r) 0
-      ∙ triples-at t own 31 (i - 2) (drop (33 * t) drawn) r (omega arith) hr
-      ∙ ap (λ (l : List ℕ). value bytes (getD (triple-secrets l) r 0 ∷ take t (drop (2 + r * t) l)) own) (drop-drop ((i - 2) * (2 + 3 * t)) (33 * t) drawn)
+      let j : 34 + 3 * i + r ≡ suc (length front + (3 * i + r)) = omega (arith, length-shares t own (mask-bits (getD words 0 0)) drawn, length-bits (getD words 0 0)) in
+      ap (λ (k : ℕ). getD (value amounts words own ∷ front ++ triples t own m (drop (33 * t) drawn)) k 0) j
+      ∙ getD-append-add front (triples t own m (drop (33 * t) drawn)) (3 * i + r) 0
+      ∙ triples-at t own m i (drop (33 * t) drawn) r h hr
+      ∙ ap (λ (l : List ℕ). value bytes (getD (triple-secrets l) r 0 ∷ take t (drop (2 + r * t) l)) own) (drop-drop (i * (2 + 3 * t)) (33 * t) drawn)
 
 -- ---- opening
 
--- what the n parties' words at one place of their sheets open to
-abbrev pub opened-at : (S : Scheme) (n : ℕ) (words drawn : List ℕ) → ℕ → Opening
-opened-at S n words drawn i = opened S n (map (λ j. getD (preprocessing (threshold n) j words drawn) i 0) (points n))
+-- what the n parties' words at one place of their sheets open to, the sheets being of so many rounds
+abbrev pub opened-at : (S : Scheme) (n last : ℕ) (words drawn : List ℕ) → ℕ → Opening
+opened-at S n last words drawn i = opened S n (map (λ j. getD (preprocessing (triples-of (way-of last)) (threshold n) j words drawn) i 0) (points n))
 
 -- a triple is of bytes
 secrets-below : (drawn : List ℕ) → AllBelow 256 drawn → AllBelow 256 (triple-secrets drawn)
@@ -97,12 +100,12 @@ secrets-below drawn h =
     let beta : getD drawn 1 0 < 256 = below-at 256 drawn 1 h (lit< tt) in
     (alpha, (beta, (byte-field .ring .mul-lt _ _ alpha beta, tt)))
 
-module _ {n own : ℕ} {words drawn sheet : List ℕ} (h : Deals n own words drawn sheet) where
-  pub mask-opens : opened-at amount-scheme n words drawn 0 ≡ Secret (getD words 0 0)
+module _ {n own last : ℕ} {words drawn sheet : List ℕ} (h : Deals n own last words drawn sheet) where
+  pub mask-opens : opened-at amount-scheme n last words drawn 0 ≡ Secret (getD words 0 0)
   mask-opens =
       let some : 0 < length words = omega (arith, h .words-long) in
       ap (λ (f : ℕ → ℕ). opened amount-scheme n (map f (points n)))
-      (fun-ext (λ j. mask-word (threshold n) j words drawn some))
+      (fun-ext (λ j. mask-word (triples-of (way-of last)) (threshold n) j words drawn some))
       ∙ opens amount-fits n (getD words 0 0) (drop 1 words) (h .party .parties-least) (h .party .parties-most)
       (lt-of-lt-of-le (h .mask-below) (lit≤ tt)) (h .coins-below) (omega (arith, length-drop 1 words, h .words-long))
 
@@ -116,21 +119,23 @@ module _ {n own : ℕ} {words drawn sheet : List ℕ} (h : Deals n own words dra
         (below-take 256 (threshold n) (drop m drawn) (below-drop 256 m drawn small))
         (length-take-le (threshold n) (drop m drawn) (omega (arith, length-drop m drawn)))
 
-    pub bit-opens : (i : ℕ) → 1 ≤ i → i ≤ 33 → opened-at byte-scheme n words drawn i ≡ Secret (bit i (getD words 0 0))
+    pub bit-opens : (i : ℕ) → 1 ≤ i → i ≤ 33 → opened-at byte-scheme n last words drawn i ≡ Secret (bit i (getD words 0 0))
     unfolding bit
     bit-opens i l l′ =
         let r : (i - 1 + 1) * threshold n ≤ 33 * threshold n = mul-le-mul-right (threshold n) (omega arith) in
-        shared _ _ ((i - 1) * threshold n) (λ j. bit-word (threshold n) j words drawn i l l′) (lt-of-lt-of-le (mod-lt _ (lit< tt)) (lit≤ tt)) (omega (arith, h .drawn-long))
+        shared _ _ ((i - 1) * threshold n) (λ j. bit-word (triples-of (way-of last)) (threshold n) j words drawn i l l′) (lt-of-lt-of-le (mod-lt _ (lit< tt)) (lit≤ tt)) (omega (arith, h .drawn-long, drawn-split (way-of last) (threshold n)))
 
     -- alpha, beta, and gamma, which is their product
-    pub triple-opens : (i r : ℕ) → 2 ≤ i → i ≤ 32 → r < 3
-        → opened-at byte-scheme n words drawn (34 + 3 * (i - 2) + r) ≡ Secret (getD (triple-secrets (from-triple (threshold n) i drawn)) r 0)
-    triple-opens i r l l′ hr =
+    pub triple-opens : (i r : ℕ) → i < triples-of (way-of last) → r < 3
+        → opened-at byte-scheme n last words drawn (34 + 3 * i + r) ≡ Secret (getD (triple-secrets (from-triple (threshold n) i drawn)) r 0)
+    triple-opens i r l hr =
         let t = threshold n in
-        let a : (i - 2 + 1) * (2 + 3 * t) ≤ 31 * (2 + 3 * t) = mul-le-mul-right (2 + 3 * t) (omega arith) in
+        let count = triples-of (way-of last) in
+        let a : (i + 1) * (2 + 3 * t) ≤ count * (2 + 3 * t) = mul-le-mul-right (2 + 3 * t) (omega arith) in
         let b : (r + 1) * t ≤ 3 * t = mul-le-mul-right t (omega arith) in
-        let m = 33 * t + (i - 2) * (2 + 3 * t) in
+        let m = 33 * t + i * (2 + 3 * t) in
         let s = getD (triple-secrets (drop m drawn)) r 0 in
         shared _ s (m + (2 + r * t))
-        (λ j. triple-word t j words drawn i r l l′ hr ∙ ap (λ (l : List ℕ). value bytes (s ∷ take t l) j) (drop-drop (2 + r * t) m drawn))
-        (below-at 256 (triple-secrets (drop m drawn)) r (secrets-below (drop m drawn) (below-drop 256 m drawn small)) (lit< tt)) (omega (arith, h .drawn-long))
+        (λ j. triple-word count t j words drawn i r l hr ∙ ap (λ (l : List ℕ). value bytes (s ∷ take t l) j) (drop-drop (2 + r * t) m drawn))
+        (below-at 256 (triple-secrets (drop m drawn)) r (secrets-below (drop m drawn) (below-drop 256 m drawn small)) (lit< tt))
+        (omega (arith, h .drawn-long, drawn-split (way-of last) t))

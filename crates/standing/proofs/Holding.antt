@@ -43,12 +43,12 @@ module _ {a : Auction} (A : IsAuction a) where
   -- what `open_all` leaves
   pub opened-holds : (old totals : List ℕ) (parties : List Party) → length old ≡ a .n * (2 * a .k)
       → All (a .n)
-      (λ i. (getD parties i blank ≡ open-reply (a .n) (i + 1) (a .k) (part (2 * a .k) i old) .party)
-      × (part (2 * a .k) i totals ≡ open-left (a .n) (i + 1) (a .k) (part (2 * a .k) i old)))
+      (λ i. (getD parties i blank ≡ open-reply (a .n) (i + 1) (a .k) (a .last) (part (2 * a .k) i old) .party)
+      × (part (2 * a .k) i totals ≡ open-left (a .n) (i + 1) (a .k) (a .last) (part (2 * a .k) i old)))
       → Holds a empty (no-totals a) parties totals
   opened-holds old totals parties l e i h =
       let ok = opening-accepted A (i + 1) (omega arith) (omega arith) (part (2 * a .k) i old) (part-length (2 * a .k) (a .n) i old l h) in (
-        e i h .0 ∙ next-party _ (fresh (a .n) (i + 1) (a .k)) blank ok ∙ fresh-holding (a .n) (a .k) (i + 1),
+        e i h .0 ∙ next-party _ (fresh (a .n) (i + 1) (a .k) (a .last)) blank ok ∙ fresh-holding (a .n) (a .k) (a .last) (i + 1),
         e i h .1 ∙ kept-new _ (replicate (2 * a .k) 0) (part (2 * a .k) i old) ok ∙ sym (at-party-zeros (threshold (a .n)) (i + 1) (2 * a .k)),
       )
 
@@ -161,7 +161,7 @@ module _ {a : Auction} (A : IsAuction a) (bids : ℕ) (input : List ℕ) (whole 
       ap (λ (m : ℕ). still (a .k) (threshold (a .n)) m (i + 1) input at last) z in
       let full : B .roll ≡ full-roll a = all-entered a (B .roll) (rw none at (B .entering)) in
       let r : B .behind ≡ whole = rw none at (B .rest) in
-      (B .holds j h .0 ∙ ap (λ (x : Roll). holding (a .n) (a .k) x (j + 1)) full, B .holds j h .1 ∙ ap (at-party (j + 1)) r)
+      (B .holds j h .0 ∙ ap (λ (x : Roll). holding (a .n) (a .k) (a .last) x (j + 1)) full, B .holds j h .1 ∙ ap (at-party (j + 1)) r)
 
 -- none is
 pub bidding-start : (n k bids : ℕ) (input : List ℕ) (at state : ℕ) → Word state → (parties : List Party) (totals : List ℕ) → IsAuction (auction-of n k bids (drop at input))

@@ -7,6 +7,7 @@ use Rattle.sharing.specs.Scheme.{threshold}
 use Rattle.search.specs.Limit.{most-probes}
 use Rattle.search.specs.declared.searches.Search.{Search}
 use Rattle.search.specs.Searches.{first-search, next}
+use Rattle.ways.specs.Way.{way-of}
 use Rattle.comparison.specs.Probe.{SheetCoins, secret, last-polynomial}
 use Rattle.record.specs.declared.Party.{Party}
 use Rattle.roll.specs.declared.Roll.{Roll}
@@ -22,7 +23,7 @@ use Rattle.draws.specs.Draws.{bid-coins}
 use Rattle.sections.specs.Sections.{tables}
 use Rattle.record.specs.Record.{blank}
 use Rattle.panel.specs.Parties.{All, part}
-use Rattle.standing.specs.Numbered.{numbered}
+use Rattle.standing.specs.Numbered.{rehearsed, numbered}
 
 -- what the party after i others has
 abbrev pub seat-of : (k : ℕ) → List Party → (totals sheets : List ℕ) → ℕ → Seat
@@ -35,40 +36,40 @@ Stands a c σ parties totals sheets = All (a .n) (λ i. seat-of (a .k) parties t
 
 -- the verdict of a probe
 abbrev pub verdict-at : (a : Auction) → Coins → Search → SheetCoins → ℕ
-verdict-at a c here s = secret (last-polynomial (probe-of a (polynomials a c) here s))
+verdict-at a c here s = secret (last-polynomial (way-of (a .last)) (probe-of a (polynomials a c) here s))
 
 -- 33 rounds are a probe of every auction in which the parties may stand
 abbrev pub Probes : (n k : ℕ) → List Party → (totals sheets : List ℕ) → List Party → Type 0
 Probes n k parties totals sheets after =
-    (bids : List Bid) (c : Coins) → IsAuction (record { n = n; k = k; bids = bids }) → InRange (record { n = n; k = k; bids = bids }) c
-    → (here : Search) (s : SheetCoins) (ss : List SheetCoins) → Ready (record { n = n; k = k; bids = bids }) c here s ss
-    → Stands (record { n = n; k = k; bids = bids }) c (fresh-stage here) parties totals sheets
-    → Stands (record { n = n; k = k; bids = bids }) c
-    (decided-stage (next here (verdict-at (record { n = n; k = k; bids = bids }) c here s))) after totals sheets
+    (bids : List Bid) (c : Coins) → IsAuction (rehearsed n k bids) → InRange (rehearsed n k bids) c
+    → (here : Search) (s : SheetCoins) (ss : List SheetCoins) → Ready (rehearsed n k bids) c here s ss
+    → Stands (rehearsed n k bids) c (fresh-stage here) parties totals sheets
+    → Stands (rehearsed n k bids) c
+    (decided-stage (next here (verdict-at (rehearsed n k bids) c here s))) after totals sheets
 
 -- and the rounds after the last probe end the session of every auction in which the parties may stand
 abbrev pub Closes : (n k : ℕ) → List Party → (totals sheets : List ℕ) → List Party → Type 0
 Closes n k parties totals sheets after =
-    (bids : List Bid) (c : Coins) → IsAuction (record { n = n; k = k; bids = bids }) → InRange (record { n = n; k = k; bids = bids }) c
-    → Stands (record { n = n; k = k; bids = bids }) c (decided-stage (last (record { n = n; k = k; bids = bids }) c)) parties totals sheets
-    → Stands (record { n = n; k = k; bids = bids }) c (end (record { n = n; k = k; bids = bids }) c) after totals sheets
+    (bids : List Bid) (c : Coins) → IsAuction (rehearsed n k bids) → InRange (rehearsed n k bids) c
+    → Stands (rehearsed n k bids) c (decided-stage (last (rehearsed n k bids) c)) parties totals sheets
+    → Stands (rehearsed n k bids) c (end (rehearsed n k bids) c) after totals sheets
 
 -- what holds of every auction in which the parties may stand at the start
 abbrev pub FromStart : (n k : ℕ) → List Party → (totals sheets : List ℕ) → (Auction → Type 0) → Type 0
 FromStart n k parties totals sheets P =
-    (bids : List Bid) (c : Coins) → IsAuction (record { n = n; k = k; bids = bids }) → InRange (record { n = n; k = k; bids = bids }) c
-    → Stands (record { n = n; k = k; bids = bids }) c (fresh-stage (first-search k)) parties totals sheets → P (record { n = n; k = k; bids = bids })
+    (bids : List Bid) (c : Coins) → IsAuction (rehearsed n k bids) → InRange (rehearsed n k bids) c
+    → Stands (rehearsed n k bids) c (fresh-stage (first-search k)) parties totals sheets → P (rehearsed n k bids)
 
 -- ---- the bids
 
 -- the bids of these on the roll are held, with the polynomials fs behind the totals
 abbrev pub Holds : (a : Auction) (roll : Roll) → List (List ℕ) → List Party → List ℕ → Type 0
 Holds a roll fs parties totals =
-    All (a .n) (λ i. (getD parties i blank ≡ holding (a .n) (a .k) roll (i + 1)) × (part (2 * a .k) i totals ≡ at-party (i + 1) fs))
+    All (a .n) (λ i. (getD parties i blank ≡ holding (a .n) (a .k) (a .last) roll (i + 1)) × (part (2 * a .k) i totals ≡ at-party (i + 1) fs))
 
 -- the auction of an input
 abbrev pub auction-of : (n k bids : ℕ) → List ℕ → Auction
-auction-of n k bids bytes = record { n = n; k = k; bids = numbered 1 (tables k bids bytes) }
+auction-of n k bids bytes = rehearsed n k (numbered 1 (tables k bids bytes))
 
 -- where the tables are good, all bids are added
 abbrev pub Adds : (n k bids : ℕ) (bytes : List ℕ) (state : ℕ) → List Party → List ℕ → List Party → List ℕ → Type 0

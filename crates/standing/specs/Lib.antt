@@ -1,2 +1,2 @@
--- The bids of an input, as an auction has them.
+-- The auction that is rehearsed, with the bids of an input.
 pub mod Numbered

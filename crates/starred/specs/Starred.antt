@@ -15,9 +15,10 @@ use Rattle.presence.specs.Presence.{everyone}
 use Rattle.comparison.specs.Rounds.{offset}
 use Rattle.comparison.specs.Probe.{Group, SheetCoins, SheetInRange, Probe, sheet-polynomials, secret, opened-sum, last-polynomial}
 use Rattle.record.specs.declared.Party.{Party}
-use Rattle.saying.specs.declared.Said.the-variants.{Message}
+use Rattle.refusal.specs.declared.Judgement.the-variants.{Accepted}
+use Rattle.ways.specs.Way.{Way}
 use Rattle.record.specs.Updates.{fresh}
-use Rattle.saying.specs.Say.{say-reply}
+use Rattle.saying.specs.Say.{say-judgement, say-left}
 use Rattle.hearing.specs.Hear.{hear-judgement}
 
 -- words of five parties through which no polynomial of degree at most 2 passes
@@ -28,11 +29,11 @@ with-73 = 12 ∷ 21 ∷ 34 ∷ 51 ∷ 73 ∷ []
 abbrev pub compared : (demand supply : ℕ) (of-demand of-supply : List ℕ) → SheetCoins → Probe
 compared demand supply of-demand of-supply c = record { demand = demand ∷ of-demand; supply = supply ∷ of-supply; sheet = sheet-polynomials c }
 
--- wherever these totals are compared under this mask, whatever else is drawn, T and the verdict are these
+-- wherever these totals are compared under this mask, in either way, whatever else is drawn, T and the verdict are these
 abbrev pub Compares : (demand supply mask T v : ℕ) → Type 0
 Compares demand supply mask T v =
-    (t : ℕ) (of-demand of-supply : List ℕ) (c : SheetCoins) → Group p t of-demand → Group p t of-supply → SheetInRange t c → c .mask ≡ mask
-    → (opened-sum (compared demand supply of-demand of-supply c) ≡ T) × (secret (last-polynomial (compared demand supply of-demand of-supply c)) ≡ v)
+    (w : Way) (t : ℕ) (of-demand of-supply : List ℕ) (c : SheetCoins) → Group p t of-demand → Group p t of-supply → SheetInRange w t c → c .mask ≡ mask
+    → (opened-sum (compared demand supply of-demand of-supply c) ≡ T) × (secret (last-polynomial w (compared demand supply of-demand of-supply c)) ≡ v)
 
 pub record Starred : Type 0 where
   -- "(p - 1)(p - 1) = 1 modulo p."
@@ -44,10 +45,11 @@ pub record Starred : Type 0 where
   pub five-shares : shares amounts (7 ∷ 3 ∷ 2 ∷ []) (points 5) ≡ 12 ∷ 21 ∷ 34 ∷ 51 ∷ 72 ∷ []
   pub five-open : opened amount-scheme 5 (12 ∷ 21 ∷ 34 ∷ 51 ∷ 72 ∷ []) ≡ Secret 7
   -- "With 73 last: refusal 10", for whichever of five parties hears them in round 1 with its own word in its place, all five present
-  pub five-refused : (q : Party) (totals sheets : List ℕ) → q .n ≡ 5 → q .round ≡ 1
-      → say-reply q totals sheets ≡ Message (getD with-73 (q .own - 1) 0) → codeOf (hear-judgement q totals sheets with-73 (everyone 5)) ≡ 10
+  pub five-refused : (q : Party) (totals sheets said : List ℕ) → q .n ≡ 5 → q .round ≡ 1 → say-judgement q totals sheets said ≡ Accepted
+      → say-left q totals sheets said ≡ getD with-73 (q .own - 1) 0 ∷ [] → codeOf (hear-judgement q totals sheets with-73 (everyone 5)) ≡ 10
   -- as the first does where the mask's share is 2^59 + 2^32 - 12 and nothing is bid
-  pub five-said : say-reply (fresh 5 1 1) (0 ∷ 0 ∷ []) ((offset - 12) ∷ replicate 253 0) ≡ Message 12
+  pub five-said : say-left (fresh 5 1 1 33) (0 ∷ 0 ∷ []) ((offset - 12) ∷ replicate 253 0) (0 ∷ []) ≡ 12 ∷ []
+  pub five-said-in-seven : say-left (fresh 5 1 1 7) (0 ∷ 0 ∷ []) ((offset - 12) ∷ replicate 439 0) (0 ∷ []) ≡ 12 ∷ []
   -- "n = 3, secret 0, coefficient p - 1: p - 1, p - 2, p - 3."
   pub three-shares : shares amounts (0 ∷ (p - 1) ∷ []) (points 3) ≡ (p - 1) ∷ (p - 2) ∷ (p - 3) ∷ []
   -- "byte secret 01h, coefficient 80h, n = 3: 81h, 1Ah, 9Ah."

@@ -17,8 +17,8 @@ split-code n own k table coins shares = codeOf (split-judgement n own k table co
 abbrev pub split-entry-code : (n own k entry : ℕ) (table coins shares : List ℕ) → ℕ
 split-entry-code n own k entry table coins shares = codeOf (split-entry-judgement n own k entry table coins shares)
 
-abbrev pub deal-code : (n own : ℕ) (words drawn sheet : List ℕ) → ℕ
-deal-code n own words drawn sheet = codeOf (deal-judgement n own words drawn sheet)
+abbrev pub deal-code : (n own last : ℕ) (words drawn sheet : List ℕ) → ℕ
+deal-code n own last words drawn sheet = codeOf (deal-judgement n own last words drawn sheet)
 
 -- ---- the settlement page: what is left of the page is `write-left`, and of the entries `read-left`
 

@@ -35,11 +35,11 @@ pub fn split_entry(
 }
 
 // A party's preprocessing of one probe.
-pub fn deal(n: u64, own: u64, words: &[u64], bytes: &[u8], sheet: &mut [u64]) -> u64
-    ensures { λ r. ⌜ (r ≡ deal-code n own (now (words .entry)) (now (bytes .entry)) (now (sheet .entry)))
-        × (now (sheet .exit) ≡ deal-left n own (now (words .entry)) (now (bytes .entry)) (now (sheet .entry))) ⌝ }
+pub fn deal(n: u64, own: u64, last: u64, words: &[u64], bytes: &[u8], sheet: &mut [u64]) -> u64
+    ensures { λ r. ⌜ (r ≡ deal-code n own last (now (words .entry)) (now (bytes .entry)) (now (sheet .entry)))
+        × (now (sheet .exit) ≡ deal-left n own last (now (words .entry)) (now (bytes .entry)) (now (sheet .entry))) ⌝ }
 {
-    code(dealer::deal(n, own, words, bytes, sheet))
+    code(dealer::deal(n, own, last, words, bytes, sheet))
 }
 
 // The settlement page of these entries at the price, and how many bytes its lines take.

@@ -4,6 +4,7 @@ mod line;
 mod of_hearing;
 mod of_presence;
 mod of_price;
+mod of_seven;
 
 fn main() {
     worked_values::print();
@@ -12,6 +13,7 @@ fn main() {
     of_hearing::print();
     of_presence::print();
     of_price::print();
+    of_seven::print();
     worked_sessions::print();
     worked_pages::print();
 }

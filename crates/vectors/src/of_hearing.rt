@@ -7,6 +7,7 @@ ghost use Prim.Native.Nat.{_≤_, _<_};
 ghost use lib.ListN.{length};
 use crate::line;
 use fields::P;
+use kept_pairs::Pairs;
 use record::Party;
 use roll::Roll;
 use worked_party::code;
@@ -79,6 +80,8 @@ fn at_round(round: u64, sum: u64, carry: u64) -> Party {
         roll: Roll::empty().mark(1000),
         demand: 0,
         supply: 0,
+        last: 33,
+        pairs: Pairs::none(),
     }
 }
 
@@ -344,5 +347,5 @@ fn deal(words: &[u64], step: u8, start: u8, sheets: &mut [u64], at: usize)
     let mut bytes = [0u8; 188];
     fill(&mut bytes, step, start);
     let to = at + 127;
-    let _ = dealer::deal(3, 2, words, &bytes, &mut sheets[at..to]);
+    let _ = dealer::deal(3, 2, 33, words, &bytes, &mut sheets[at..to]);
 }

@@ -7,6 +7,7 @@ use crate::of_bidders;
 use crate::of_fills;
 use crate::of_price;
 use crate::of_searches;
+use crate::of_seven;
 use crate::records::answer;
 use crate::records::at_price;
 use crate::records::code;
@@ -19,8 +20,8 @@ use crate::records::second;
 use crate::records::two;
 use fields::P;
 use record::Party;
+use refusal::Judgement;
 use roll::Roll;
-use saying::Said;
 
 pub fn print() {
     open_accepted();
@@ -37,12 +38,13 @@ pub fn print() {
     of_searches::print();
     of_price::print();
     of_fills::print();
+    of_seven::print();
 }
 
 fn open_accepted() {
     line::title(b"opened:");
     let mut totals = [7u64; 2];
-    record(session::open(3, 1, 1, &mut totals));
+    record(session::open(3, 1, 1, 33, &mut totals));
     line::numbers(&totals);
     line::end();
 }
@@ -67,7 +69,7 @@ fn open_lengths() {
     line::title(b"open lengths, totals left:");
     opens(3, 1, 1, 1);
     let mut totals = [7u64; 3];
-    line::number(code(session::open(3, 1, 1, &mut totals)));
+    line::number(code(session::open(3, 1, 1, 33, &mut totals)));
     line::numbers(&totals);
     line::end();
 }
@@ -76,7 +78,7 @@ fn opens(n: u64, own: u64, k: u64, count: usize)
     requires { ⌜ count ≤ 2050 ⌝ }
 {
     let mut totals = [7u64; 2050];
-    line::number(code(session::open(n, own, k, &mut totals[..count])));
+    line::number(code(session::open(n, own, k, 33, &mut totals[..count])));
 }
 
 // The words of rounds 1, 2 and 33, then of a second probe's round 1, which takes the second sheet.
@@ -203,17 +205,18 @@ fn says(q: Party, held: usize, lent: usize)
     said_code(q, &totals[..held], &sheets[..lent]);
 }
 
+// Of 33 rounds a word is said in each.
 pub(crate) fn said_code(q: Party, totals: &[u64], sheets: &[u64]) {
-    match saying::say(q, totals, sheets) {
-        Said::Message(_) => line::number(0),
-        Said::Refused(why) => line::number(refusal::number(why)),
-    }
+    let mut word = [0u64; 1];
+    let judgement = saying::say(q, totals, sheets, &mut word);
+    line::number(refusal::code(judgement));
 }
 
 pub(crate) fn said(q: Party, totals: &[u64], sheets: &[u64]) {
-    match saying::say(q, totals, sheets) {
-        Said::Message(word) => line::number(word),
-        Said::Refused(_) => line::word(b"refused"),
+    let mut word = [0u64; 1];
+    match saying::say(q, totals, sheets, &mut word) {
+        Judgement::Accepted => line::numbers(&word),
+        Judgement::Refused(_) => line::word(b"refused"),
     }
 }
 

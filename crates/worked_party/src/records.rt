@@ -1,5 +1,6 @@
 // Records of the first of three parties, for one price; and what a call's reply prints.
 use crate::line;
+use kept_pairs::Pairs;
 use record::Party;
 use record::Reply;
 use refusal::Judgement;
@@ -27,6 +28,8 @@ pub(crate) fn holding(bids: u64, roll: Roll) -> Party {
         roll,
         demand: 0,
         supply: 0,
+        last: 33,
+        pairs: Pairs::none(),
     }
 }
 
@@ -80,6 +83,16 @@ pub fn record(reply: Reply) {
         Judgement::Accepted => party(q),
         Judgement::Refused(_) => line::word(b"refused"),
     }
+}
+
+// The same of seven rounds: with the last round of a probe, and the pair shares.
+pub fn whole(reply: Reply) {
+    record(reply);
+    let q = reply.party;
+    let pairs = q.pairs;
+    let kept = pairs.words;
+    line::number(q.last);
+    line::numbers(&kept);
 }
 
 // The index and the probes.

@@ -17,6 +17,10 @@ pub struct Attendance {
     pub verdicts_late: u64,
     /// Those among them that opened a total.
     pub totals_late: u64,
+    /// Those among them that merged pairs.
+    pub levels_late: u64,
+    /// How often a party dropped off that had heard a level and had one to hear.
+    pub off_between_levels: u64,
     /// How often a party that had heard late was marked again.
     pub marked_again: u64,
     /// Parties that came back when the others had their answer.
@@ -31,7 +35,8 @@ struct Event {
     holds: fn(&Attendance) -> bool,
 }
 
-const EVENTS: [Event; 11] = [
+/// Those that need levels are the last ones, and do not come up on the way of 33.
+const EVENTS: [Event; 13] = [
     Event {
         name: "all marked in every round",
         holds: |seen| seen.rounds_without_some == 0,
@@ -76,7 +81,18 @@ const EVENTS: [Event; 11] = [
         name: "back when the others had their answer",
         holds: |seen| seen.back_at_the_end > 0,
     },
+    Event {
+        name: "a level heard late",
+        holds: |seen| seen.levels_late > 0,
+    },
+    Event {
+        name: "dropped off between two levels",
+        holds: |seen| seen.off_between_levels > 0,
+    },
 ];
+
+/// The number of those.
+const OF_LEVELS: usize = 2;
 
 /// In how many auctions each came up.
 #[derive(Default)]
@@ -92,9 +108,10 @@ impl Events {
         }
     }
 
-    /// Each of them and how often it came up.
-    pub fn counts(&self) -> impl Iterator<Item = (&'static str, u64)> + '_ {
+    /// Each of them that can come up, with levels or without, and how often it did.
+    pub fn counts(&self, levels: bool) -> impl Iterator<Item = (&'static str, u64)> + '_ {
+        let without = if levels { 0 } else { OF_LEVELS };
         let names = EVENTS.iter().map(|event| event.name);
-        names.zip(self.counts)
+        names.zip(self.counts).take(EVENTS.len() - without)
     }
 }

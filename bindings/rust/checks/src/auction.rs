@@ -1,23 +1,24 @@
-//! Whole auctions: every call is compared, shares that are split at once are
-//! checked against their entries, each verdict, what the first search gives, the
+//! Whole auctions, on both ways: every call is compared, shares that are split at once
+//! are checked against their entries, each verdict, what the first search gives, the
 //! answer, the totals that are opened and what all buyers get against the totals of
 //! the bids, the settlement page is read back, and damaged calls and bids that are sent
 //! again stand in between. Parties drop off in the middle of a probe and come back, or
-//! do not, and all who hear a round come to the same.
+//! do not, and all who hear a round come to the same. So do the two ways in the end.
 
 use clockivy::words::place::{
-    BIDS, CARRY, DEMAND, FIRST, FIRST_PROBES, HI, LO, OWN, PROBES, ROLL, ROUND, SEARCH, SUPPLY,
+    BIDS, CARRY, DEMAND, FIRST, FIRST_PROBES, HI, LO, OWN, PAIRS, PROBES, ROLL, ROUND, SEARCH,
+    SUPPLY,
 };
 use clockivy::{
-    coins_len, deal_bytes_len, deal_words_len, sheet_count, table_len, Refusal, RECORD_LEN,
+    coins_len, deal_words_len, sheet_count, table_len, Refusal, PAIRS_LEN, RECORD_LEN,
     SETTLEMENT_LEN,
 };
 use clockivy_reference::field::amount::P;
 use clockivy_reference::{
-    probe_limit, threshold, DEMAND_ROUND, FIRST_SEARCH, HIGHEST_PRICE, LAST_ROUND, MAX_AMOUNT,
-    MAX_BIDS, SECOND_SEARCH,
+    drawn_len, probe_limit, sheet_len, threshold, DEMAND_ROUND, FIRST_SEARCH, HIGHEST_PRICE,
+    MAX_AMOUNT, MAX_BIDS, SECOND_SEARCH, WAYS,
 };
-use clockivy_testing::{count, WAY};
+use clockivy_testing::count;
 
 use crate::attendance::Attendance;
 use crate::call::Call;
@@ -26,10 +27,14 @@ use crate::differential::{Difference, Tally};
 use crate::generate;
 use crate::outcome::Totals;
 use crate::page;
-use crate::record::{has_bid, has_cleared, has_searched, index, is_over, mark};
+use crate::record::{
+    has_bid, has_cleared, has_searched, index, is_of_a_level, is_of_a_verdict, is_over, mark, way,
+    width,
+};
 use crate::rng::Rng;
 
 /// A bid.
+#[derive(Clone)]
 struct Bid {
     bidder: u64,
     table: Vec<u64>,
@@ -77,6 +82,7 @@ struct Auction<'a> {
     tally: &'a mut Tally,
     n: u64,
     k: u64,
+    last: u64,
     bids: Vec<Bid>,
     /// The sums that nobody has, to hold the verdicts and the answer against.
     totals: Totals,
@@ -87,7 +93,8 @@ struct Auction<'a> {
     seen: Attendance,
 }
 
-/// Runs one auction of bids with these tables, at most 1,000, of as many bidders.
+/// Runs one auction on both ways, of bids with these tables, at most 1,000, of as many
+/// bidders.
 pub fn whole(
     rng: &mut Rng,
     n: u64,
@@ -96,61 +103,82 @@ pub fn whole(
     attending: Attending,
     tally: &mut Tally,
 ) -> Result<(), Difference> {
-    let totals = Totals::of(k, tables.iter().map(Vec::as_slice));
-    let bids = rng
+    let bids: Vec<Bid> = rng
         .numbers(MAX_BIDS, tables.len() as u64)
         .into_iter()
         .zip(tables)
         .map(|(bidder, table)| Bid { bidder, table })
         .collect();
-    let rates = match attending {
-        Attending::Everybody => None,
-        Attending::DroppingOff => Some(Rates {
-            off: rng.pick(&[3, 20, 100]),
-            back: rng.pick(&[2, 10, 50, 10_000]),
-        }),
-    };
-    let mut auction = Auction {
-        rng,
-        tally,
-        n,
-        k,
-        bids,
-        totals,
-        seats: Vec::new(),
-        rates,
-        rounds: Vec::new(),
-        seen: Attendance::default(),
-    };
-    auction.open()?;
-    auction.bid()?;
-    auction.deal()?;
-    let mut verdicts = 0;
-    while !has_searched(&auction.front().record) {
-        auction.probe()?;
-        verdicts += 1;
+    let mut ends = Vec::new();
+    for last in WAYS {
+        let rates = match attending {
+            Attending::Everybody => None,
+            Attending::DroppingOff => Some(Rates {
+                off: rng.pick(&[3, 20, 100]),
+                back: rng.pick(&[2, 10, 50, 10_000]),
+            }),
+        };
+        let mut auction = Auction {
+            rng,
+            tally,
+            n,
+            k,
+            last,
+            bids: bids.clone(),
+            totals: Totals::of(k, bids.iter().map(|bid| &bid.table[..])),
+            seats: Vec::new(),
+            rates,
+            rounds: Vec::new(),
+            seen: Attendance::default(),
+        };
+        ends.push(auction.run()?);
+        auction.holds(ends[0] == ends[ends.len() - 1], "the two ways differ")?;
     }
-    if has_cleared(&auction.front().record) {
-        auction.open_totals()?;
-    }
-    auction.come_back_at_the_end()?;
-    auction.ask(verdicts)?;
-    auction.share_out()?;
-    auction.tally.count_auction(&auction.totals, &auction.seen);
     Ok(())
 }
 
-/// What a record has in common with those of the other parties.
+/// What a record has in common with those of the other parties. The way is the last
+/// word of it.
 fn common(record: &[u64]) -> Vec<u64> {
-    [&record[..OWN], &record[OWN + 1..CARRY], &record[ROLL..]].concat()
+    let [numbers, rest] = [&record[OWN + 1..CARRY], &record[ROLL..PAIRS]];
+    [&record[..OWN], numbers, rest].concat()
+}
+
+/// Whether a record keeps nothing that is the party's own.
+fn keeps_nothing(record: &[u64]) -> bool {
+    record[CARRY] == 0 && record[PAIRS..] == [0; PAIRS_LEN]
 }
 
 impl Auction<'_> {
+    /// All of it. Gives what all records have in common in the end, but for the way.
+    fn run(&mut self) -> Result<Vec<u64>, Difference> {
+        self.open()?;
+        self.bid()?;
+        self.deal()?;
+        let mut verdicts = 0;
+        while !has_searched(&self.front().record) {
+            self.probe()?;
+            verdicts += 1;
+        }
+        if has_cleared(&self.front().record) {
+            self.open_totals()?;
+        }
+        self.come_back_at_the_end()?;
+        self.ask(verdicts)?;
+        self.share_out()?;
+        let record = &self.front().record;
+        let (way, mut end) = (way(record), common(record));
+        let last = end.pop();
+        self.holds(last == Some(self.last), "the way is another")?;
+        self.tally.count_auction(way, &self.totals, &self.seen);
+        Ok(end)
+    }
+
     fn open(&mut self) -> Result<(), Difference> {
         for own in 1..=self.n {
             let totals = self.rng.words(table_len(self.k), Rng::word);
             let record = self.rng.words(RECORD_LEN, Rng::word);
-            let call = Call::open(self.n, own, self.k, &totals, &record);
+            let call = Call::open(self.n, own, self.k, self.last, &totals, &record);
             let left = self.accepted(call)?;
             self.seats.push(Seat {
                 totals: left.words[0].to_vec(),
@@ -266,10 +294,10 @@ impl Auction<'_> {
             let length = deal_words_len(self.n);
             let mut words = self.rng.words(length, Rng::amount_share);
             words[0] = self.rng.mask();
-            let bytes = self.rng.bytes(deal_bytes_len(self.n, WAY));
+            let bytes = self.rng.bytes(drawn_len(self.n, self.last));
             for own in 1..=self.n {
-                let sheet = self.rng.words(WAY.sheet_len(), Rng::word);
-                let call = Call::deal(self.n, own, &words, &bytes, &sheet);
+                let sheet = self.rng.words(sheet_len(self.last), Rng::word);
+                let call = Call::deal(self.n, own, self.last, &words, &bytes, &sheet);
                 let left = self.accepted(call)?;
                 self.seats[own as usize - 1]
                     .sheets
@@ -288,12 +316,12 @@ impl Auction<'_> {
     /// One probe: all rounds, then the verdict against the totals.
     fn probe(&mut self) -> Result<(), Difference> {
         let expected = self.probed(&self.front().record);
-        for _ in 1..=LAST_ROUND {
+        for _ in 1..=self.last {
             self.round()?;
         }
         let after = &self.front().record;
         self.holds(
-            common(after) == common(&expected) && after[CARRY] == 0,
+            common(after) == common(&expected) && keeps_nothing(after),
             "a verdict is not that of the totals",
         )
     }
@@ -333,7 +361,7 @@ impl Auction<'_> {
             expected[place] = total;
             expected[ROUND] += 1;
             let after = &self.front().record;
-            let right = common(after) == common(&expected) && after[CARRY] == 0;
+            let right = common(after) == common(&expected) && keeps_nothing(after);
             self.holds(right, "a total is not that of the bids")?;
         }
         self.holds(
@@ -349,17 +377,20 @@ impl Auction<'_> {
             self.come_or_go(place)?;
         }
         let present = self.marks();
+        let length = width(&self.front().record);
         let mut messages = Vec::new();
         for (place, &mark) in present.iter().enumerate() {
-            let mut message = self.rng.word();
+            let mut message = self.rng.words(length, Rng::word);
             // One who is not marked may say something too: what it says where it
             // stands.
             if mark == 1 || self.rng.once_in(4) {
                 let seat = &self.seats[place];
-                let call = Call::say(&seat.record, &seat.totals, &seat.sheets, message);
-                message = self.accepted(call)?.words[3][0];
+                message.resize(width(&seat.record), 0);
+                let call = Call::say(&seat.record, &seat.totals, &seat.sheets, &message);
+                message = self.accepted(call)?.words[3].to_vec();
+                message.resize(length, 0);
             }
-            messages.push(message);
+            messages.extend(message);
         }
         self.rounds.push(Round {
             messages,
@@ -388,6 +419,9 @@ impl Auction<'_> {
         if let Some(Rates { off, .. }) = self.rates {
             if self.seats[place].there && spare > 0 && self.rng.once_in(off) {
                 self.seats[place].there = false;
+                let record = &self.seats[place].record;
+                let between = is_of_a_level(record) && record[ROUND] > 2;
+                self.seen.off_between_levels += u64::from(between);
             }
         }
     }
@@ -447,9 +481,12 @@ impl Auction<'_> {
             messages, present, ..
         } = &self.rounds[number];
         let (mut messages, present) = (messages.clone(), present.clone());
-        for (message, &mark) in messages.iter_mut().zip(&present) {
+        let length = messages.len() / present.len();
+        for (message, &mark) in messages.chunks_exact_mut(length).zip(&present) {
             if mark == 0 {
-                *message = self.rng.pick(&[*message, 0, 255, P, u64::MAX]);
+                for word in message {
+                    *word = self.rng.pick(&[*word, 0, 255, P, u64::MAX]);
+                }
             }
         }
         let seat = &self.seats[place];
@@ -483,8 +520,9 @@ impl Auction<'_> {
         seat.was_late = true;
         self.seen.heard_late += 1;
         self.seen.heard_late_though_marked += u64::from(marked);
-        self.seen.verdicts_late += u64::from(seat.record[ROUND] == LAST_ROUND);
-        self.seen.totals_late += u64::from(seat.record[ROUND] > LAST_ROUND);
+        self.seen.verdicts_late += u64::from(is_of_a_verdict(&seat.record));
+        self.seen.totals_late += u64::from(seat.record[ROUND] >= DEMAND_ROUND);
+        self.seen.levels_late += u64::from(is_of_a_level(&seat.record));
     }
 
     /// When there is an answer, some of those who are away come back for it.
@@ -609,7 +647,8 @@ impl Auction<'_> {
         } else {
             self.bids[self.rng.place(self.bids.len())].bidder
         };
-        let messages = self.rng.words(self.n as usize, |rng| rng.below(256));
+        let length = width(&seat.record) * self.n as usize;
+        let messages = self.rng.words(length, |rng| rng.below(256));
         let present = generate::present(self.rng, self.n as usize);
         let amount = self.rng.below(2 * MAX_AMOUNT);
         let calls = [
@@ -635,9 +674,10 @@ impl Auction<'_> {
             return Ok(());
         }
         Err(Difference(format!(
-            "{otherwise}, in an auction of {} parties, {} prices, {} bids",
+            "{otherwise}, in an auction of {} parties, {} prices, {} rounds a probe, {} bids",
             self.n,
             self.k,
+            self.last,
             self.bids.len()
         )))
     }

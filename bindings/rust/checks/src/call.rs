@@ -5,9 +5,10 @@ use std::fmt;
 use std::ops::{Deref, DerefMut};
 
 use clockivy::{LINE_LEN, RECORD_LEN};
-use clockivy_reference::{MAX_BIDS, MAX_PRICES};
+use clockivy_reference::{MAX_BIDS, MAX_PRICES, ROUNDS_7, WAYS};
 
 use crate::engine::Engine;
+use crate::record;
 
 /// The eleven calls, in the order of the tables.
 #[derive(Clone, Copy, Debug, PartialEq, Eq)]
@@ -22,7 +23,7 @@ pub enum Kind {
     Deal,
     /// Adds a bid. Words: record, totals, shares.
     Add,
-    /// Says a message. Words: record, totals, sheets, the message.
+    /// Says a message. Words: record, totals, sheets, the words said.
     Say,
     /// Hears the messages of those who were present. Words: record, totals,
     /// sheets, messages. Bytes: the marks.
@@ -95,6 +96,17 @@ impl Kind {
         }
     }
 
+    /// Whether the call is given the last round of a probe.
+    pub fn has_last(self) -> bool {
+        matches!(self, Kind::Open | Kind::Deal)
+    }
+
+    /// Whether the call goes one of the two ways: it is given the last round of a probe
+    /// or a record, which has it.
+    pub fn has_way(self) -> bool {
+        self.has_last() || self.record().is_some()
+    }
+
     /// Which of the word slices is the record.
     pub fn record(self) -> Option<usize> {
         match self {
@@ -125,8 +137,8 @@ impl Kind {
     pub fn slices(self) -> usize {
         match self {
             Kind::Open | Kind::Deal => 2,
-            Kind::Split | Kind::SplitEntry | Kind::Add | Kind::Say => 3,
-            Kind::Hear => 4,
+            Kind::Split | Kind::SplitEntry | Kind::Add => 3,
+            Kind::Say | Kind::Hear => 4,
             Kind::Answer | Kind::Fill | Kind::SettlementWrite | Kind::SettlementRead => 1,
         }
     }
@@ -191,6 +203,8 @@ pub struct Call {
     pub kind: Kind,
     /// n, own and k; 0 where the call is not given them.
     pub numbers: [u64; 3],
+    /// The last round of a probe, where the call [is given](Kind::has_last) it, else 0.
+    pub last: u64,
     /// The entry that [`Kind::SplitEntry`] is given, else 0.
     pub entry: u64,
     /// The bidder that [`Kind::Add`] is given, else 0.
@@ -213,6 +227,7 @@ impl Call {
         Call {
             kind,
             numbers,
+            last: 0,
             entry: 0,
             bidder: 0,
             amount: 0,
@@ -223,8 +238,11 @@ impl Call {
     }
 
     /// Opens a session.
-    pub fn open(n: u64, own: u64, k: u64, totals: &[u64], record: &[u64]) -> Call {
-        Call::new(Kind::Open, [n, own, k], &[totals, record])
+    pub fn open(n: u64, own: u64, k: u64, last: u64, totals: &[u64], record: &[u64]) -> Call {
+        Call {
+            last,
+            ..Call::new(Kind::Open, [n, own, k], &[totals, record])
+        }
     }
 
     /// Splits a bid.
@@ -249,8 +267,9 @@ impl Call {
     }
 
     /// Writes preprocessing.
-    pub fn deal(n: u64, own: u64, words: &[u64], bytes: &[u8], sheet: &[u64]) -> Call {
+    pub fn deal(n: u64, own: u64, last: u64, words: &[u64], bytes: &[u8], sheet: &[u64]) -> Call {
         Call {
+            last,
             bytes: Lent::new(bytes),
             ..Call::new(Kind::Deal, [n, own, 0], &[words, sheet])
         }
@@ -264,9 +283,9 @@ impl Call {
         }
     }
 
-    /// Says a message, into a word that holds `message`.
-    pub fn say(record: &[u64], totals: &[u64], sheets: &[u64], message: u64) -> Call {
-        Call::new(Kind::Say, [0; 3], &[record, totals, sheets, &[message]])
+    /// Says a message, into words that hold `messages`.
+    pub fn say(record: &[u64], totals: &[u64], sheets: &[u64], messages: &[u64]) -> Call {
+        Call::new(Kind::Say, [0; 3], &[record, totals, sheets, messages])
     }
 
     /// Hears the messages of those who were present.
@@ -328,13 +347,23 @@ impl Call {
         place.is_some_and(|place| self.words[place].len() != RECORD_LEN)
     }
 
+    /// The place in [`WAYS`] of the way that the call goes, by its record or by the last
+    /// round that it is given: the first where it is another, or none.
+    pub fn way(&self) -> usize {
+        match self.judged_record() {
+            Some(record) => record::way(record),
+            None => usize::from(self.last == ROUNDS_7),
+        }
+    }
+
     /// Whether what the call judges without a record is within its range: the numbers
     /// of an opening, a bidder's number and the marks of a hearing.
     pub fn in_range_without_record(&self) -> bool {
         let [n, own, k] = self.numbers;
         match self.kind {
             Kind::Open => {
-                (3..=9).contains(&n) && (1..=n).contains(&own) && (1..=MAX_PRICES).contains(&k)
+                let party = (3..=9).contains(&n) && (1..=n).contains(&own);
+                party && (1..=MAX_PRICES).contains(&k) && WAYS.contains(&self.last)
             }
             Kind::Add => (1..=MAX_BIDS).contains(&self.bidder),
             Kind::Hear => self.bytes.iter().all(|&mark| mark <= 1),
@@ -346,15 +375,15 @@ impl Call {
     pub fn run<E: Engine>(&mut self) -> u64 {
         let [n, own, k] = self.numbers;
         match (self.kind, &mut self.words[..]) {
-            (Kind::Open, [totals, record]) => E::open(n, own, k, totals, record),
+            (Kind::Open, [totals, record]) => E::open(n, own, k, self.last, totals, record),
             (Kind::Split, [table, coins, shares]) => E::split(n, own, k, table, coins, shares),
             (Kind::SplitEntry, [table, coins, shares]) => {
                 E::split_entry(n, own, k, self.entry, table, coins, shares)
             }
-            (Kind::Deal, [words, sheet]) => E::deal(n, own, words, &self.bytes, sheet),
+            (Kind::Deal, [words, sheet]) => E::deal(n, own, self.last, words, &self.bytes, sheet),
             (Kind::Add, [record, totals, shares]) => E::add(record, totals, self.bidder, shares),
-            (Kind::Say, [record, totals, sheets, message]) => {
-                E::say(record, totals, sheets, &mut message[0])
+            (Kind::Say, [record, totals, sheets, messages]) => {
+                E::say(record, totals, sheets, messages)
             }
             (Kind::Hear, [record, totals, sheets, messages]) => {
                 E::hear(record, totals, sheets, messages, &self.bytes)
@@ -379,6 +408,9 @@ impl Call {
 impl fmt::Display for Call {
     fn fmt(&self, f: &mut fmt::Formatter<'_>) -> fmt::Result {
         write!(f, "{} {:?}", self.kind.name(), self.numbers)?;
+        if self.kind.has_last() {
+            write!(f, " last {}", self.last)?;
+        }
         if self.kind == Kind::SplitEntry {
             write!(f, " entry {}", self.entry)?;
         }

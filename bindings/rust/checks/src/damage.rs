@@ -5,22 +5,22 @@
 //! comparison to find out.
 
 use clockivy::words::place::{
-    BIDS, CARRY, DEMAND, FIRST, FIRST_PROBES, HI, K, LO, N, OWN, PROBES, ROLL, ROUND, SEARCH, SUM,
-    SUPPLY,
+    BIDS, CARRY, DEMAND, FIRST, FIRST_PROBES, HI, K, LAST, LO, N, OWN, PAIRS, PROBES, ROLL, ROUND,
+    SEARCH, SUM, SUPPLY,
 };
-use clockivy::{LINE_LEN, RECORD_LEN};
+use clockivy::{LINE_LEN, PAIRS_LEN, RECORD_LEN};
 use clockivy_reference::field::amount::P;
 use clockivy_reference::{
-    probe_limit, FIRST_SEARCH, HIGHEST_PRICE, LAST_ROUND, MASK_LIMIT, MAX_AMOUNT, MAX_BIDS,
-    MAX_PRICES, NO_MORE_ROUNDS, SECOND_SEARCH, SUM_LIMIT, TOTAL_LIMIT,
+    probe_limit, sheet_len, DEMAND_ROUND, FIRST_SEARCH, HIGHEST_PRICE, MASK_LIMIT, MAX_AMOUNT,
+    MAX_BIDS, MAX_PRICES, NO_MORE_ROUNDS, ROUNDS_33, ROUNDS_7, SECOND_SEARCH, SUM_LIMIT,
+    TOTAL_LIMIT, WAYS,
 };
-use clockivy_testing::WAY;
 
 use crate::call::{Call, Kind, Lent};
 use crate::page::{reply, FAULTS};
-use crate::record::{has_bid, index, mark, marks, unmark, NOBODY};
+use crate::record::{has_bid, index, mark, marks, unmark, width, NOBODY};
 use crate::rng::Rng;
-use crate::soundness::CLAUSES;
+use crate::soundness::{CLAUSES, NO_WAYS};
 
 /// Values at which one test or another turns.
 const EDGES: [u64; 24] = [
@@ -54,6 +54,7 @@ const EDGES: [u64; 24] = [
 pub fn damage(rng: &mut Rng, call: &mut Call) {
     match rng.below(8) {
         0 if call.kind == Kind::SplitEntry => entry(rng, call),
+        0 if call.kind.has_last() => last(rng, call),
         0..=1 if call.kind.numbers() > 0 => number(rng, call),
         0 if call.kind == Kind::Add => bidder(rng, call),
         0 if call.kind == Kind::Fill => amount(rng, call),
@@ -78,6 +79,12 @@ fn number(rng: &mut Rng, call: &mut Call) {
         _ => [0, 1, k.wrapping_add(1), MAX_PRICES, MAX_PRICES + 1],
     };
     call.numbers[place] = value(rng, call.numbers[place], &near);
+}
+
+/// Changes the last round of a probe.
+fn last(rng: &mut Rng, call: &mut Call) {
+    let other = rng.pick(&NO_WAYS);
+    call.last = value(rng, call.last, &[ROUNDS_33, ROUNDS_7, other]);
 }
 
 /// Changes the entry.
@@ -192,7 +199,7 @@ fn other_length(rng: &mut Rng, length: usize) -> usize {
         0 => 0,
         1 => 2 * length,
         2 => length / 2,
-        3 => length + WAY.sheet_len(),
+        3 => length + sheet_len(rng.pick(&WAYS)),
         4 => rng.place(length + 20),
         5..=6 => length + 1,
         _ => length.saturating_sub(1),
@@ -240,8 +247,8 @@ fn roll(rng: &mut Rng, record: &mut [u64]) {
     }
 }
 
-/// The fields of a record beside the roll.
-const FIELDS: [usize; 15] = [
+/// The fields of a record beside the roll. That of the pairs stands for all of them.
+const FIELDS: [usize; 17] = [
     N,
     OWN,
     K,
@@ -257,21 +264,25 @@ const FIELDS: [usize; 15] = [
     FIRST_PROBES,
     DEMAND,
     SUPPLY,
+    LAST,
+    PAIRS,
 ];
 
 /// Changes a field of the record beside the roll.
 fn field(rng: &mut Rng, record: &mut [u64]) {
-    let field = rng.pick(&FIELDS);
+    let mut field = rng.pick(&FIELDS);
     let near = match field {
         N | OWN | K | BIDS => near_size(field, record),
         LO | HI | PROBES | SEARCH | FIRST | FIRST_PROBES => near_search(rng, field, record),
-        ROUND => [
-            rng.below(3),
-            LAST_ROUND,
-            LAST_ROUND + 1,
-            NO_MORE_ROUNDS,
-            NO_MORE_ROUNDS + 1,
-        ],
+        ROUND => {
+            let last = record[LAST];
+            let past = rng.between(NO_MORE_ROUNDS, NO_MORE_ROUNDS + 1);
+            [rng.below(3), last, last.wrapping_add(1), DEMAND_ROUND, past]
+        }
+        LAST => {
+            let other = rng.pick(&NO_WAYS);
+            [ROUNDS_33, ROUNDS_7, other, other, record[ROUND]]
+        }
         SUM => [0, 1, SUM_LIMIT - 1, SUM_LIMIT, SUM_LIMIT + 1],
         DEMAND => {
             let supply = record[SUPPLY];
@@ -285,6 +296,9 @@ fn field(rng: &mut Rng, record: &mut [u64]) {
         }
         _ => [0, 1, 255, 256, 511],
     };
+    if field == PAIRS {
+        field += rng.place(PAIRS_LEN);
+    }
     record[field] = value(rng, record[field], &near);
 }
 
@@ -361,16 +375,20 @@ fn used(rng: &mut Rng, call: &Call, slice: usize) -> Option<usize> {
     if k > MAX_PRICES || hi > k + 1 || lo >= hi || probes > 64 || n > 9 {
         return None;
     }
-    let index = index(record) as u64;
+    let (index, length) = (index(record) as u64, sheet_len(record[LAST]));
     let place = match slice {
         1 => index.saturating_sub(1).saturating_add(rng.pick(&[0, k])),
-        2 => probes * WAY.sheet_len() as u64 + rng.pick(&[0, 1, 33, 34, 64, 126]),
-        _ => own.saturating_sub(1),
+        2 => probes * length as u64 + rng.pick(&[0, 1, 33, 34, 64, 126, length as u64 - 1]),
+        _ => {
+            let words = width(record);
+            let first = own.saturating_sub(1).saturating_mul(words as u64);
+            first.saturating_add(rng.place(words) as u64)
+        }
     };
     Some(place as usize)
 }
 
-/// Exchanges two messages.
+/// Exchanges two words of the messages.
 fn swap(rng: &mut Rng, call: &mut Call) {
     let messages = &mut call.words[3];
     if !messages.is_empty() {

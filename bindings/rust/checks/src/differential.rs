@@ -3,8 +3,8 @@
 use std::fmt;
 
 use clockivy::words::place::{DEMAND, SUPPLY};
-use clockivy::{words, VERSION};
-use clockivy_reference::MAX_BIDS;
+use clockivy::{words, PAIRS_LEN, VERSION};
+use clockivy_reference::{MAX_BIDS, ROUNDS_7, WAYS};
 
 use crate::attendance::{Attendance, Events};
 use crate::auction::Attending;
@@ -13,9 +13,10 @@ use crate::damage::damage;
 use crate::engine::{ByteProduct, Engine, Plain, Verified};
 use crate::meeting::meeting;
 use crate::outcome::{Endings, Totals};
+use crate::record::is_of_a_level;
 use crate::rng::Rng;
 use crate::soundness::{self, Found};
-use crate::{auction, generate, opened, page, presence};
+use crate::{auction, generate, levels, opened, page, presence};
 
 /// The two implementations differ, or an auction went wrong.
 pub struct Difference(pub String);
@@ -33,20 +34,27 @@ const WRONG_LENGTH: u64 = 2;
 /// The reply to a sum or a total that is none.
 const SUM_OUT_OF_RANGE: u64 = 11;
 
+/// What is counted on each way, in the order of [`WAYS`]. What goes neither is counted
+/// on the first.
+type ByWay<T> = [T; WAYS.len()];
+
 /// How many calls of each kind had each reply, how many were lent a record in each
-/// condition, how many were lent none and had what needs none out of its range or
-/// within, how many hearings had each reply by who was present, and how many
-/// were refused for what was opened; what came of the settlement pages; how the whole
-/// auctions ended, and who was there; and how many byte products were the same.
+/// condition, and how many one with a pair share in each place that is none; how many
+/// were lent no record and had what needs none out of its range or within; how many
+/// hearings had each reply by who was present, how many were refused for one word of a
+/// level, and how many for what was opened; what came of the settlement pages; how the
+/// whole auctions ended, and who was there; and how many byte products were the same.
 pub struct Tally {
-    counts: [[u64; REPLIES]; Kind::ALL.len()],
-    records: [[u64; Kind::ALL.len()]; soundness::CONDITIONS],
+    counts: ByWay<[[u64; REPLIES]; Kind::ALL.len()]>,
+    records: ByWay<[[u64; Kind::ALL.len()]; soundness::CONDITIONS]>,
+    pairs: ByWay<[u64; PAIRS_LEN]>,
     lacking: [[u64; 2]; Kind::ALL.len()],
     hearings: [[u64; presence::REPLIES.len()]; presence::CONDITIONS],
-    opened: [u64; opened::COUNT],
+    levels: [[u64; levels::WORDS]; levels::FAULTS.len()],
+    opened: ByWay<[u64; opened::COUNT]>,
     pages: [u64; page::CONDITIONS],
-    endings: Endings,
-    events: Events,
+    endings: ByWay<Endings>,
+    events: ByWay<Events>,
     byte_products: u64,
 }
 
@@ -54,13 +62,15 @@ impl Default for Tally {
     fn default() -> Tally {
         Tally {
             counts: Default::default(),
-            records: [[0; Kind::ALL.len()]; soundness::CONDITIONS],
+            records: [[[0; Kind::ALL.len()]; soundness::CONDITIONS]; WAYS.len()],
+            pairs: Default::default(),
             lacking: Default::default(),
             hearings: [[0; presence::REPLIES.len()]; presence::CONDITIONS],
-            opened: [0; opened::COUNT],
+            levels: [[0; levels::WORDS]; levels::FAULTS.len()],
+            opened: Default::default(),
             pages: [0; page::CONDITIONS],
-            endings: Endings::default(),
-            events: Events::default(),
+            endings: Default::default(),
+            events: Default::default(),
             byte_products: 0,
         }
     }
@@ -94,7 +104,7 @@ impl Tally {
                 "refusal {reply} changed something, given\n{call}\nit left\n{verified}"
             )));
         }
-        self.counts[call.kind as usize][reply as usize] += 1;
+        self.counts[call.way()][call.kind as usize][reply as usize] += 1;
         if call.lacks_record() {
             self.count_lacking(call, reply)?;
         } else {
@@ -125,7 +135,11 @@ impl Tally {
             )));
         }
         if let Found::Sound(condition) | Found::Broken(condition) = found {
-            self.records[condition][call.kind as usize] += 1;
+            self.records[call.way()][condition][call.kind as usize] += 1;
+            let mut large = soundness::large_pairs(record);
+            if let (Some(place), None) = (large.next(), large.next()) {
+                self.pairs[call.way()][place] += 1;
+            }
         }
         Ok(())
     }
@@ -158,13 +172,31 @@ impl Tally {
         self.hearings[condition][column] += 1;
         if reply == SUM_OUT_OF_RANGE {
             match opened::reason(call) {
-                Some(reason) => self.opened[reason] += 1,
+                Some(reason) => self.opened[call.way()][reason] += 1,
                 None => {
                     return Err(Difference(format!(
                         "both replied {reply} for no reason, given\n{call}"
                     )))
                 }
             }
+        }
+        if is_of_a_level(&call.words[0]) && [0, 9, 10].contains(&reply) {
+            self.count_level(call, reply)?;
+        }
+        Ok(())
+    }
+
+    /// Counts a hearing of a level by the one word that it is refused for.
+    fn count_level(&mut self, call: &Call, reply: u64) -> Result<(), Difference> {
+        let faults = levels::faults(call);
+        let expected = levels::reply(&faults);
+        if reply != expected {
+            return Err(Difference(format!(
+                "both replied {reply} in place of {expected}, given\n{call}"
+            )));
+        }
+        if let [(fault, word)] = faults[..] {
+            self.levels[fault][word] += 1;
         }
         Ok(())
     }
@@ -212,40 +244,72 @@ impl Tally {
         self.byte_products
     }
 
-    /// Counts a whole auction.
-    pub fn count_auction(&mut self, totals: &Totals, attendance: &Attendance) {
-        self.endings.count(totals);
-        self.events.count(attendance);
+    /// Counts a whole auction on the way of this place in [`WAYS`].
+    pub fn count_auction(&mut self, way: usize, totals: &Totals, attendance: &Attendance) {
+        self.endings[way].count(totals);
+        self.events[way].count(attendance);
     }
 
     /// The whole auctions.
     pub fn auctions(&self) -> u64 {
-        self.endings.auctions()
+        self.endings.iter().map(Endings::auctions).sum()
     }
 
     /// The number of calls compared.
     pub fn calls(&self) -> u64 {
-        self.counts.iter().flatten().sum()
+        self.counts.iter().flatten().flatten().sum()
     }
 
-    /// The replies that a call can give and that did not come up.
-    pub fn unreached(&self) -> Vec<(Kind, u64)> {
-        let possible = |kind: Kind| kind.replies().iter().map(move |&reply| (kind, reply));
-        Kind::ALL
+    /// The replies that a call can give and that did not come up on one of the ways, if
+    /// it goes one.
+    pub fn unreached(&self) -> Vec<(Kind, u64, u64)> {
+        let mut unreached = Vec::new();
+        for (way, counts) in self.counts.iter().enumerate() {
+            for kind in going(way) {
+                let none = |reply: &u64| counts[kind as usize][*reply as usize] == 0;
+                let replies = replies(kind, way).filter(none);
+                unreached.extend(replies.map(|reply| (kind, WAYS[way], reply)));
+            }
+        }
+        unreached
+    }
+
+    /// The conditions of a record that a call judges and did not meet on one of the
+    /// ways: each clause of refusal 1 broken by itself, and each standing of a sound one.
+    pub fn unmet(&self) -> Vec<(Kind, u64, &'static str)> {
+        let mut unmet = Vec::new();
+        for (way, records) in self.records.iter().enumerate() {
+            let possible = (0..soundness::CONDITIONS).filter(|&one| soundness::can_be(way, one));
+            for condition in possible {
+                let counts = records[condition];
+                let kinds = Kind::ON_RECORDS.into_iter();
+                let none = kinds.filter(|&kind| counts[kind as usize] == 0);
+                unmet.extend(none.map(|kind| (kind, WAYS[way], soundness::name(condition))));
+            }
+        }
+        unmet
+    }
+
+    /// The places of a pair share in which there was none above 255 by itself on one of
+    /// the ways.
+    pub fn unpaired(&self) -> Vec<(u64, usize)> {
+        let places = |(last, counts): (u64, [u64; PAIRS_LEN])| {
+            let none = (0..PAIRS_LEN).filter(move |&place| counts[place] == 0);
+            none.map(move |place| (last, place))
+        };
+        WAYS.into_iter().zip(self.pairs).flat_map(places).collect()
+    }
+
+    /// The words of a level for which alone no hearing was refused, by their faults.
+    pub fn unfaulted(&self) -> Vec<(&'static str, usize)> {
+        let words = |(fault, counts): (&'static str, [u64; levels::WORDS])| {
+            let none = (0..levels::WORDS).filter(move |&word| counts[word] == 0);
+            none.map(move |word| (fault, word))
+        };
+        levels::FAULTS
             .into_iter()
-            .flat_map(possible)
-            .filter(|&(kind, reply)| self.counts[kind as usize][reply as usize] == 0)
-            .collect()
-    }
-
-    /// The conditions of a record that a call judges and did not meet: each clause
-    /// of refusal 1 broken by itself, and each standing of a sound one.
-    pub fn unmet(&self) -> Vec<(Kind, &'static str)> {
-        let judged = |condition: usize| Kind::ON_RECORDS.map(|kind| (kind, condition));
-        (0..soundness::CONDITIONS)
-            .flat_map(judged)
-            .filter(|&(kind, condition)| self.records[condition][kind as usize] == 0)
-            .map(|(kind, condition)| (kind, soundness::name(condition)))
+            .zip(self.levels)
+            .flat_map(words)
             .collect()
     }
 
@@ -275,10 +339,10 @@ impl Tally {
             .collect()
     }
 
-    /// The reasons to refuse what was opened that did not come up.
+    /// The reasons to refuse what was opened that did not come up on one of the ways.
     pub fn unopened(&self) -> Vec<&'static str> {
         (0..opened::COUNT)
-            .filter(|&reason| self.opened[reason] == 0)
+            .filter(|&reason| self.opened.iter().any(|counts| counts[reason] == 0))
             .map(opened::name)
             .collect()
     }
@@ -291,11 +355,17 @@ impl Tally {
             .collect()
     }
 
-    /// The endings that no auction had, and what did not come up in any.
+    /// The endings that no auction of a way had, and what did not come up in any.
     pub fn unended(&self) -> Vec<&'static str> {
-        let counts = self.endings.counts().chain(self.events.counts());
-        let none = counts.filter(|&(_, count)| count == 0);
+        let endings = self.endings.iter().flat_map(Endings::counts);
+        let events = self.events_by_way().into_iter().flatten();
+        let none = endings.chain(events).filter(|&(_, count)| count == 0);
         none.map(|(name, _)| name).collect()
+    }
+
+    /// What can come up in the auctions of each way, and how often it did.
+    fn events_by_way(&self) -> ByWay<impl Iterator<Item = (&'static str, u64)> + '_> {
+        [0, 1].map(|way| self.events[way].counts(WAYS[way] == ROUNDS_7))
     }
 
     /// The replies that came up and that a call cannot give.
@@ -305,29 +375,59 @@ impl Tally {
             .into_iter()
             .flat_map(counted)
             .filter(|&(kind, reply)| {
-                !kind.replies().contains(&reply) && self.counts[kind as usize][reply as usize] > 0
+                let count = |way: &[[u64; REPLIES]; _]| way[kind as usize][reply as usize];
+                !kind.replies().contains(&reply) && self.counts.iter().map(count).sum::<u64>() > 0
             })
             .collect()
     }
 }
 
+/// The calls that are counted on a way: on the first those that go none too.
+fn going(way: usize) -> impl Iterator<Item = Kind> {
+    let kinds = Kind::ALL.into_iter();
+    kinds.filter(move |kind| way == 0 || kind.has_way())
+}
+
+/// The replies that a call can give on a way. A record of another length goes none, and
+/// some calls are lent nothing else.
+fn replies(kind: Kind, way: usize) -> impl Iterator<Item = u64> {
+    let all = kind.replies().iter().copied();
+    all.filter(move |&reply| way == 0 || reply != WRONG_LENGTH || kind.slices() > 1)
+}
+
 /// The tables of all counts.
 impl fmt::Display for Tally {
     fn fmt(&self, f: &mut fmt::Formatter<'_>) -> fmt::Result {
-        writeln!(f, "Calls by reply: 0 (done) or the number of the refusal\n")?;
-        self.write_replies(f)?;
-        writeln!(
-            f,
-            "\n\nCalls by the record lent: sound, or with one fault\n"
-        )?;
-        self.write_records(f)?;
+        for (way, last) in WAYS.into_iter().enumerate() {
+            let none = if way == 0 { ", or no way" } else { "" };
+            writeln!(
+                f,
+                "Calls by reply, {last} rounds{none}: 0 (done) or the number of the refusal\n"
+            )?;
+            self.write_replies(f, way)?;
+            writeln!(
+                f,
+                "\n\nCalls by the record lent, {last} rounds: sound, or with one fault\n"
+            )?;
+            self.write_records(f, way)?;
+            writeln!(f, "\n")?;
+        }
+        writeln!(f, "Calls by the one pair share above 255, in 32 places\n")?;
+        self.write_pairs(f)?;
         writeln!(f, "\n\nCalls lent a record of another length, by reply\n")?;
         self.write_lacking(f)?;
         writeln!(f, "\n\nHearings by who was present, and by reply\n")?;
         self.write_hearings(f)?;
+        writeln!(
+            f,
+            "\n\nHearings refused with 9 or 10 for one word of a level, by its fault\n"
+        )?;
+        self.write_levels(f)?;
         writeln!(f, "\n\nHearings refused with 11, by what was opened\n")?;
-        let reasons = (0..opened::COUNT).map(opened::name).zip(self.opened);
-        write_counts(f, ["opened", "hearings"], reasons)?;
+        let reasons = self
+            .opened
+            .map(|counts| (0..opened::COUNT).map(opened::name).zip(counts));
+        write_by_way(f, "opened", reasons)?;
         writeln!(
             f,
             "\n\nSettlement pages, and those refused with 13 by their first fault\n"
@@ -338,9 +438,9 @@ impl fmt::Display for Tally {
             f,
             "\n\nWhole auctions by the balanced prices, and by the totals\n"
         )?;
-        write_counts(f, ["prices", "auctions"], self.endings.counts())?;
+        write_by_way(f, "prices", self.endings.each_ref().map(Endings::counts))?;
         writeln!(f, "\n\nWhole auctions by who was there\n")?;
-        write_counts(f, ["parties", "auctions"], self.events.counts())
+        write_by_way(f, "parties", self.events_by_way())
     }
 }
 
@@ -375,29 +475,50 @@ fn write_counts(
     Ok(())
 }
 
+/// The same on each way. What cannot come up on the first stands last on the second.
+fn write_by_way(
+    f: &mut fmt::Formatter<'_>,
+    heading: &str,
+    [first, second]: ByWay<impl Iterator<Item = (&'static str, u64)>>,
+) -> fmt::Result {
+    write!(f, "{heading:<50}")?;
+    for last in WAYS {
+        write!(f, "{:>12}", format!("{last} rounds"))?;
+    }
+    let mut first = first.map(|(_, count)| count);
+    for (name, count) in second {
+        let before = first.next().map_or("-".into(), |count| count.to_string());
+        write!(f, "\n{name:<50}{before:>12}{count:>12}")?;
+    }
+    Ok(())
+}
+
+/// A row of a table about places: how many there are, the least count and all counts.
+fn write_places(f: &mut fmt::Formatter<'_>, name: &str, counts: &[u64]) -> fmt::Result {
+    let least = counts.iter().min().expect("there are places");
+    let (places, all) = (counts.len(), counts.iter().sum::<u64>());
+    write!(f, "\n{name:<50}{places:>8}{least:>8}{all:>8}")
+}
+
 impl Tally {
-    /// By call and reply. A reply that no call can give, and that none gave, has
-    /// no column.
-    fn write_replies(&self, f: &mut fmt::Formatter<'_>) -> fmt::Result {
+    /// By call and reply, on one way. A reply that no call can give, and that none gave,
+    /// has no column.
+    fn write_replies(&self, f: &mut fmt::Formatter<'_>, way: usize) -> fmt::Result {
         let count = |kind: Kind, reply: usize| {
-            let count = self.counts[kind as usize][reply];
-            let shown = kind.replies().contains(&(reply as u64)) || count > 0;
+            let count = self.counts[way][kind as usize][reply];
+            let shown = replies(kind, way).any(|one| one == reply as u64) || count > 0;
             shown.then_some(count)
         };
         let columns: Vec<usize> = (1..REPLIES)
-            .filter(|&reply| Kind::ALL.iter().any(|&kind| count(kind, reply).is_some()))
+            .filter(|&reply| going(way).any(|kind| count(kind, reply).is_some()))
             .collect();
         write!(f, "{:<17}{:>9}", "call", "done")?;
         for reply in &columns {
             write!(f, "{reply:>8}")?;
         }
-        for kind in Kind::ALL {
-            write!(
-                f,
-                "\n{:<17}{:>9}",
-                kind.name(),
-                self.counts[kind as usize][0]
-            )?;
+        for kind in going(way) {
+            let done = self.counts[way][kind as usize][0];
+            write!(f, "\n{:<17}{done:>9}", kind.name())?;
             for &reply in &columns {
                 match count(kind, reply) {
                     Some(count) => write!(f, "{count:>8}")?,
@@ -408,16 +529,46 @@ impl Tally {
         Ok(())
     }
 
-    /// By the condition of the record and the call that judges it.
-    fn write_records(&self, f: &mut fmt::Formatter<'_>) -> fmt::Result {
+    /// By the condition of the record and the call that judges it, on one way.
+    fn write_records(&self, f: &mut fmt::Formatter<'_>, way: usize) -> fmt::Result {
         write!(f, "{:<50}", "record")?;
         for kind in Kind::ON_RECORDS {
             write!(f, "{:>8}", kind.name())?;
         }
-        for (condition, counts) in self.records.iter().enumerate() {
-            write!(f, "\n{:<50}", soundness::name(condition))?;
-            for kind in Kind::ON_RECORDS {
-                write!(f, "{:>8}", counts[kind as usize])?;
+        for (condition, counts) in self.records[way].iter().enumerate() {
+            if soundness::can_be(way, condition) {
+                write!(f, "\n{:<50}", soundness::name(condition))?;
+                for kind in Kind::ON_RECORDS {
+                    write!(f, "{:>8}", counts[kind as usize])?;
+                }
+            }
+        }
+        Ok(())
+    }
+
+    /// By the way of a record whose pair shares are not all bytes.
+    fn write_pairs(&self, f: &mut fmt::Formatter<'_>) -> fmt::Result {
+        write!(
+            f,
+            "{:<50}{:>8}{:>8}{:>8}",
+            "record", "places", "least", "all"
+        )?;
+        for (last, counts) in WAYS.into_iter().zip(&self.pairs) {
+            write_places(f, &format!("{last} rounds"), counts)?;
+        }
+        Ok(())
+    }
+
+    /// By the round and the fault, for every word of the round.
+    fn write_levels(&self, f: &mut fmt::Formatter<'_>) -> fmt::Result {
+        write!(f, "{:<50}{:>8}{:>8}{:>8}", "level", "words", "least", "all")?;
+        for (round, words) in levels::rounds() {
+            for (fault, counts) in levels::FAULTS.into_iter().zip(&self.levels) {
+                write_places(
+                    f,
+                    &format!("round {round}: {fault}"),
+                    &counts[words.clone()],
+                )?;
             }
         }
         Ok(())
@@ -440,12 +591,12 @@ impl Tally {
 
     /// By who was present in which round, and the reply.
     fn write_hearings(&self, f: &mut fmt::Formatter<'_>) -> fmt::Result {
-        write!(f, "{:<42}{:>8}", "present", "done")?;
+        write!(f, "{:<50}{:>8}", "present", "done")?;
         for reply in &presence::REPLIES[1..] {
             write!(f, "{reply:>8}")?;
         }
         for (condition, counts) in self.hearings.iter().enumerate() {
-            write!(f, "\n{:<42}", presence::name(condition))?;
+            write!(f, "\n{:<50}", presence::name(condition))?;
             for (&reply, count) in presence::REPLIES.iter().zip(counts) {
                 if presence::can_reply(condition, reply) {
                     write!(f, "{count:>8}")?;
@@ -464,12 +615,12 @@ const PAGES: usize = 4_000;
 /// The longest list over which every run of balanced prices is tried.
 const SHORT_LIST: u64 = 5;
 
-/// The version, and every byte product by itself; whole auctions of every number of parties over
-/// the given numbers of prices, in which everybody attends and in which parties
-/// drop off, those in which the totals meet in every place of a short list, and
-/// one that fills the roll, with refused calls in between; settlement pages, read
-/// back and damaged; then single calls, valid and damaged, until there are `calls` in
-/// all.
+/// The version, and every byte product by itself; whole auctions on both ways, of every
+/// number of parties over the given numbers of prices, in which everybody attends and in
+/// which parties drop off, those in which the totals meet in every place of a short
+/// list, and one that fills the roll, with refused calls in between; settlement pages,
+/// read back and damaged; then single calls, valid and damaged, until there are `calls`
+/// in all.
 pub fn run(seed: u64, prices: &[u64], calls: u64, tally: &mut Tally) -> Result<(), Difference> {
     compare_version()?;
     tally.compare_byte_products()?;

@@ -8,7 +8,7 @@ pub trait Engine {
     /// What tables and messages call it.
     const NAME: &'static str;
     /// Opens a session.
-    fn open(n: u64, own: u64, k: u64, totals: &mut [u64], record: &mut [u64]) -> u64;
+    fn open(n: u64, own: u64, k: u64, last: u64, totals: &mut [u64], record: &mut [u64]) -> u64;
     /// Splits a bid.
     fn split(n: u64, own: u64, k: u64, table: &[u64], coins: &[u64], shares: &mut [u64]) -> u64;
     /// Splits one entry of a bid.
@@ -22,11 +22,11 @@ pub trait Engine {
         shares: &mut [u64],
     ) -> u64;
     /// Writes preprocessing.
-    fn deal(n: u64, own: u64, words: &[u64], bytes: &[u8], sheet: &mut [u64]) -> u64;
+    fn deal(n: u64, own: u64, last: u64, words: &[u64], bytes: &[u8], sheet: &mut [u64]) -> u64;
     /// Adds a bid.
     fn add(record: &mut [u64], totals: &mut [u64], bidder: u64, shares: &[u64]) -> u64;
     /// Says a message.
-    fn say(record: &[u64], totals: &[u64], sheets: &[u64], message: &mut u64) -> u64;
+    fn say(record: &[u64], totals: &[u64], sheets: &[u64], messages: &mut [u64]) -> u64;
     /// Hears the messages of those who were present.
     fn hear(
         record: &mut [u64],
@@ -53,8 +53,15 @@ macro_rules! engine {
         impl Engine for $engine {
             const NAME: &'static str = $name;
 
-            fn open(n: u64, own: u64, k: u64, totals: &mut [u64], record: &mut [u64]) -> u64 {
-                $library::open(n, own, k, totals, record)
+            fn open(
+                n: u64,
+                own: u64,
+                k: u64,
+                last: u64,
+                totals: &mut [u64],
+                record: &mut [u64],
+            ) -> u64 {
+                $library::open(n, own, k, last, totals, record)
             }
 
             fn split(
@@ -80,16 +87,23 @@ macro_rules! engine {
                 $library::split_entry(n, own, k, entry, table, coins, shares)
             }
 
-            fn deal(n: u64, own: u64, words: &[u64], bytes: &[u8], sheet: &mut [u64]) -> u64 {
-                $library::deal(n, own, words, bytes, sheet)
+            fn deal(
+                n: u64,
+                own: u64,
+                last: u64,
+                words: &[u64],
+                bytes: &[u8],
+                sheet: &mut [u64],
+            ) -> u64 {
+                $library::deal(n, own, last, words, bytes, sheet)
             }
 
             fn add(record: &mut [u64], totals: &mut [u64], bidder: u64, shares: &[u64]) -> u64 {
                 $library::add(record, totals, bidder, shares)
             }
 
-            fn say(record: &[u64], totals: &[u64], sheets: &[u64], message: &mut u64) -> u64 {
-                $library::say(record, totals, sheets, message)
+            fn say(record: &[u64], totals: &[u64], sheets: &[u64], messages: &mut [u64]) -> u64 {
+                $library::say(record, totals, sheets, messages)
             }
 
             fn hear(

@@ -2,26 +2,29 @@
 //! records and contents. Words that a call does not use hold anything.
 
 use clockivy::words::place::{
-    BIDS, CARRY, DEMAND, FIRST, FIRST_PROBES, HI, K, LO, N, OWN, PROBES, ROLL, ROUND, SEARCH, SUM,
-    SUPPLY,
+    BIDS, CARRY, DEMAND, FIRST, FIRST_PROBES, HI, K, LAST, LO, N, OWN, PAIRS, PROBES, ROLL, ROUND,
+    SEARCH, SUM, SUPPLY,
 };
 use clockivy::{
-    coins_len, deal_bytes_len, deal_words_len, sheet_count, table_len, LINE_LEN, RECORD_LEN,
+    coins_len, deal_words_len, sheet_count, table_len, LINE_LEN, PAIRS_LEN, RECORD_LEN,
     SETTLEMENT_LEN,
 };
 use clockivy_reference as reference;
 use clockivy_reference::field::{amount, byte};
 use clockivy_reference::{
-    probe_limit, DEMAND_ROUND, FIRST_SEARCH, HIGHEST_PRICE, LAST_ROUND, MAX_AMOUNT, MAX_BIDS,
-    MAX_PRICES, NO_MORE_ROUNDS, SECOND_SEARCH, SUM_LIMIT, SUM_LOW, SUPPLY_ROUND, TOTAL_LIMIT,
+    drawn_len, probe_limit, sheet_len, DEMAND_ROUND, FIRST_SEARCH, HIGHEST_PRICE, MAX_AMOUNT,
+    MAX_BIDS, MAX_PRICES, NO_MORE_ROUNDS, ROUNDS_33, SECOND_SEARCH, SUM_LIMIT, SUM_LOW,
+    SUPPLY_ROUND, TOTAL_LIMIT, WAYS,
 };
-use clockivy_testing::WAY;
 
 use crate::call::{Call, Kind};
 use crate::formatted;
 use crate::page;
-use crate::record::{has_bid, has_cleared, index, mark, marks, unmark, NOBODY};
+use crate::record::{
+    has_bid, has_cleared, index, is_of_a_verdict, is_of_amounts, mark, marks, unmark, width, NOBODY,
+};
 use crate::rng::Rng;
+use crate::soundness::NO_WAYS;
 
 /// The reply where a word that is used is no share.
 const SHARE_OUT_OF_RANGE: u64 = 8;
@@ -35,6 +38,8 @@ pub struct Shape {
     pub own: u64,
     /// The number of listed prices.
     pub k: u64,
+    /// The last round of a probe.
+    pub last: u64,
 }
 
 impl Shape {
@@ -53,6 +58,7 @@ impl Shape {
             n,
             own: rng.between(1, n),
             k,
+            last: rng.pick(&WAYS),
         };
         match rng.below(128) {
             0 => Shape { n: 2, ..shape },
@@ -65,6 +71,10 @@ impl Shape {
             4 => Shape { k: 0, ..shape },
             5 => Shape {
                 k: MAX_PRICES + 1,
+                ..shape
+            },
+            6 => Shape {
+                last: rng.pick(&NO_WAYS),
                 ..shape
             },
             _ => shape,
@@ -109,7 +119,8 @@ pub fn call(rng: &mut Rng, kind: Kind) -> Call {
 fn open(rng: &mut Rng, shape: Shape) -> Call {
     let totals = rng.words(table_len(shape.k), Rng::word);
     let record = rng.words(RECORD_LEN, Rng::word);
-    Call::open(shape.n, shape.own, shape.k, &totals, &record)
+    let Shape { n, own, k, last } = shape;
+    Call::open(n, own, k, last, &totals, &record)
 }
 
 fn split(rng: &mut Rng, shape: Shape) -> Call {
@@ -150,9 +161,9 @@ fn deal(rng: &mut Rng, shape: Shape) -> Call {
     if let ([mask, coefficients @ ..], true) = (&mut words[..], rng.once_in(8)) {
         shape.vanish(*mask, coefficients);
     }
-    let bytes = rng.bytes(deal_bytes_len(shape.n, WAY));
-    let sheet = rng.words(WAY.sheet_len(), Rng::word);
-    Call::deal(shape.n, shape.own, &words, &bytes, &sheet)
+    let bytes = rng.bytes(drawn_len(shape.n, shape.last));
+    let sheet = rng.words(sheet_len(shape.last), Rng::word);
+    Call::deal(shape.n, shape.own, shape.last, &words, &bytes, &sheet)
 }
 
 fn add(rng: &mut Rng, shape: Shape) -> Call {
@@ -200,14 +211,15 @@ fn say(rng: &mut Rng, shape: Shape) -> Call {
         }
     }
     let mut totals = totals(rng, shape, &record);
-    let sheets = sheets(rng, shape, &record);
-    let message = rng.word();
+    let mut sheets = sheets(rng, shape, &record);
+    let messages = rng.words(width(&record), Rng::word);
     match rng.below(32) {
         0..=3 => silence(&record, &mut totals, &sheets),
         4 => spoil(rng, &record, &mut totals),
+        5 => spoil_sheet(rng, &record, &mut sheets),
         _ => {}
     }
-    Call::say(&record, &totals, &sheets, message)
+    Call::say(&record, &totals, &sheets, &messages)
 }
 
 /// Puts what is no share into a place of the totals that the round may use.
@@ -221,15 +233,26 @@ fn spoil(rng: &mut Rng, record: &[u64], totals: &mut [u64]) {
     }
 }
 
+/// Puts what is no share into the current sheet, where there is one.
+fn spoil_sheet(rng: &mut Rng, record: &[u64], sheets: &mut [u64]) {
+    let length = sheet_len(record[LAST]);
+    let mut all = sheets.chunks_exact_mut(length);
+    if let Some(sheet) = all.nth(record[PROBES] as usize) {
+        let place = rng.place(length);
+        let least = if place == 0 { amount::P } else { 256 };
+        sheet[place] = rng.pick(&[least, least + 1, u64::MAX]);
+    }
+}
+
 /// Changes the demand that is probed so that the message of round 1 is 0. In the
 /// second search the message has demand taken away.
 fn silence(record: &[u64], totals: &mut [u64], sheets: &[u64]) {
-    let mut message = 0;
+    let mut message = [0];
     if record[ROUND] == 1 && reference::say(record, totals, sheets, &mut message) == 0 {
         let demand = &mut totals[index(record) - 1];
         *demand = match record[SEARCH] {
-            FIRST_SEARCH => amount::sub(*demand, message),
-            _ => amount::add(*demand, message),
+            FIRST_SEARCH => amount::sub(*demand, message[0]),
+            _ => amount::add(*demand, message[0]),
         };
     }
 }
@@ -243,20 +266,33 @@ pub fn hear(rng: &mut Rng, said: &Call) -> Call {
     };
     let n = record.first().map_or(3, |&n| n.min(10) as usize);
     let present = present(rng, n);
-    let mut own_message = 0;
+    let width = if record.len() == RECORD_LEN {
+        width(record)
+    } else {
+        1
+    };
+    let mut own_message = vec![0; width];
     let reply = reference::say(record, totals, sheets, &mut own_message);
     let (mut messages, mut totals) = (Vec::new(), totals.to_vec());
     if [0, SHARE_OUT_OF_RANGE].contains(&reply) {
-        if present[record[OWN] as usize - 1] != 1 {
+        let own = record[OWN] as usize - 1;
+        if present[own] != 1 {
             // Its message is not compared, nor are its totals used.
-            own_message = in_range(rng, record[ROUND]);
-            if is_of_amounts(record[ROUND]) && rng.once_in(2) {
+            own_message.fill_with(|| in_range(rng, record));
+            if is_of_amounts(record) && rng.once_in(2) {
                 spoil(rng, record, &mut totals);
             }
         }
-        messages = self::messages(rng, record, &present, own_message);
+        if rng.once_in(8) {
+            // Something else than the party says, and yet the words open.
+            own_message[rng.place(width)] = in_range(rng, record);
+        }
+        messages = self::messages(rng, record, &present, &own_message);
+        if rng.once_in(16) {
+            messages[own * width + rng.place(width)] = in_range(rng, record);
+        }
     } else {
-        messages.resize_with(n, || rng.below(256));
+        messages.resize_with(n * width, || rng.below(256));
     }
     Call::hear(record, &totals, sheets, &messages, &present)
 }
@@ -404,11 +440,15 @@ fn end(rng: &mut Rng, record: &mut [u64]) {
 
 /// A record, not always one that an auction can reach, and mostly a sound one.
 fn record(rng: &mut Rng, shape: Shape) -> Vec<u64> {
-    let Shape { n, own, k } = shape;
-    let round = match rng.below(4) {
-        0 => 1,
-        1 => LAST_ROUND,
-        _ => rng.between(1, LAST_ROUND),
+    let Shape { n, own, k, last } = shape;
+    let end = last.clamp(1, ROUNDS_33);
+    let round = match rng.below(8) {
+        0..=1 => 1,
+        2..=3 => end,
+        // Those with the most words, where there are more than one.
+        4 => 2,
+        5 => rng.between(2, 3),
+        _ => rng.between(1, end),
     };
     let sum = match rng.below(16) {
         0 => 0,
@@ -423,12 +463,27 @@ fn record(rng: &mut Rng, shape: Shape) -> Vec<u64> {
         (ROUND, round),
         (SUM, sum),
         (CARRY, carry),
+        (LAST, last),
     ];
     let mut record = clockivy_testing::record(&fields).to_vec();
     roll(rng, &mut record);
     any_search(rng, &mut record);
     opened_totals(rng, &mut record);
+    pairs(rng, &mut record);
     record
+}
+
+/// Puts pairs into a record, sound ones: often just so many shares as its round is
+/// about, or none.
+fn pairs(rng: &mut Rng, record: &mut [u64]) {
+    let shares = match rng.below(8) {
+        0 => 0..0,
+        1..=3 => 0..width(record),
+        _ => 0..PAIRS_LEN,
+    };
+    for share in &mut record[PAIRS..][shares] {
+        *share = u64::from(rng.byte());
+    }
 }
 
 /// Puts totals into a record, sound ones: often none yet, and now and then such as
@@ -456,7 +511,7 @@ pub fn fit_round(rng: &mut Rng, record: &mut [u64]) {
     let (first, last) = if has_cleared(record) {
         (DEMAND_ROUND, NO_MORE_ROUNDS)
     } else {
-        (1, LAST_ROUND)
+        (1, record[LAST].clamp(1, ROUNDS_33))
     };
     if !(first..=last).contains(&record[ROUND]) {
         record[ROUND] = rng.between(first, last);
@@ -595,8 +650,8 @@ fn totals(rng: &mut Rng, shape: Shape, record: &[u64]) -> Vec<u64> {
 
 /// Preprocessing: the current probe's is sound, the others hold anything.
 fn sheets(rng: &mut Rng, shape: Shape, record: &[u64]) -> Vec<u64> {
-    let current = (record[ROUND] <= LAST_ROUND).then_some(record[PROBES]);
-    let length = WAY.sheet_len();
+    let current = (record[ROUND] < DEMAND_ROUND).then_some(record[PROBES]);
+    let length = sheet_len(shape.last);
     let mut sheets = Vec::new();
     for probe in (0..).take(sheet_count(shape.k)) {
         if current == Some(probe) || rng.once_in(2) {
@@ -609,71 +664,51 @@ fn sheets(rng: &mut Rng, shape: Shape, record: &[u64]) -> Vec<u64> {
     sheets
 }
 
-/// Whether the messages of a round are shares of amounts.
-fn is_of_amounts(round: u64) -> bool {
-    [1, DEMAND_ROUND, SUPPLY_ROUND].contains(&round)
-}
-
-/// A message of a round: any that is in range.
-fn in_range(rng: &mut Rng, round: u64) -> u64 {
-    match round {
-        _ if is_of_amounts(round) => rng.amount_share(),
-        LAST_ROUND => rng.below(256),
+/// A word of a message: any that is in range.
+fn in_range(rng: &mut Rng, record: &[u64]) -> u64 {
+    match record {
+        _ if is_of_amounts(record) => rng.amount_share(),
+        _ if is_of_a_verdict(record) => rng.below(256),
         _ => rng.below(65_536),
     }
 }
 
-/// All parties' messages for a record whose own message is given: on a random
-/// polynomial through it or, one time in three, bent off it elsewhere. In the
-/// places that are not marked there often is something else.
-fn messages(rng: &mut Rng, record: &[u64], present: &[u8], own_message: u64) -> Vec<u64> {
+/// A word that is out of range by what stands above one in range.
+fn out_of_range(rng: &mut Rng, record: &[u64], word: u64) -> u64 {
+    match record {
+        _ if is_of_amounts(record) => word + amount::P,
+        _ if is_of_a_verdict(record) => word | 1 << rng.between(8, 63),
+        _ => word | 1 << rng.between(16, 63),
+    }
+}
+
+/// All parties' messages for a record whose own message is given: each word on a random
+/// polynomial through its own one or, one time in two, one of them bent off it
+/// elsewhere, or out of range. In the places that are not marked there often is
+/// something else.
+fn messages(rng: &mut Rng, record: &[u64], present: &[u8], own_message: &[u64]) -> Vec<u64> {
     let places = Places {
         n: record[N],
         own: record[OWN],
     };
-    let mut messages = match record[ROUND] {
-        round if is_of_amounts(round) => {
-            let other = rng.between(1, places.n);
-            if rng.once_in(16) && other != places.own {
-                // Another party's message is 0, or the prime, which is not 0.
-                let mut messages = places.amounts(rng, own_message, other, 0);
-                messages[other as usize - 1] = rng.pick(&[0, amount::P]);
-                messages
-            } else {
-                let opened = match round {
-                    1 => sum(rng),
-                    _ => total(rng, record),
-                };
-                places.amounts(rng, own_message, 0, opened)
-            }
+    let mut messages = vec![0; present.len() * own_message.len()];
+    let bent = rng.place(2 * own_message.len());
+    for (place, &own_word) in own_message.iter().enumerate() {
+        let mut words = places.words(rng, record, own_word);
+        if place == bent {
+            places.bend(rng, record, present, &mut words);
         }
-        LAST_ROUND => {
-            let verdict = match rng.below(8) {
-                0 => rng.byte(),
-                1 => rng.pick(&[2, 3, 128, 255]),
-                even => (even % 2) as u8,
-            };
-            let bytes = places.bytes(rng, own_message as u8, verdict);
-            bytes.into_iter().map(u64::from).collect()
+        for (message, word) in messages.chunks_exact_mut(own_message.len()).zip(words) {
+            message[place] = word;
         }
-        _ => {
-            let (d, e) = (rng.byte(), rng.byte());
-            let low = places.bytes(rng, own_message as u8, d);
-            let high = places.bytes(rng, (own_message >> 8) as u8, e);
-            let pairs = low.into_iter().zip(high);
-            pairs
-                .map(|(d, e)| u64::from(d) + 256 * u64::from(e))
-                .collect()
-        }
-    };
-    if rng.once_in(3) {
-        places.bend(rng, record[ROUND], present, &mut messages);
     }
     if rng.once_in(2) {
-        for (message, &mark) in messages.iter_mut().zip(present) {
-            let (word, fits) = (rng.word(), in_range(rng, record[ROUND]));
+        for (message, &mark) in messages.chunks_exact_mut(own_message.len()).zip(present) {
             if mark != 1 {
-                *message = rng.pick(&[*message, fits, word, 0, amount::P, u64::MAX]);
+                for word in message {
+                    let (any, fits) = (rng.word(), in_range(rng, record));
+                    *word = rng.pick(&[*word, fits, any, 0, amount::P, u64::MAX]);
+                }
             }
         }
     }
@@ -715,6 +750,41 @@ struct Places {
 }
 
 impl Places {
+    /// The words of all parties in one place of their messages, where the own one is
+    /// given.
+    fn words(&self, rng: &mut Rng, record: &[u64], own_word: u64) -> Vec<u64> {
+        if is_of_amounts(record) {
+            let other = rng.between(1, self.n);
+            if rng.once_in(16) && other != self.own {
+                // Another party's word is 0, or the prime, which is not 0.
+                let mut words = self.amounts(rng, own_word, other, 0);
+                words[other as usize - 1] = rng.pick(&[0, amount::P]);
+                return words;
+            }
+            let opened = match record[ROUND] {
+                1 => sum(rng),
+                _ => total(rng, record),
+            };
+            return self.amounts(rng, own_word, 0, opened);
+        }
+        if is_of_a_verdict(record) {
+            let verdict = match rng.below(8) {
+                0 => rng.byte(),
+                1 => rng.pick(&[2, 3, 128, 255]),
+                even => (even % 2) as u8,
+            };
+            let bytes = self.bytes(rng, own_word as u8, verdict);
+            return bytes.into_iter().map(u64::from).collect();
+        }
+        let (d, e) = (rng.byte(), rng.byte());
+        let low = self.bytes(rng, own_word as u8, d);
+        let high = self.bytes(rng, (own_word >> 8) as u8, e);
+        let pairs = low.into_iter().zip(high);
+        pairs
+            .map(|(d, e)| u64::from(d) + 256 * u64::from(e))
+            .collect()
+    }
+
     /// The words of a random polynomial of degree at most t that has the given
     /// values at the own point and at another.
     fn amounts(&self, rng: &mut Rng, at_own: u64, point: u64, at_point: u64) -> Vec<u64> {
@@ -743,60 +813,59 @@ impl Places {
 
     /// Adds a polynomial of a degree above t that vanishes at the own point, if
     /// that is marked, and at as many other marked ones as its degree allows. With
-    /// one less than are marked that alters one of their messages; with t + 1 the
-    /// most that can be altered unnoticed by a test that looks at too few. Where
-    /// no more than t + 1 are marked any words in range will do, and each but the
-    /// own one is another, or now and then just out of range.
-    fn bend(&self, rng: &mut Rng, round: u64, present: &[u8], messages: &mut [u64]) {
+    /// one less than are marked that alters one of their words; with t + 1 the
+    /// most that can be altered unnoticed by a test that looks at too few. Now and then
+    /// one of their words goes out of range instead. Where no more than t + 1 are
+    /// marked any words in range will do, and each but the own one is another, or now
+    /// and then one that is not.
+    fn bend(&self, rng: &mut Rng, record: &[u64], present: &[u8], words: &mut [u64]) {
         let t = reference::threshold(self.n) as u64;
         let mut marked: Vec<u64> = (1..=self.n)
             .filter(|&point| present[point as usize - 1] == 1)
             .collect();
-        let most = marked.len() as u64;
+        let own = marked.iter().position(|&point| point == self.own);
+        let mut roots: Vec<u64> = own
+            .map(|place| marked.swap_remove(place))
+            .into_iter()
+            .collect();
+        let most = (roots.len() + marked.len()) as u64;
         if most <= t + 1 {
-            for point in marked {
-                if point != self.own {
-                    messages[point as usize - 1] = match round {
-                        _ if !rng.once_in(8) => in_range(rng, round),
-                        _ if is_of_amounts(round) => amount::P,
-                        LAST_ROUND => 256,
-                        _ => 65_536,
-                    };
-                }
+            for &point in &marked {
+                words[point as usize - 1] = in_range(rng, record);
             }
-            return;
         }
-        let degree = rng.between(t + 1, most - 1);
-        let mut roots = Vec::new();
-        if let Some(place) = marked.iter().position(|&point| point == self.own) {
-            roots.push(marked.swap_remove(place));
-        }
-        while (roots.len() as u64) < degree {
-            let place = rng.place(marked.len());
-            roots.push(marked.swap_remove(place));
-        }
-        let factor = rng.between(1, 255);
-        for (place, message) in messages.iter_mut().enumerate() {
-            let point = place as u64 + 1;
-            if is_of_amounts(round) {
-                let mut value = factor;
-                for &root in &roots {
-                    value = amount::mul(value, amount::sub(point, root));
-                }
-                *message = amount::add(*message, value);
-            } else {
-                let mut value = factor as u8;
-                for &root in &roots {
-                    value = byte::mul(value, byte::add(point as u8, root as u8));
-                }
-                // Either byte of the message, in the rounds that have two.
-                let shift = if round < LAST_ROUND && factor % 2 == 0 {
-                    8
-                } else {
-                    0
-                };
-                *message ^= u64::from(value) << shift;
+        if !marked.is_empty() && rng.once_in(4) {
+            let word = &mut words[rng.pick(&marked) as usize - 1];
+            *word = out_of_range(rng, record, *word);
+        } else if most > t + 1 {
+            let degree = rng.between(t + 1, most - 1);
+            while (roots.len() as u64) < degree {
+                let place = rng.place(marked.len());
+                roots.push(marked.swap_remove(place));
             }
+            let factor = rng.between(1, 255);
+            add_polynomial(record, factor, &roots, words);
+        }
+    }
+}
+
+/// Adds the polynomial with this factor and these roots to the words of the points from
+/// 1 on: to one byte of each, in the rounds that have two by the factor.
+fn add_polynomial(record: &[u64], factor: u64, roots: &[u64], words: &mut [u64]) {
+    let high = !is_of_a_verdict(record) && factor % 2 == 0;
+    for (point, word) in (1..).zip(words) {
+        if is_of_amounts(record) {
+            let mut value = factor;
+            for &root in roots {
+                value = amount::mul(value, amount::sub(point, root));
+            }
+            *word = amount::add(*word, value);
+        } else {
+            let mut value = factor as u8;
+            for &root in roots {
+                value = byte::mul(value, byte::add(point as u8, root as u8));
+            }
+            *word ^= u64::from(value) << if high { 8 } else { 0 };
         }
     }
 }

@@ -11,6 +11,7 @@ pub mod differential;
 pub mod engine;
 pub mod formatted;
 pub mod generate;
+pub mod levels;
 pub mod meeting;
 pub mod opened;
 pub mod outcome;

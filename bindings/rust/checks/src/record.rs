@@ -1,7 +1,10 @@
-//! A record's roll by bidders, the index that it is about, and how far it has come.
+//! A record's roll by bidders, the index that it is about, what a message of its round
+//! is, and how far it has come.
 
-use clockivy::words::place::{FIRST, HI, LO, ROLL, ROUND, SEARCH};
-use clockivy_reference::{LAST_ROUND, MAX_BIDS, NO_MORE_ROUNDS, SECOND_SEARCH};
+use clockivy::words::place::{FIRST, HI, LAST, LO, ROLL, ROUND, SEARCH};
+use clockivy_reference::{
+    message_len, DEMAND_ROUND, MAX_BIDS, NO_MORE_ROUNDS, ROUNDS_7, SECOND_SEARCH, SUPPLY_ROUND,
+};
 
 /// The numbers that have a place on the roll and are no bidder's: 0, and those
 /// past the last bidder's.
@@ -40,11 +43,37 @@ pub fn marks(record: &[u64]) -> u64 {
 pub fn index(record: &[u64]) -> usize {
     let [lo, hi, first] = [LO, HI, FIRST].map(|place| record[place]);
     let index = match record[ROUND] {
-        ..=LAST_ROUND => lo.midpoint(hi),
+        ..DEMAND_ROUND => lo.midpoint(hi),
         _ if hi <= first => first.midpoint(hi),
         _ => first,
     };
     index as usize
+}
+
+/// The place in [`WAYS`](clockivy_reference::WAYS) of the way of a record: the first
+/// where it is another.
+pub fn way(record: &[u64]) -> usize {
+    usize::from(record[LAST] == ROUNDS_7)
+}
+
+/// The words of a message.
+pub fn width(record: &[u64]) -> usize {
+    message_len(record[LAST], record[ROUND])
+}
+
+/// Whether its one word is a share of an amount.
+pub fn is_of_amounts(record: &[u64]) -> bool {
+    [1, DEMAND_ROUND, SUPPLY_ROUND].contains(&record[ROUND])
+}
+
+/// Whether its one word is a share of the verdict.
+pub fn is_of_a_verdict(record: &[u64]) -> bool {
+    record[ROUND] == record[LAST]
+}
+
+/// Whether its words are those of a level, in which pairs are merged.
+pub fn is_of_a_level(record: &[u64]) -> bool {
+    record[LAST] == ROUNDS_7 && (2..ROUNDS_7).contains(&record[ROUND])
 }
 
 /// Whether the second search has ended.

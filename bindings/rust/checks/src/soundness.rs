@@ -3,12 +3,13 @@
 //! can be broken by itself in a record that is otherwise sound.
 
 use clockivy::words::place::{
-    BIDS, CARRY, DEMAND, FIRST, FIRST_PROBES, HI, K, LO, N, OWN, PROBES, ROUND, SEARCH, SUM, SUPPLY,
+    BIDS, CARRY, DEMAND, FIRST, FIRST_PROBES, HI, K, LAST, LO, N, OWN, PAIRS, PROBES, ROUND,
+    SEARCH, SUM, SUPPLY,
 };
-use clockivy::RECORD_LEN;
+use clockivy::{PAIRS_LEN, RECORD_LEN};
 use clockivy_reference::{
-    probe_limit, DEMAND_ROUND, FIRST_SEARCH, LAST_ROUND, MAX_PRICES, NO_MORE_ROUNDS, SECOND_SEARCH,
-    SUM_LIMIT, SUPPLY_ROUND, TOTAL_LIMIT,
+    probe_limit, DEMAND_ROUND, FIRST_SEARCH, MAX_PRICES, NO_MORE_ROUNDS, ROUNDS_33, ROUNDS_7,
+    SECOND_SEARCH, SUM_LIMIT, SUPPLY_ROUND, TOTAL_LIMIT, WAYS,
 };
 
 use crate::generate::{any_search, first_search, fit_round, second_search};
@@ -32,6 +33,9 @@ struct Numbers {
     first_probes: i128,
     demand: u64,
     supply: u64,
+    last: u64,
+    /// The pair shares that are no bytes.
+    large_pairs: usize,
     /// The marks on the roll, and whether one of them is nobody's.
     marks: i128,
     marks_nobody: bool,
@@ -56,6 +60,8 @@ impl Numbers {
             first_probes: number(FIRST_PROBES),
             demand: record[DEMAND],
             supply: record[SUPPLY],
+            last: record[LAST],
+            large_pairs: large_pairs(record).count(),
             marks: i128::from(marks(record)),
             marks_nobody: NOBODY.iter().any(|&nobody| has_bid(record, nobody)),
         }
@@ -95,6 +101,11 @@ impl Numbers {
     }
 }
 
+/// The places of the pair shares in a record that are above 255, counted from 0.
+pub fn large_pairs(record: &[u64]) -> impl Iterator<Item = usize> + '_ {
+    (0..PAIRS_LEN).filter(|place| record[PAIRS + place] > 255)
+}
+
 /// The most probes of a search that can give `last`.
 fn limit(last: i128) -> i128 {
     probe_limit(last as u64).into()
@@ -116,8 +127,33 @@ impl Clause {
     }
 }
 
+/// The clause that only a record on the way of 7 can break.
+const NO_ROUND_OF_7: &str = "no price, or not yet: round 8 to 33 of 7";
+/// The clause of which a record that breaks it is on neither way.
+const NO_WAY: &str = "last neither 33 nor 7";
+/// The clause that is broken in one of 32 places.
+pub const LARGE_PAIR: &str = "a pair share above 255";
+
+/// Numbers that are the last round of no way.
+pub const NO_WAYS: [u64; 14] = [
+    0,
+    1,
+    6,
+    8,
+    32,
+    34,
+    35,
+    39,
+    40,
+    (1 << 32) + 7,
+    (1 << 32) + 33,
+    1 << 63,
+    (1 << 63) + 7,
+    u64::MAX,
+];
+
 /// All clauses.
-pub const CLAUSES: [Clause; 28] = [
+pub const CLAUSES: [Clause; 31] = [
     Clause {
         name: "n outside 3 to 9",
         broken: |r| !(3..=9).contains(&r.n),
@@ -170,22 +206,29 @@ pub const CLAUSES: [Clause; 28] = [
     },
     Clause {
         name: "no price, or not yet: round outside 1 to 33",
-        broken: |r| !r.has_cleared() && !(1..=LAST_ROUND).contains(&r.round),
+        broken: |r| !r.has_cleared() && !(1..=ROUNDS_33).contains(&r.round),
         break_in: |rng, record| {
-            match rng.below(8) {
-                0 => no_price(rng, record),
-                1..=4 => first_search(rng, record),
-                _ => {
-                    second_search(rng, record);
-                    if record[HI] - record[LO] == 1 {
-                        no_price(rng, record);
-                    }
-                }
-            }
+            no_price_or_not_yet(rng, record);
             record[ROUND] = match rng.below(4) {
                 0 => 0,
                 1..=2 => rng.between(DEMAND_ROUND, NO_MORE_ROUNDS),
-                _ => at_least(rng, LAST_ROUND + 1),
+                _ => at_least(rng, DEMAND_ROUND),
+            };
+        },
+    },
+    Clause {
+        name: NO_ROUND_OF_7,
+        broken: |r| {
+            let between = (ROUNDS_7 + 1..=ROUNDS_33).contains(&r.round);
+            !r.has_cleared() && r.last == ROUNDS_7 && between
+        },
+        break_in: |rng, record| {
+            record[LAST] = ROUNDS_7;
+            no_price_or_not_yet(rng, record);
+            record[ROUND] = match rng.below(4) {
+                0 => ROUNDS_7 + 1,
+                1 => ROUNDS_33,
+                _ => rng.between(ROUNDS_7 + 1, ROUNDS_33),
             };
         },
     },
@@ -199,11 +242,21 @@ pub const CLAUSES: [Clause; 28] = [
             record[LO] = record[HI] - 1;
             record[PROBES] = record[FIRST_PROBES] + rng.between(0, probe_limit(record[FIRST]));
             record[ROUND] = match rng.below(4) {
-                0 => LAST_ROUND,
-                1 => rng.below(LAST_ROUND),
+                0 => rng.pick(&WAYS),
+                1 => rng.below(ROUNDS_33),
                 _ => at_least(rng, NO_MORE_ROUNDS + 1),
             };
         },
+    },
+    Clause {
+        name: NO_WAY,
+        broken: |r| !WAYS.contains(&r.last),
+        break_in: |rng, record| record[LAST] = rng.pick(&NO_WAYS),
+    },
+    Clause {
+        name: LARGE_PAIR,
+        broken: |r| r.large_pairs > 0,
+        break_in: |rng, record| record[PAIRS + rng.place(PAIRS_LEN)] = at_least(rng, 256),
     },
     Clause {
         name: "demand 2^32 or more",
@@ -397,6 +450,20 @@ pub const CLAUSES: [Clause; 28] = [
     },
 ];
 
+/// Puts a search into a record that goes on or ends without a price.
+fn no_price_or_not_yet(rng: &mut Rng, record: &mut [u64]) {
+    match rng.below(8) {
+        0 => no_price(rng, record),
+        1..=4 => first_search(rng, record),
+        _ => {
+            second_search(rng, record);
+            if record[HI] - record[LO] == 1 {
+                no_price(rng, record);
+            }
+        }
+    }
+}
+
 /// Ends the searches of a record without a price.
 fn no_price(rng: &mut Rng, record: &mut [u64]) {
     second_search(rng, record);
@@ -462,6 +529,16 @@ pub fn name(condition: usize) -> &'static str {
     match condition.checked_sub(STANDINGS.len()) {
         None => STANDINGS[condition].name,
         Some(clause) => CLAUSES[clause].name,
+    }
+}
+
+/// Whether a record on this way can be in a condition, the way being its place in
+/// [`WAYS`]. One on neither is counted on the first.
+pub fn can_be(way: usize, condition: usize) -> bool {
+    match name(condition) {
+        NO_ROUND_OF_7 => WAYS[way] == ROUNDS_7,
+        NO_WAY => WAYS[way] == ROUNDS_33,
+        _ => true,
     }
 }
 

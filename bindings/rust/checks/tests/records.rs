@@ -5,14 +5,16 @@
 mod both;
 
 use both::reply;
-use clockivy::words::place::{DEMAND, ROUND, SUPPLY};
-use clockivy::RECORD_LEN;
+use clockivy::words::place::{DEMAND, LAST, PAIRS, ROUND, SUPPLY};
+use clockivy::{PAIRS_LEN, RECORD_LEN};
 use clockivy_checks::call::{Call, Kind};
 use clockivy_checks::generate::{call, first_search, second_search};
 use clockivy_checks::record::has_cleared;
 use clockivy_checks::rng::Rng;
-use clockivy_checks::soundness::{found, name, Found, CLAUSES};
-use clockivy_reference::{LAST_ROUND, MAX_AMOUNT, NO_MORE_ROUNDS, TOTAL_LIMIT};
+use clockivy_checks::soundness::{found, name, Found, CLAUSES, LARGE_PAIR, NO_WAYS};
+use clockivy_reference::{
+    DEMAND_ROUND, MAX_AMOUNT, NO_MORE_ROUNDS, ROUNDS_33, ROUNDS_7, TOTAL_LIMIT,
+};
 
 /// A call of this kind whose record is sound.
 fn sound(rng: &mut Rng, kind: Kind) -> Call {
@@ -58,6 +60,45 @@ fn any_two_clauses_broken_are_refused() {
     }
 }
 
+/// In every place, and on both ways: a pair share of 255 is sound and one of 256 is
+/// not; and no other way is one.
+#[test]
+fn every_pair_share_and_any_other_way() {
+    let mut rng = Rng::new(2002);
+    for kind in Kind::ON_RECORDS {
+        for place in 0..PAIRS_LEN {
+            for last in [ROUNDS_33, ROUNDS_7] {
+                let mut call = sound_on(&mut rng, kind, last);
+                call.words[0][PAIRS + place] = 255;
+                assert!(matches!(found(&call.words[0]), Found::Sound(_)), "{call}");
+                reply(&call);
+                for share in [256, 257, 511, 512, 1 << 32, 1 << 63, u64::MAX] {
+                    call.words[0][PAIRS + place] = share;
+                    let Found::Broken(broken) = found(&call.words[0]) else {
+                        panic!("it is sound, {call}");
+                    };
+                    assert_eq!((name(broken), reply(&call)), (LARGE_PAIR, 1));
+                }
+            }
+        }
+        for last in NO_WAYS.into_iter().chain(9..32) {
+            let mut call = sound(&mut rng, kind);
+            call.words[0][LAST] = last;
+            assert_eq!(reply(&call), 1, "{call}");
+        }
+    }
+}
+
+/// A call of this kind whose record is sound and goes this way.
+fn sound_on(rng: &mut Rng, kind: Kind, last: u64) -> Call {
+    loop {
+        let call = sound(rng, kind);
+        if call.words[0][LAST] == last {
+            return call;
+        }
+    }
+}
+
 /// A search put into a sound record leaves it sound, and it is not refused with
 /// 1 but for a bidder's number or a mark.
 #[test]
@@ -82,13 +123,13 @@ fn sound_searches() {
 fn another_length_than_a_record() {
     let mut rng = Rng::new(2008);
     for kind in Kind::LENT_RECORDS {
-        for length in [0, 10, 26, 29, RECORD_LEN - 1, RECORD_LEN + 1] {
+        for length in [0, 10, 26, 29, 31, 32, RECORD_LEN - 1, RECORD_LEN + 1] {
             let mut call = call(&mut rng, kind);
             call.words[kind.record().unwrap()].resize(length, 0);
             call.bidder = rng.pick(&[1, 1_000]);
             call.bytes.iter_mut().for_each(|mark| *mark %= 2);
             assert_eq!(reply(&call), 2, "{call}");
-            for change in [no_panel, no_bidder, no_mark] {
+            for change in [no_panel, no_way, no_bidder, no_mark] {
                 let mut other = call.clone();
                 change(&mut other);
                 let judged = !other.in_range_without_record();
@@ -100,6 +141,10 @@ fn another_length_than_a_record() {
 
 fn no_panel(call: &mut Call) {
     call.numbers[1] = 0;
+}
+
+fn no_way(call: &mut Call) {
+    call.last = 8;
 }
 
 fn no_bidder(call: &mut Call) {
@@ -115,7 +160,7 @@ fn no_mark(call: &mut Call) {
 /// the order in which they are judged.
 type Change = (u64, fn(&mut Call));
 
-const CHANGES: [Change; 14] = [
+const CHANGES: [Change; 18] = [
     // Without a record nothing else is judged.
     (2, |call| call.words[0].resize(0, 0)),
     (2, |call| call.words[0].resize(RECORD_LEN - 1, 0)),
@@ -123,10 +168,14 @@ const CHANGES: [Change; 14] = [
     (1, |call| put(call, DEMAND, TOTAL_LIMIT)),
     (1, |call| put(call, SUPPLY, TOTAL_LIMIT)),
     (1, |call| put(call, SUPPLY, 21)),
-    (1, |call| put(call, ROUND, LAST_ROUND)),
+    (1, |call| put(call, LAST, 0)),
+    (1, |call| put(call, LAST, DEMAND_ROUND)),
+    (1, |call| put(call, PAIRS, 256)),
+    (1, |call| put(call, PAIRS + PAIRS_LEN - 1, u64::MAX)),
+    (1, |call| put(call, ROUND, ROUNDS_33)),
     (1, |call| put(call, ROUND, NO_MORE_ROUNDS + 1)),
     (1, |call| put(call, ROUND, u64::MAX)),
-    (16, |call| put_round(call, LAST_ROUND + 1)),
+    (16, |call| put_round(call, DEMAND_ROUND)),
     (16, |call| put_round(call, NO_MORE_ROUNDS - 1)),
     (6, |call| call.amount = MAX_AMOUNT + 1),
     (6, |call| call.amount = 1 << 32),

@@ -5,12 +5,14 @@ use std::fs;
 use std::num::NonZeroU64;
 use std::path::Path;
 
+use clockivy::Way;
+
 /// The most prices of a file.
 const MOST_PRICES: u64 = 256;
 /// The most bids.
 const MOST_BIDS: u64 = clockivy::MAX_BIDS;
 
-/// What a file of the rehearsal holds, but for the seeds.
+/// What a file of the rehearsal holds, but for the seeds, and how it is held.
 pub struct Auction {
     /// The number of parties.
     pub n: u64,
@@ -18,10 +20,13 @@ pub struct Auction {
     pub prices: Vec<u64>,
     /// The tables of bidder 1, bidder 2 and so on: demand at each price, then supply.
     pub bids: Vec<Vec<u64>>,
+    /// In how many rounds a probe comes to its verdict.
+    pub way: Way,
 }
 
 impl Auction {
-    /// Reads a file. What the tables hold is judged by the calls.
+    /// Reads a file, to be held with 33 rounds a probe, as the rehearsal holds it. What
+    /// the tables hold is judged by the calls.
     pub fn read(path: &Path) -> Result<Auction, String> {
         let name = path.display();
         let text = fs::read_to_string(path).map_err(|error| format!("{name}: {error}"))?;
@@ -38,7 +43,12 @@ impl Auction {
         let bids = (0..bids).map(|_| lines.numbers(2 * k));
         let bids = bids.collect::<Option<Vec<_>>>()?;
         lines.end()?;
-        Some(Auction { n, prices, bids })
+        Some(Auction {
+            n,
+            prices,
+            bids,
+            way: Way::Rounds33,
+        })
     }
 
     /// The number of prices.
@@ -48,6 +58,8 @@ impl Auction {
 
     /// Whether two auctions agree in what is not hidden; if not, in what they do not.
     pub fn agrees(&self, other: &Auction) -> Result<(), String> {
+        let [rounds, others] = [self, other].map(|auction| auction.way.rounds());
+        same("the number of rounds of a probe", rounds, others)?;
         same("the number of parties", self.n, other.n)?;
         same("the number of prices", self.k(), other.k())?;
         same("the number of bids", self.bids.len(), other.bids.len())?;

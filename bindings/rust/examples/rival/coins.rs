@@ -22,13 +22,10 @@ pub struct Coins {
 pub struct SheetCoins {
     /// The mask and its t coefficients.
     pub words: Vec<u64>,
-    /// t coefficients for each of bits 1 to 33 of the mask; then, for each of rounds 2
-    /// to 32, alpha, beta and t coefficients each for alpha, beta and their product.
+    /// t coefficients for each of bits 1 to 33 of the mask; then, for each product,
+    /// alpha, beta and t coefficients each for alpha, beta and their product.
     pub bytes: Vec<u8>,
 }
-
-/// What is drawn for one probe goes by the rounds.
-pub const WAY: Way = Way::Rounds33;
 
 impl Coins {
     /// New coins from the system.
@@ -36,7 +33,7 @@ impl Coins {
         let (n, k) = (auction.n, auction.k());
         let bid = |_| (0..coins_len(n, k)).map(|_| System.below(PRIME)).collect();
         let bids = auction.bids.iter().map(bid).collect::<Option<_>>();
-        let sheets = (0..sheet_count(k)).map(|_| SheetCoins::draw(n));
+        let sheets = (0..sheet_count(k)).map(|_| SheetCoins::draw(n, auction.way));
         let drawn = bids.zip(sheets.collect::<Option<_>>());
         let (bids, sheets) = drawn.ok_or(Refusal::CoinOutOfRange)?;
         Ok(Coins { bids, sheets })
@@ -63,7 +60,8 @@ impl Coins {
         let (totals, others) = (Totals::of(one), Totals::of(other));
         let mut sheets = self.sheets.clone();
         for (coins, probe) in sheets.iter_mut().zip(probes) {
-            coins.fit(probe.surplus(&totals), probe.surplus(&others), &unseen)?;
+            let surpluses = [&totals, &others].map(|totals| probe.surplus(totals));
+            coins.fit(one.way, surpluses, &unseen)?;
         }
         Some(Coins { bids, sheets })
     }
@@ -85,19 +83,19 @@ impl Unseen {
 }
 
 impl SheetCoins {
-    fn draw(n: u64) -> Option<SheetCoins> {
+    fn draw(n: u64, way: Way) -> Option<SheetCoins> {
         let mask = System.below(MASK_LIMIT);
         let coefficients = (1..deal_words_len(n)).map(|_| System.below(PRIME));
         let words = std::iter::once(mask).chain(coefficients).collect();
         let byte = |_| System.below(256).map(|byte| byte as u8);
-        let bytes = (0..deal_bytes_len(n, WAY)).map(byte).collect();
+        let bytes = (0..deal_bytes_len(n, way)).map(byte).collect();
         Option::zip(words, bytes).map(|(words, bytes)| SheetCoins { words, bytes })
     }
 
-    /// Changes them to those that open the same with this other surplus. Each of what
+    /// Changes them to those that open the same with the other surplus. Each of what
     /// is opened is a secret plus something that was drawn: where the secret changes,
     /// what was drawn changes as much. Their sharings go along, unseen by the pool.
-    fn fit(&mut self, surplus: i64, other: i64, unseen: &Unseen) -> Option<()> {
+    fn fit(&mut self, way: Way, [surplus, other]: [i64; 2], unseen: &Unseen) -> Option<()> {
         let mask = self.words[0];
         let moved = mask.checked_add_signed(other - surplus)?;
         if moved >= MASK_LIMIT {
@@ -110,18 +108,14 @@ impl SheetCoins {
             Amounts::sub(moved, mask),
             &unseen.amounts,
         );
-        let (before, after) = (Adder::new(opened, mask), Adder::new(opened, moved));
         let (bits, products) = self.bytes.split_at_mut(33 * unseen.bytes.len());
-        for (place, coins) in bits.chunks_mut(unseen.bytes.len()).enumerate() {
-            let change = before.mask_bit(place + 1) ^ after.mask_bit(place + 1);
-            recolour::<Bytes>(coins, change, &unseen.bytes);
+        for (bit, coins) in (1..).zip(bits.chunks_mut(unseen.bytes.len())) {
+            recolour::<Bytes>(coins, nth(mask ^ moved, bit), &unseen.bytes);
         }
-        let length = 2 + 3 * unseen.bytes.len();
-        for (round, coins) in (2..).zip(products.chunks_mut(length)) {
-            let change = [
-                before.mask_bit(round) ^ after.mask_bit(round),
-                before.carries[round] ^ after.carries[round],
-            ];
+        let [before, after] = [mask, moved].map(|mask| factors(way, opened, mask));
+        let products = products.chunks_mut(2 + 3 * unseen.bytes.len());
+        for (coins, (before, after)) in products.zip(before.iter().zip(&after)) {
+            let change = [before[0] ^ after[0], before[1] ^ after[1]];
             fit_product(coins, change, &unseen.bytes);
         }
         Some(())
@@ -144,26 +138,41 @@ fn fit_product(coins: &mut [u8], change: [u8; 2], unseen: &[u8]) {
     }
 }
 
-/// The opened sum and the mask, added bit by bit: what the parties do in shares.
-struct Adder {
-    mask: u64,
-    /// The carry into each bit from 2 to 33, in its place.
-    carries: [u8; 34],
+/// The factors of each product of a probe, in turn: what the parties have in shares when
+/// they add the opened sum and the mask.
+fn factors(way: Way, opened: u64, mask: u64) -> Vec<[u8; 2]> {
+    let pair = |bit| (nth(opened ^ mask, bit), nth(opened, bit));
+    let mut pairs: Vec<Pair> = (1..=32).map(pair).collect();
+    pairs[0] = merged((0, 0), pairs[0]);
+    let mut factors = Vec::new();
+    // One after the other, of which the bottoms alone are needed; or two by two.
+    if way == Way::Rounds33 {
+        let carry = |left, &right: &Pair| {
+            factors.push(merging(left, right)[1]);
+            merged(left, right)
+        };
+        pairs[1..].iter().fold(pairs[0], carry);
+        return factors;
+    }
+    while pairs.len() > 1 {
+        factors.extend(pairs.chunks(2).flat_map(|two| merging(two[0], two[1])));
+        pairs = pairs.chunks(2).map(|two| merged(two[0], two[1])).collect();
+    }
+    factors
 }
 
-impl Adder {
-    fn new(opened: u64, mask: u64) -> Adder {
-        let mut carries = [0; 34];
-        for bit in 1..33 {
-            let (sum, carry) = (nth(opened, bit), carries[bit]);
-            carries[bit + 1] = (nth(mask, bit) ^ sum) & (carry ^ sum) ^ sum;
-        }
-        Adder { mask, carries }
-    }
+/// A bit of the sum and the mask added without carries, and the carry that it makes where
+/// that is 0. Merged with its neighbours it stands for several bits.
+type Pair = (u8, u8);
 
-    fn mask_bit(&self, bit: usize) -> u8 {
-        nth(self.mask, bit)
-    }
+/// The factors of the two products with which two pairs are merged, top and bottom.
+fn merging((x, big_x): Pair, (y, big_y): Pair) -> [[u8; 2]; 2] {
+    [[x, y], [y, big_x ^ big_y]]
+}
+
+fn merged(left: Pair, right: Pair) -> Pair {
+    let [top, bottom] = merging(left, right).map(|[u, v]| u & v);
+    (top, bottom ^ right.1)
 }
 
 /// A bit of a number, bit 1 being the lowest.

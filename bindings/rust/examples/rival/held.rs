@@ -1,11 +1,12 @@
 //! An auction that was held, with all that anybody received in it.
 
 use clockivy::{
-    deal, split, table_len, Collecting, Message, Outcome, Refusal, Seat, Sheets, Speaking, BLANK,
+    deal, split, table_len, Collecting, Message, Outcome, Refusal, Seat, Sheets, Speaking, Way,
+    BLANK,
 };
 
 use crate::auction::{Auction, Totals};
-use crate::coins::{Coins, WAY};
+use crate::coins::Coins;
 
 /// What everybody received.
 pub struct Held {
@@ -16,6 +17,7 @@ pub struct Held {
     probes: Vec<Probe>,
     /// What each party has come to.
     outcomes: Vec<Outcome>,
+    way: Way,
 }
 
 /// What is sent to a party, or to some of them together.
@@ -81,7 +83,7 @@ impl Held {
         let mut sent = Vec::new();
         let mut parties = Vec::new();
         for own in 1..=auction.n {
-            let (n, k, way) = (auction.n, auction.k(), WAY);
+            let (n, k, way) = (auction.n, auction.k(), auction.way);
             let seat = Seat { n, own, k, way };
             let received = Sent::to(seat, auction, coins)?;
             let mut session = Collecting::open(seat)?;
@@ -110,6 +112,7 @@ impl Held {
             sent,
             probes,
             outcomes,
+            way: auction.way,
         })
     }
 
@@ -135,7 +138,7 @@ impl Held {
 
     /// The sheets that no probe came to, of all parties.
     pub fn unused(&self) -> Vec<u64> {
-        let used = WAY.sheet_len() * self.probes.len();
+        let used = self.way.sheet_len() * self.probes.len();
         let unused = self.sent.iter().map(|sent| &sent.sheets[used..]);
         unused.collect::<Vec<_>>().concat()
     }

@@ -1,13 +1,14 @@
 //! What a rival sees that runs t of the n parties: nothing by which it could tell two
 //! auctions apart, though every fleet bids quite differently in them.
 //!
-//!     cargo run --release --example rival -- ONE OTHER [N [PARTY...]]
+//!     cargo run --release --example rival -- [33|7] [ONE OTHER [N [PARTY...]]]
 //!
-//! ONE and OTHER are files as the rehearsal reads them (docs/REHEARSAL.md), but for the
-//! seeds, which are not used: the coins of the first auction come from the operating
-//! system. N is the number of parties, in place of the files', and PARTY... are the t
-//! parties that put together what they receive; without them, the first t. Without
-//! files it takes the two in bindings/rival.
+//! Both are held with so many rounds a probe; without the number, with 33. ONE and OTHER
+//! are files as the rehearsal reads them (docs/REHEARSAL.md), but for the seeds, which
+//! are not used: the coins of the first auction come from the operating system. N is the
+//! number of parties, in place of the files', and PARTY... are the t parties that put
+//! together what they receive; without them, the first t. Without files it takes the two
+//! in bindings/rival.
 //!
 //! The second auction is held with the one choice of coins that fits what these
 //! parties received in the first: that there is just one, for any two auctions that
@@ -24,7 +25,7 @@ use std::path::Path;
 use std::{env, fmt, iter};
 
 use auction::{Auction, Totals};
-use clockivy::{threshold, Refusal, PARTIES};
+use clockivy::{threshold, Refusal, Way, PARTIES};
 use coins::Coins;
 use held::{Held, Probe};
 
@@ -161,14 +162,22 @@ struct Arguments {
 }
 
 impl Arguments {
-    fn read(words: Vec<String>) -> Result<Arguments, Box<dyn Error>> {
+    fn read(mut words: Vec<String>) -> Result<Arguments, Box<dyn Error>> {
+        let rounds = words.first().and_then(|word| word.parse().ok());
+        let way = rounds.and_then(Way::from_rounds);
+        if way.is_some() {
+            words.remove(0);
+        }
         let (files, numbers) = words.split_at(words.len().min(2));
         let [one, other] = match files {
             [] => ["one.txt", "other.txt"].map(sample),
             [one, other] => [one, other].map(|name| Auction::read(Path::new(name))),
-            _ => return Err("rival [ONE OTHER [N [PARTY...]]]".into()),
+            _ => return Err("rival [33|7] [ONE OTHER [N [PARTY...]]]".into()),
         };
         let (mut one, mut other) = (one?, other?);
+        if let Some(way) = way {
+            (one.way, other.way) = (way, way);
+        }
         let numbers = numbers.iter().map(|word| word.parse());
         let numbers = numbers.collect::<Result<Vec<u64>, _>>()?;
         if let Some(&n) = numbers.first() {
@@ -200,7 +209,7 @@ fn sample(name: &str) -> Result<Auction, String> {
 #[cfg(test)]
 mod tests {
     use super::*;
-    use clockivy_testing::{choices, count};
+    use clockivy_testing::{choices, count, WAYS};
 
     /// How many words differ of what the pool receives, and of what it does not.
     fn differing((one, other): (Held, Held), pool: &[u64]) -> [usize; 2] {
@@ -211,16 +220,16 @@ mod tests {
         ]
     }
 
-    fn samples(n: u64) -> (Auction, Auction) {
-        let [mut one, mut other] = ["one.txt", "other.txt"].map(|name| sample(name).unwrap());
-        (one.n, other.n) = (n, n);
+    fn samples(n: u64, way: Way) -> (Auction, Auction) {
+        let both = ["one.txt", "other.txt"].map(|name| sample(name).unwrap());
+        let [one, other] = both.map(|auction| Auction { n, way, ..auction });
         (one, other)
     }
 
     #[test]
     fn any_t_of_any_n_receive_the_same() {
-        for n in PARTIES {
-            let (one, other) = samples(n);
+        for (n, way) in PARTIES.flat_map(|n| WAYS.map(|way| (n, way))) {
+            let (one, other) = samples(n, way);
             assert_eq!(one.agrees(&other), Ok(()));
             for marks in choices(n).filter(|marks| count(marks) == threshold(n)) {
                 let pool = (1..=n).filter(|&own| marks[own as usize - 1] == 1);
@@ -236,17 +245,18 @@ mod tests {
     /// other words.
     #[test]
     fn with_coins_that_do_not_fit_they_do_not() {
-        let (one, other) = samples(5);
-        let coins = Coins::draw(&one).unwrap();
-        let [first, second] = [&one, &other].map(|auction| Held::hold(auction, &coins).unwrap());
-        assert!(differing((first, second), &[1, 2])[0] > 0);
-        let both = hold_both(&one, &other, &[1, 3]).unwrap();
-        assert!(differing(both, &[1, 2])[0] > 0);
+        for (one, other) in WAYS.map(|way| samples(5, way)) {
+            let coins = Coins::draw(&one).unwrap();
+            let both = [&one, &other].map(|auction| Held::hold(auction, &coins).unwrap());
+            assert!(differing(both.into(), &[1, 2])[0] > 0);
+            let both = hold_both(&one, &other, &[1, 3]).unwrap();
+            assert!(differing(both, &[1, 2])[0] > 0);
+        }
     }
 
     #[test]
     fn what_may_not_differ() {
-        let (one, mut other) = samples(5);
+        let (one, mut other) = samples(5, Way::Rounds33);
         let disagreement = |other: &Auction| one.agrees(other).unwrap_err();
         other.bids[0][12] += 1;
         assert!(disagreement(&other).ends_with("supply at the price is 60 and 61"));
@@ -257,5 +267,7 @@ mod tests {
         assert!(disagreement(&other).ends_with("(0: none) is 5 and 4"));
         other.bids.pop();
         assert!(disagreement(&other).ends_with("the number of bids is 4 and 3"));
+        other.way = Way::Rounds7;
+        assert!(disagreement(&other).ends_with("rounds of a probe is 33 and 7"));
     }
 }

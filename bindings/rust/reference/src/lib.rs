@@ -10,11 +10,13 @@
 #![forbid(unsafe_code)]
 
 pub mod field;
+pub mod pairs;
 mod settlement;
 
 use std::ops::RangeInclusive;
 
 use field::{amount, byte};
+use pairs::Pair;
 
 const OUT_OF_RANGE: u64 = 1;
 const WRONG_LENGTH: u64 = 2;
@@ -35,10 +37,14 @@ const PAGE_TOO_SHORT: u64 = 17;
 
 /// The words of a roll, with a bit for each bidder's number.
 pub const ROLL: usize = 16;
-/// The words of a party's record: ten numbers, the roll, and five numbers.
-pub const RECORD: usize = 10 + ROLL + 5;
-/// The words of one probe's preprocessing.
-pub const SHEET: usize = 127;
+/// The words of the kept pair shares: the top and the bottom of up to 16 pairs.
+pub const PAIRS: usize = 32;
+/// The words of a party's record: ten numbers, the roll, six numbers, and the pairs.
+pub const RECORD: usize = 10 + ROLL + 6 + PAIRS;
+/// The bits of a mask that are shared one by one.
+pub const MASK_BITS: usize = 33;
+/// The most words that a party says in a round.
+pub const MOST_WORDS: usize = 32;
 /// The most bids that are held, and the highest bidder number.
 pub const MAX_BIDS: u64 = 1_000;
 /// The most listed prices.
@@ -51,8 +57,12 @@ pub const MASK_LIMIT: u64 = 1 << 58;
 pub const SUM_LOW: u64 = (1 << 58) + 2;
 /// .. and below this.
 pub const SUM_LIMIT: u64 = (1 << 59) + (1 << 33);
-/// The last round of a probe.
-pub const LAST_ROUND: u64 = 33;
+/// The last round of a probe whose carries are made one after the other.
+pub const ROUNDS_33: u64 = 33;
+/// The last round of a probe whose carry is looked up in a list that is halved.
+pub const ROUNDS_7: u64 = 7;
+/// The two ways to a verdict, by their last rounds.
+pub const WAYS: [u64; 2] = [ROUNDS_33, ROUNDS_7];
 /// The round in which total demand at the price is opened.
 pub const DEMAND_ROUND: u64 = 34;
 /// The round in which total supply at the price is opened.
@@ -91,9 +101,37 @@ pub fn sheet_count(k: u64) -> u64 {
     2 * probe_limit(k)
 }
 
+/// The products of shared bytes in a probe of this way.
+fn products(last: u64) -> usize {
+    match last {
+        ROUNDS_7 => 62,
+        _ => 31,
+    }
+}
+
+/// The words of one probe's preprocessing.
+pub fn sheet_len(last: u64) -> usize {
+    1 + MASK_BITS + 3 * products(last)
+}
+
+/// The bytes that are drawn for one probe among `n` parties: the coefficients of each
+/// shared byte, and two factors for each product.
+pub fn drawn_len(n: u64, last: u64) -> usize {
+    threshold(n) * (MASK_BITS + 3 * products(last)) + 2 * products(last)
+}
+
+/// The words that a party says in a round.
+pub fn message_len(last: u64, round: u64) -> usize {
+    match (last, round) {
+        // One for each pair of the list that is halved.
+        (ROUNDS_7, 2..=6) => 1 << (ROUNDS_7 - round),
+        _ => 1,
+    }
+}
+
 /// Opens a session: zeroes the totals and writes the record.
-pub fn open(n: u64, own: u64, k: u64, totals: &mut [u64], record: &mut [u64]) -> u64 {
-    reply(try_open(n, own, k, totals, record))
+pub fn open(n: u64, own: u64, k: u64, last: u64, totals: &mut [u64], record: &mut [u64]) -> u64 {
+    reply(try_open(n, own, k, last, totals, record))
 }
 
 /// Writes party `own`'s shares of a bid.
@@ -115,8 +153,8 @@ pub fn split_entry(
 }
 
 /// Writes party `own`'s preprocessing for one probe.
-pub fn deal(n: u64, own: u64, words: &[u64], bytes: &[u8], sheet: &mut [u64]) -> u64 {
-    reply(try_deal(n, own, words, bytes, sheet))
+pub fn deal(n: u64, own: u64, last: u64, words: &[u64], bytes: &[u8], sheet: &mut [u64]) -> u64 {
+    reply(try_deal(n, own, last, words, bytes, sheet))
 }
 
 /// Adds a bid's shares to the totals and marks its bidder.
@@ -124,9 +162,9 @@ pub fn add(record: &mut [u64], totals: &mut [u64], bidder: u64, shares: &[u64]) 
     reply(try_add(record, totals, bidder, shares))
 }
 
-/// Writes the party's message of the current round.
-pub fn say(record: &[u64], totals: &[u64], sheets: &[u64], message: &mut u64) -> u64 {
-    reply(try_say(record, totals, sheets, message))
+/// Writes the words that the party says in the current round.
+pub fn say(record: &[u64], totals: &[u64], sheets: &[u64], messages: &mut [u64]) -> u64 {
+    reply(try_say(record, totals, sheets, messages))
 }
 
 /// Takes the messages of those who were present in the current round and steps
@@ -185,8 +223,20 @@ fn prices_in_range(k: u64) -> bool {
     (1..=MAX_PRICES).contains(&k)
 }
 
-fn try_open(n: u64, own: u64, k: u64, totals: &mut [u64], record: &mut [u64]) -> Result<(), u64> {
+fn is_way(last: u64) -> bool {
+    WAYS.contains(&last)
+}
+
+fn try_open(
+    n: u64,
+    own: u64,
+    k: u64,
+    last: u64,
+    totals: &mut [u64],
+    record: &mut [u64],
+) -> Result<(), u64> {
     need(party_in_range(n, own) && prices_in_range(k), OUT_OF_RANGE)?;
+    need(is_way(last), OUT_OF_RANGE)?;
     need(
         totals.len() == 2 * k as usize && record.len() == RECORD,
         WRONG_LENGTH,
@@ -209,6 +259,8 @@ fn try_open(n: u64, own: u64, k: u64, totals: &mut [u64], record: &mut [u64]) ->
         first_probes: 0,
         demand: 0,
         supply: 0,
+        last,
+        pairs: [0; PAIRS],
     };
     opened.write(record);
     Ok(())
@@ -277,11 +329,18 @@ fn judge_bid(prices: usize, table: &[u64], coins: &[u64]) -> Result<(), u64> {
     )
 }
 
-fn try_deal(n: u64, own: u64, words: &[u64], bytes: &[u8], sheet: &mut [u64]) -> Result<(), u64> {
-    need(party_in_range(n, own), OUT_OF_RANGE)?;
+fn try_deal(
+    n: u64,
+    own: u64,
+    last: u64,
+    words: &[u64],
+    bytes: &[u8],
+    sheet: &mut [u64],
+) -> Result<(), u64> {
+    need(party_in_range(n, own) && is_way(last), OUT_OF_RANGE)?;
     let t = threshold(n);
     need(
-        words.len() == 1 + t && bytes.len() == 126 * t + 62 && sheet.len() == SHEET,
+        words.len() == 1 + t && bytes.len() == drawn_len(n, last) && sheet.len() == sheet_len(last),
         WRONG_LENGTH,
     )?;
     let mask = words[0];
@@ -296,10 +355,9 @@ fn try_deal(n: u64, own: u64, words: &[u64], bytes: &[u8], sheet: &mut [u64]) ->
     for i in 1..=33_u64 {
         sheet[i as usize] = byte::share(bit(mask, i), drawn.take(t), point).into();
     }
-    for i in 2..=32 {
+    for triple in sheet[1 + MASK_BITS..].chunks_exact_mut(3) {
         let alpha = drawn.take(1)[0];
         let beta = drawn.take(1)[0];
-        let triple = &mut sheet[34 + 3 * (i - 2)..34 + 3 * (i - 1)];
         triple[0] = byte::share(alpha, drawn.take(t), point).into();
         triple[1] = byte::share(beta, drawn.take(t), point).into();
         triple[2] = byte::share(byte::mul(alpha, beta), drawn.take(t), point).into();
@@ -342,15 +400,23 @@ fn try_add(record: &mut [u64], totals: &mut [u64], bidder: u64, shares: &[u64]) 
     Ok(())
 }
 
-fn try_say(record: &[u64], totals: &[u64], sheets: &[u64], message: &mut u64) -> Result<(), u64> {
+fn try_say(
+    record: &[u64],
+    totals: &[u64],
+    sheets: &[u64],
+    messages: &mut [u64],
+) -> Result<(), u64> {
     let party = Record::read(record)?;
-    need(party.lengths_fit(totals, sheets), WRONG_LENGTH)?;
+    need(
+        party.lengths_fit(totals, sheets) && messages.len() == party.width(),
+        WRONG_LENGTH,
+    )?;
     need(!party.is_over(), OUT_OF_TURN)?;
     need(party.totals_in_range(totals), SHARE_OUT_OF_RANGE)?;
-    *message = match party.total_share(totals) {
-        Some(share) => share,
-        None => party.message(totals, &party.current_sheet(sheets)?),
-    };
+    match party.total_share(totals) {
+        Some(share) => messages[0] = share,
+        None => party.say(totals, &party.current_sheet(sheets)?, messages),
+    }
     Ok(())
 }
 
@@ -363,33 +429,31 @@ fn try_hear(
 ) -> Result<(), u64> {
     need(present.iter().all(|&mark| mark <= 1), OUT_OF_RANGE)?;
     let mut party = Record::read(record)?;
-    let n = party.n as usize;
+    let (n, width) = (party.n as usize, party.width());
     need(
-        party.lengths_fit(totals, sheets) && messages.len() == n && present.len() == n,
+        party.lengths_fit(totals, sheets) && messages.len() == n * width && present.len() == n,
         WRONG_LENGTH,
     )?;
     need(!party.is_over(), OUT_OF_TURN)?;
-    let heard = Heard::of(messages, present);
+    let heard = Heard::of(messages, width, present);
     need(heard.count > threshold(party.n), TOO_FEW_PRESENT)?;
     let own = party.own as usize - 1;
+    let own_message = &messages[own * width..(own + 1) * width];
     // The totals are used in the own message alone, and that only where the
     // party was present.
     let here = present[own] == 1;
     need(!here || party.totals_in_range(totals), SHARE_OUT_OF_RANGE)?;
     if let Some(share) = party.total_share(totals) {
-        need(!here || messages[own] == share, OWN_MESSAGE_DIFFERS)?;
+        need(!here || own_message == [share], OWN_MESSAGE_DIFFERS)?;
         party.hear_total(&heard)?;
     } else {
         let sheet = party.current_sheet(sheets)?;
-        need(
-            !here || messages[own] == party.message(totals, &sheet),
-            OWN_MESSAGE_DIFFERS,
-        )?;
-        match party.round {
-            1 => party.hear_sum(&sheet, &heard)?,
-            LAST_ROUND => party.hear_verdict(&heard)?,
-            _ => party.hear_product(&sheet, &heard)?,
+        if here {
+            let mut said = [0; MOST_WORDS];
+            party.say(totals, &sheet, &mut said[..width]);
+            need(own_message == &said[..width], OWN_MESSAGE_DIFFERS)?;
         }
+        party.hear_probe(&sheet, &heard)?;
     }
     party.write(record);
     Ok(())
@@ -429,6 +493,11 @@ fn are_totals(demand: u64, supply: u64) -> bool {
     demand < TOTAL_LIMIT && supply < TOTAL_LIMIT && supply <= demand
 }
 
+/// The words of a record from a place on.
+fn part<const LENGTH: usize>(words: &[u64; RECORD], first: usize) -> [u64; LENGTH] {
+    std::array::from_fn(|place| words[first + place])
+}
+
 /// Bit `i` of a number, bit 1 being the lowest.
 fn bit(number: u64, i: u64) -> u8 {
     ((number >> (i - 1)) & 1) as u8
@@ -455,6 +524,11 @@ struct Record {
     /// Total demand and total supply at the price, once they are opened.
     demand: u64,
     supply: u64,
+    /// The last round of a probe.
+    last: u64,
+    /// The shares of the pairs that the last level came to, top before bottom, and
+    /// zeros after them.
+    pairs: [u64; PAIRS],
 }
 
 /// The preprocessing of the current probe, judged.
@@ -473,33 +547,45 @@ impl Sheet<'_> {
         self.words[i as usize] as u8
     }
 
-    /// The shares of alpha, beta and gamma for rounds 2 to 32.
-    fn triple(&self, round: u64) -> [u8; 3] {
-        let first = 34 + 3 * (round as usize - 2);
+    /// The share of bit `i` of the mask plus that of the sum.
+    fn masked_bit(&self, sum: u64, i: u64) -> u8 {
+        byte::add(self.bit(i), bit(sum, i))
+    }
+
+    /// The share of the carry out of bit 1 of the mask and the sum.
+    fn first_carry(&self, sum: u64) -> u8 {
+        let sum_bit = bit(sum, 1);
+        byte::add(byte::mul(self.masked_bit(sum, 1), sum_bit), sum_bit)
+    }
+
+    /// The shares of alpha, beta and gamma for a product, counted from 0.
+    fn triple(&self, product: usize) -> [u8; 3] {
+        let first = 1 + MASK_BITS + 3 * product;
         [0, 1, 2].map(|place| self.words[first + place] as u8)
     }
 }
 
-/// The messages of those who were present, and their points. Of the others
-/// nothing is kept.
-struct Heard {
+/// The messages of all, `width` words of each, and the points of those who were
+/// present. What stands in the places of the others is not looked at.
+struct Heard<'a> {
+    messages: &'a [u64],
+    width: usize,
     count: usize,
     points: [usize; 9],
-    words: [u64; 9],
 }
 
-impl Heard {
+impl Heard<'_> {
     /// Of at most nine messages and as many marks.
-    fn of(messages: &[u64], present: &[u8]) -> Heard {
+    fn of<'a>(messages: &'a [u64], width: usize, present: &[u8]) -> Heard<'a> {
         let mut heard = Heard {
+            messages,
+            width,
             count: 0,
             points: [0; 9],
-            words: [0; 9],
         };
-        for (place, (&word, &mark)) in messages.iter().zip(present).enumerate() {
+        for (place, &mark) in present.iter().enumerate() {
             if mark == 1 {
                 heard.points[heard.count] = place + 1;
-                heard.words[heard.count] = word;
                 heard.count += 1;
             }
         }
@@ -510,17 +596,34 @@ impl Heard {
         &self.points[..self.count]
     }
 
-    fn words(&self) -> &[u64] {
-        &self.words[..self.count]
+    /// The words in this place of the messages, where none is above `most`; as many
+    /// as there are points.
+    fn words(&self, place: usize, most: u64) -> Option<[u64; 9]> {
+        let mut words = [0; 9];
+        for (word, point) in words.iter_mut().zip(self.points()) {
+            *word = self.messages[(point - 1) * self.width + place];
+        }
+        words.iter().all(|&word| word <= most).then_some(words)
+    }
+
+    /// Opens the amount of which the words are shares.
+    fn open_amount(&self, t: usize) -> Option<u64> {
+        let words = self.words(0, amount::P - 1)?;
+        amount::open(self.points(), &words[..self.count], t)
     }
 
     /// Opens one byte of each word, the lowest where `shift` is 0.
-    fn open_bytes(&self, shift: u32, t: usize) -> Option<u8> {
-        let mut bytes = [0; 9];
-        for (byte, &word) in bytes.iter_mut().zip(self.words()) {
-            *byte = (word >> shift) as u8;
-        }
+    fn open_bytes(&self, words: &[u64; 9], shift: u32, t: usize) -> Option<u8> {
+        let bytes = words.map(|word| (word >> shift) as u8);
         byte::open(self.points(), &bytes[..self.count], t)
+    }
+
+    /// Opens D and E of the product in this place.
+    fn open_product(&self, place: usize, t: usize) -> Option<[u8; 2]> {
+        let words = self.words(place, 65_535)?;
+        let d = self.open_bytes(&words, 0, t)?;
+        let e = self.open_bytes(&words, 8, t)?;
+        Some([d, e])
     }
 }
 
@@ -528,14 +631,18 @@ impl Record {
     /// The record in its words, judged.
     fn read(words: &[u64]) -> Result<Record, u64> {
         let words: &[u64; RECORD] = words.try_into().map_err(|_| WRONG_LENGTH)?;
-        let &[n, own, k, bids, lo, hi, probes, round, sum, carry, rest @ ..] = words;
-        let [roll @ .., search, first, first_probes, demand, supply] = rest;
+        let [n, own, k, bids, lo, hi, probes, round, sum, carry] = part(words, 0);
+        let roll = part(words, 10);
+        let [search, first, first_probes, demand, supply, last] = part(words, 10 + ROLL);
+        let pairs = part(words, RECORD - PAIRS);
         need(party_in_range(n, own) && prices_in_range(k), OUT_OF_RANGE)?;
         need(bids == marks(&roll), OUT_OF_RANGE)?;
         need(marks_bidders_alone(&roll), OUT_OF_RANGE)?;
         need(sum < SUM_LIMIT, OUT_OF_RANGE)?;
         need(carry <= 255, OUT_OF_RANGE)?;
         need(are_totals(demand, supply), OUT_OF_RANGE)?;
+        need(is_way(last), OUT_OF_RANGE)?;
+        need(pairs.iter().all(|&share| share <= 255), OUT_OF_RANGE)?;
         let party = Record {
             n,
             own,
@@ -553,6 +660,8 @@ impl Record {
             first_probes,
             demand,
             supply,
+            last,
+            pairs,
         };
         need(party.search_in_range(), OUT_OF_RANGE)?;
         need(party.rounds().contains(&round), OUT_OF_RANGE)?;
@@ -561,7 +670,8 @@ impl Record {
 
     fn write(&self, words: &mut [u64]) {
         let (numbers, rest) = words.split_at_mut(10);
-        let (roll, others) = rest.split_at_mut(ROLL);
+        let (roll, rest) = rest.split_at_mut(ROLL);
+        let (others, pairs) = rest.split_at_mut(6);
         numbers.copy_from_slice(&[
             self.n,
             self.own,
@@ -581,7 +691,9 @@ impl Record {
             self.first_probes,
             self.demand,
             self.supply,
+            self.last,
         ]);
+        pairs.copy_from_slice(&self.pairs);
     }
 
     /// The rounds that a record may stand at: those of a probe or, once the
@@ -590,7 +702,7 @@ impl Record {
         if self.has_cleared() {
             DEMAND_ROUND..=NO_MORE_ROUNDS
         } else {
-            1..=LAST_ROUND
+            1..=self.last
         }
     }
 
@@ -677,7 +789,13 @@ impl Record {
     }
 
     fn lengths_fit(&self, totals: &[u64], sheets: &[u64]) -> bool {
-        totals.len() == 2 * self.k as usize && sheets.len() == SHEET * sheet_count(self.k) as usize
+        totals.len() == 2 * self.k as usize
+            && sheets.len() == sheet_len(self.last) * sheet_count(self.k) as usize
+    }
+
+    /// The words that a party says in this round, or would if it were not over.
+    fn width(&self) -> usize {
+        message_len(self.last, self.round)
     }
 
     /// This party's shares of total demand and total supply at an index.
@@ -711,8 +829,9 @@ impl Record {
 
     /// The preprocessing of the current probe, where every word of it is a share.
     fn current_sheet<'a>(&self, sheets: &'a [u64]) -> Result<Sheet<'a>, u64> {
-        let start = SHEET * self.probes as usize;
-        let words = &sheets[start..start + SHEET];
+        let length = sheet_len(self.last);
+        let start = length * self.probes as usize;
+        let words = &sheets[start..start + length];
         need(
             words[0] < amount::P && words[1..].iter().all(|&word| word <= 255),
             SHARE_OUT_OF_RANGE,
@@ -720,70 +839,154 @@ impl Record {
         Ok(Sheet { words })
     }
 
-    /// What this party says in the current round of a probe.
-    fn message(&self, totals: &[u64], sheet: &Sheet) -> u64 {
-        match self.round {
-            1 => {
-                let (demand, supply) = self.totals_at(self.index(), totals);
-                let (plus, minus) = match self.search {
-                    FIRST_SEARCH => (demand, supply),
-                    _ => (supply, demand),
-                };
-                let constant = (1 << 59) + (1 << 32);
-                let masked = amount::sub(constant, sheet.mask());
-                amount::sub(amount::add(masked, plus), minus)
-            }
-            LAST_ROUND => {
-                let sum_bit = bit(self.sum, LAST_ROUND);
-                byte::add(byte::add(sum_bit, sheet.bit(LAST_ROUND)), self.carry as u8).into()
-            }
-            round => {
-                let sum_bit = bit(self.sum, round);
-                let [alpha, beta, _] = sheet.triple(round);
-                let u = byte::add(sheet.bit(round), sum_bit);
-                let v = byte::add(self.carry as u8, sum_bit);
+    /// Writes what this party says in the current round of a probe: the share of the
+    /// masked sum, that of the verdict, or d and e of each product.
+    fn say(&self, totals: &[u64], sheet: &Sheet, message: &mut [u64]) {
+        if self.round == 1 {
+            message[0] = self.masked_share(totals, sheet);
+        } else if self.round == self.last {
+            let verdict = byte::add(sheet.masked_bit(self.sum, 33), self.last_carry());
+            message[0] = verdict.into();
+        } else {
+            let (factors, triples) = (self.factors(sheet), self.used_triples()..);
+            for ((word, [u, v]), triple) in message.iter_mut().zip(factors).zip(triples) {
+                let [alpha, beta, _] = sheet.triple(triple);
                 let d = byte::add(u, alpha);
                 let e = byte::add(v, beta);
-                u64::from(d) + 256 * u64::from(e)
+                *word = u64::from(d) + 256 * u64::from(e);
             }
         }
     }
 
-    /// Round 1: opens the masked sum and starts the carries.
+    /// The share of 2^59 + 2^32 - mask + demand - supply, with the sides exchanged in
+    /// the second search.
+    fn masked_share(&self, totals: &[u64], sheet: &Sheet) -> u64 {
+        let (demand, supply) = self.totals_at(self.index(), totals);
+        let (plus, minus) = match self.search {
+            FIRST_SEARCH => (demand, supply),
+            _ => (supply, demand),
+        };
+        let constant = (1 << 59) + (1 << 32);
+        let masked = amount::sub(constant, sheet.mask());
+        amount::sub(amount::add(masked, plus), minus)
+    }
+
+    /// The share of the carry out of bit 32, before the last round.
+    fn last_carry(&self) -> u8 {
+        match self.last {
+            ROUNDS_7 => self.pairs[1] as u8,
+            _ => self.carry as u8,
+        }
+    }
+
+    /// The shares of the factors of each product of this round. Where there are
+    /// fewer than 32, zeros follow.
+    fn factors(&self, sheet: &Sheet) -> [[u8; 2]; MOST_WORDS] {
+        let mut factors = [[0; 2]; MOST_WORDS];
+        if self.last == ROUNDS_7 {
+            let pairs = self.list(sheet);
+            let neighbours = pairs[..self.width()].chunks_exact(2);
+            for (two, pair) in factors.chunks_exact_mut(2).zip(neighbours) {
+                two.copy_from_slice(&pair[0].factors(pair[1]));
+            }
+        } else {
+            let v = byte::add(self.carry as u8, bit(self.sum, self.round));
+            factors[0] = [sheet.masked_bit(self.sum, self.round), v];
+        }
+        factors
+    }
+
+    /// The triples that the rounds of this probe before the current one have used: one
+    /// each or, level by level, 32, 16, 8 and 4.
+    fn used_triples(&self) -> usize {
+        match self.last {
+            ROUNDS_7 => 64 - 2 * self.width(),
+            _ => self.round as usize - 2,
+        }
+    }
+
+    /// The shares of the list of pairs that is halved in this round, 32 in round 2.
+    /// Pair 0, which is (0, 0), is merged into the first of them.
+    fn list(&self, sheet: &Sheet) -> [Pair; MOST_WORDS] {
+        let mut pairs = [Pair { top: 0, bottom: 0 }; MOST_WORDS];
+        if self.round == 2 {
+            for (pair, i) in pairs.iter_mut().zip(1..) {
+                pair.top = sheet.masked_bit(self.sum, i);
+                pair.bottom = bit(self.sum, i);
+            }
+            pairs[0].top = 0;
+            pairs[0].bottom = sheet.first_carry(self.sum);
+        } else {
+            for (pair, shares) in pairs.iter_mut().zip(self.pairs.chunks_exact(2)) {
+                pair.top = shares[0] as u8;
+                pair.bottom = shares[1] as u8;
+            }
+        }
+        pairs
+    }
+
+    /// The rounds of a probe.
+    fn hear_probe(&mut self, sheet: &Sheet, heard: &Heard) -> Result<(), u64> {
+        match (self.round, self.last) {
+            (1, _) => self.hear_sum(sheet, heard),
+            (round, last) if round == last => self.hear_verdict(heard),
+            (_, ROUNDS_7) => self.hear_level(sheet, heard),
+            _ => self.hear_carry(sheet, heard),
+        }
+    }
+
+    /// Round 1: opens the masked sum and, one by one, starts the carries.
     fn hear_sum(&mut self, sheet: &Sheet, heard: &Heard) -> Result<(), u64> {
         let sum = self.open_amount(heard)?;
         need((SUM_LOW..SUM_LIMIT).contains(&sum), SUM_OUT_OF_RANGE)?;
-        let sum_bit = bit(sum, 1);
-        let c = byte::add(sheet.bit(1), sum_bit);
         self.sum = sum;
-        self.carry = byte::add(byte::mul(c, sum_bit), sum_bit).into();
+        if self.last == ROUNDS_33 {
+            self.carry = sheet.first_carry(sum).into();
+        }
         self.round = 2;
         Ok(())
     }
 
-    /// Rounds 2 to 32: opens D and E and steps the carry.
-    fn hear_product(&mut self, sheet: &Sheet, heard: &Heard) -> Result<(), u64> {
-        let words = heard.words();
-        need(words.iter().all(|&word| word <= 65_535), INCONSISTENT)?;
-        let t = threshold(self.n);
-        let d = heard.open_bytes(0, t).ok_or(INCONSISTENT)?;
-        let e = heard.open_bytes(8, t).ok_or(INCONSISTENT)?;
-        let [alpha, beta, gamma] = sheet.triple(self.round);
-        let mut carry = gamma;
-        carry = byte::add(carry, byte::mul(d, beta));
-        carry = byte::add(carry, byte::mul(e, alpha));
-        carry = byte::add(carry, byte::mul(d, e));
-        carry = byte::add(carry, bit(self.sum, self.round));
-        self.carry = carry.into();
+    /// The share of the product in this place of the messages.
+    fn product(&self, sheet: &Sheet, heard: &Heard, place: usize) -> Result<u8, u64> {
+        let opened = heard.open_product(place, threshold(self.n));
+        let [d, e] = opened.ok_or(INCONSISTENT)?;
+        let [alpha, beta, gamma] = sheet.triple(self.used_triples() + place);
+        let mut product = gamma;
+        product = byte::add(product, byte::mul(d, beta));
+        product = byte::add(product, byte::mul(e, alpha));
+        product = byte::add(product, byte::mul(d, e));
+        Ok(product)
+    }
+
+    /// Rounds 2 to 32 of 33: steps the carry.
+    fn hear_carry(&mut self, sheet: &Sheet, heard: &Heard) -> Result<(), u64> {
+        let product = self.product(sheet, heard, 0)?;
+        self.carry = byte::add(product, bit(self.sum, self.round)).into();
         self.round += 1;
         Ok(())
     }
 
-    /// Round 33: opens the verdict and steps the search.
+    /// Rounds 2 to 6 of 7: merges each two neighbours of the list.
+    fn hear_level(&mut self, sheet: &Sheet, heard: &Heard) -> Result<(), u64> {
+        let list = self.list(sheet);
+        let mut pairs = [0; PAIRS];
+        for place in (0..self.width()).step_by(2) {
+            let top = self.product(sheet, heard, place)?;
+            let bottom = self.product(sheet, heard, place + 1)?;
+            let merged = Pair::of([top, bottom], list[place + 1]);
+            pairs[place] = merged.top.into();
+            pairs[place + 1] = merged.bottom.into();
+        }
+        self.pairs = pairs;
+        self.round += 1;
+        Ok(())
+    }
+
+    /// The last round of a probe: opens the verdict and steps the search.
     fn hear_verdict(&mut self, heard: &Heard) -> Result<(), u64> {
-        let words = heard.words();
-        need(words.iter().all(|&word| word <= 255), INCONSISTENT)?;
-        let verdict = heard.open_bytes(0, threshold(self.n));
+        let words = heard.words(0, 255).ok_or(INCONSISTENT)?;
+        let verdict = heard.open_bytes(&words, 0, threshold(self.n));
         match (self.search, verdict.ok_or(INCONSISTENT)?) {
             (FIRST_SEARCH, 1) | (SECOND_SEARCH, 0) => self.lo = self.index(),
             (FIRST_SEARCH, 0) | (SECOND_SEARCH, 1) => self.hi = self.index(),
@@ -793,6 +996,7 @@ impl Record {
         self.round = 1;
         self.sum = 0;
         self.carry = 0;
+        self.pairs = [0; PAIRS];
         if self.search == FIRST_SEARCH && self.has_ended() {
             self.begin_second();
         }
@@ -816,9 +1020,8 @@ impl Record {
 
     /// The amount of which the words are shares.
     fn open_amount(&self, heard: &Heard) -> Result<u64, u64> {
-        let words = heard.words();
-        need(words.iter().all(|&word| word < amount::P), INCONSISTENT)?;
-        amount::open(heard.points(), words, threshold(self.n)).ok_or(INCONSISTENT)
+        let opened = heard.open_amount(threshold(self.n));
+        opened.ok_or(INCONSISTENT)
     }
 
     /// Keeps what the first search came to and begins the second.

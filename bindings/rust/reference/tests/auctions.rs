@@ -1,14 +1,16 @@
-//! Whole auctions by the plain calls, each against its totals in the clear: the
-//! verdicts, what the first search gives, the price, the totals that are opened
-//! there and what each buyer gets. In some of them parties drop off, and come back
-//! or do not.
+//! Whole auctions by the plain calls, each on both ways and against its totals in the
+//! clear: the verdicts, what the first search gives, the price, the totals that are
+//! opened there and what each buyer gets. In some of them parties drop off, and come
+//! back or do not.
 
 use clockivy_reference::{
-    add, answer, deal, fill, hear, open, probe_limit, say, sheet_count, split, threshold,
-    DEMAND_ROUND, FIRST_SEARCH, LAST_ROUND, MAX_AMOUNT, NO_MORE_ROUNDS, RECORD, SECOND_SEARCH,
-    SHEET, SUPPLY_ROUND,
+    add, answer, deal, drawn_len, fill, hear, message_len, open, probe_limit, say, sheet_count,
+    sheet_len, split, threshold, DEMAND_ROUND, FIRST_SEARCH, MAX_AMOUNT, NO_MORE_ROUNDS, RECORD,
+    SECOND_SEARCH, SUPPLY_ROUND, WAYS,
 };
-use clockivy_testing::place::{DEMAND, FIRST, FIRST_PROBES, HI, LO, PROBES, ROUND, SEARCH, SUPPLY};
+use clockivy_testing::place::{
+    CARRY, DEMAND, FIRST, FIRST_PROBES, HI, LAST, LO, PAIRS, PROBES, ROUND, SEARCH, SUM, SUPPLY,
+};
 use clockivy_testing::{meeting, tables};
 
 /// Total demand and total supply at each price.
@@ -87,11 +89,12 @@ struct Round {
 }
 
 /// When a round is: counted from 0 over the whole auction, and by its number, 1 to
-/// 33 in each probe and then 34 and 35.
+/// the last one in each probe and then 34 and 35.
 #[derive(Clone, Copy)]
 struct When {
-    count: usize,
+    count: u64,
     round: u64,
+    last: u64,
 }
 
 /// Whether a party, from 1 to n, is away in a round.
@@ -102,13 +105,13 @@ const NOBODY: Away = |_, _, _| false;
 
 /// All parties of an auction with the bids added. No sheet is dealt yet, and
 /// what stands in its place is none.
-fn seats(n: u64, k: u64, bids: &[Vec<u64>], coins: &mut Coins) -> Vec<Seat> {
+fn seats(n: u64, k: u64, last: u64, bids: &[Vec<u64>], coins: &mut Coins) -> Vec<Seat> {
     let length = 2 * k as usize;
     let mut seats: Vec<Seat> = (1..=n)
         .map(|own| {
             let (mut record, mut totals) = ([9; RECORD], vec![9; length]);
-            assert_eq!(open(n, own, k, &mut totals, &mut record), 0);
-            let sheets = vec![u64::MAX; SHEET * sheet_count(k) as usize];
+            assert_eq!(open(n, own, k, last, &mut totals, &mut record), 0);
+            let sheets = vec![u64::MAX; sheet_len(last) * sheet_count(k) as usize];
             Seat {
                 record,
                 totals,
@@ -133,6 +136,7 @@ struct Auction<'a> {
     bids: &'a [Vec<u64>],
     /// What it has to come to.
     totals: Totals,
+    last: u64,
     away: Away,
     coins: Coins,
     seats: Vec<Seat>,
@@ -140,13 +144,14 @@ struct Auction<'a> {
 }
 
 impl Auction<'_> {
-    fn open(away: Away, n: u64, k: u64, bids: &[Vec<u64>]) -> Auction<'_> {
+    fn open(away: Away, n: u64, k: u64, last: u64, bids: &[Vec<u64>]) -> Auction<'_> {
         let mut coins = Coins(k + 1);
         Auction {
             bids,
             totals: Totals::of(k, bids),
+            last,
             away,
-            seats: seats(n, k, bids, &mut coins),
+            seats: seats(n, k, last, bids, &mut coins),
             coins,
             rounds: Vec::new(),
         }
@@ -184,15 +189,17 @@ impl Auction<'_> {
     /// One probe. Its sheet is the only one of a party that has heard all before.
     fn probe(&mut self) {
         let n = self.seats.len() as u64;
-        let t = threshold(n);
-        let words = self.coins.words(1 + t);
-        let bytes: Vec<u8> = (0..126 * t + 62).map(|_| self.coins.word() as u8).collect();
-        let start = SHEET * self.front().record[PROBES] as usize;
+        let last = self.last;
+        let words = self.coins.words(1 + threshold(n));
+        let bytes = self.coins.words(drawn_len(n, last));
+        let bytes: Vec<u8> = bytes.into_iter().map(|word| word as u8).collect();
+        let length = sheet_len(last);
+        let start = length * self.front().record[PROBES] as usize;
         for (own, seat) in (1..).zip(&mut self.seats) {
-            let sheet = &mut seat.sheets[start..start + SHEET];
-            assert_eq!(deal(n, own, &words, &bytes, sheet), 0);
+            let sheet = &mut seat.sheets[start..start + length];
+            assert_eq!(deal(n, own, last, &words, &bytes, sheet), 0);
         }
-        for _ in 1..=LAST_ROUND {
+        for _ in 1..=last {
             self.round();
         }
     }
@@ -201,19 +208,21 @@ impl Auction<'_> {
     fn round(&mut self) {
         let n = self.seats.len() as u64;
         let when = When {
-            count: self.rounds.len(),
+            count: self.rounds.len() as u64,
             round: self.front().record[ROUND],
+            last: self.last,
         };
+        let width = message_len(when.last, when.round);
         let mut round = Round {
-            messages: self.coins.words(self.seats.len()),
+            messages: self.coins.words(width * self.seats.len()),
             present: vec![0; self.seats.len()],
         };
-        for (place, seat) in self.seats.iter_mut().enumerate() {
+        let messages = round.messages.chunks_exact_mut(width);
+        for (place, (seat, message)) in self.seats.iter_mut().zip(messages).enumerate() {
             if !(self.away)(n, place as u64 + 1, when) {
                 // A party that comes back hears what it has missed, in order.
                 catch_up(seat, &self.rounds);
                 round.present[place] = 1;
-                let message = &mut round.messages[place];
                 assert_eq!(say(&seat.record, &seat.totals, &seat.sheets, message), 0);
             }
         }
@@ -267,7 +276,7 @@ fn catch_up(seat: &mut Seat, rounds: &[Round]) {
     } = seat;
     for Round { messages, present } in &rounds[*heard..] {
         assert_eq!(hear(record, totals, sheets, messages, present), 0);
-        sheets[..SHEET * record[PROBES] as usize].fill(u64::MAX);
+        sheets[..sheet_len(record[LAST]) * record[PROBES] as usize].fill(u64::MAX);
     }
     *heard = rounds.len();
 }
@@ -277,16 +286,24 @@ fn search(record: &[u64; RECORD]) -> [u64; 5] {
     [SEARCH, LO, HI, FIRST, FIRST_PROBES].map(|place| record[place])
 }
 
-/// Runs an auction of these bids with every party there, and checks it at every
-/// probe.
+/// Runs an auction of these bids on both ways with every party there, and checks it
+/// at every probe.
 fn run(n: u64, k: u64, bids: &[Vec<u64>]) {
     assert_eq!(run_without(NOBODY, n, k, bids), n);
 }
 
-/// The same with some of the parties away at times. Gives how many have answered:
-/// those that were there in the last round.
+/// The same with some of the parties away at times. Gives how many have answered,
+/// which are as many on one way as on the other: those that were there in the last
+/// round.
 fn run_without(away: Away, n: u64, k: u64, bids: &[Vec<u64>]) -> u64 {
-    let mut auction = Auction::open(away, n, k, bids);
+    let [one, other] = WAYS.map(|last| run_one(away, n, k, last, bids));
+    assert_eq!(one, other);
+    one
+}
+
+/// The same on one way.
+fn run_one(away: Away, n: u64, k: u64, last: u64, bids: &[Vec<u64>]) -> u64 {
+    let mut auction = Auction::open(away, n, k, last, bids);
     let [first, _, first_probes] = auction.search([FIRST_SEARCH, 0, 0], k);
     assert_eq!(first, auction.totals.highest());
     assert!(first_probes <= probe_limit(k));
@@ -342,14 +359,17 @@ fn assert_filled(record: &[u64; RECORD], totals: &Totals, bids: &[Vec<u64>]) {
     assert_eq!(left, (7, 8));
 }
 
-/// When the auction is over, nothing is said or heard.
+/// When the auction is over, nothing is said or heard, and nothing is kept of the last
+/// probe.
 fn assert_silent(seat: &Seat, parties: usize) {
-    let (mut message, mut record) = (7, seat.record);
+    let (mut message, mut record) = ([7], seat.record);
+    assert_eq!([record[SUM], record[CARRY]], [0, 0]);
+    assert_eq!(record[PAIRS..], [0; 32]);
     let (messages, present) = (vec![0; parties], vec![1; parties]);
     let said = say(&record, &seat.totals, &seat.sheets, &mut message);
     let heard = hear(&mut record, &seat.totals, &seat.sheets, &messages, &present);
     assert_eq!([said, heard], [3, 3]);
-    assert_eq!((message, record), (7, seat.record));
+    assert_eq!((message, record), ([7], seat.record));
 }
 
 #[test]
@@ -406,26 +426,32 @@ fn spare(n: u64) -> u64 {
 
 /// A window of so many parties as can be away moves on by one every third round,
 /// so that each comes back in the middle of a probe and drops off again.
-const IN_TURN: Away = |n, party, when| (party + when.count as u64 / 3) % n < spare(n);
+const IN_TURN: Away = |n, party, when| (party + when.count / 3) % n < spare(n);
 
-/// The first parties drop off in round 20 of the first probe and hear no more.
-const FOR_GOOD: Away = |n, party, when| party <= spare(n) && when.count >= 20;
+/// The first parties drop off in round 5 of the first probe and hear no more.
+const FOR_GOOD: Away = |n, party, when| party <= spare(n) && when.count >= 4;
 
 /// The last parties miss three rounds of each probe, the verdict's among them.
 const OVER_THE_END: Away =
-    |n, party, when| party > n - spare(n) && [32, 33, 1].contains(&when.round);
+    |n, party, when| party > n - spare(n) && [when.last - 1, when.last, 1].contains(&when.round);
+
+/// The first parties miss a round in the middle of each probe, between two levels where
+/// there are such.
+const BETWEEN_LEVELS: Away = |n, party, when| party <= spare(n) && when.round == 4;
 
 /// The second party misses the whole first probe and more, and then the first two
 /// rounds of the fourth.
-const A_WHOLE_PROBE: Away =
-    |_, party, when| party == 2 && (when.count < 40 || (99..101).contains(&when.count));
+const A_WHOLE_PROBE: Away = |_, party, when| {
+    let (first, fourth) = (0..when.last + 3, 3 * when.last..3 * when.last + 2);
+    party == 2 && (first.contains(&when.count) || fourth.contains(&when.count))
+};
 
 /// The last parties miss the round of total demand, and hear it before they say
 /// their share of supply.
 const WITHOUT_DEMAND: Away = |n, party, when| party > n - spare(n) && when.round == DEMAND_ROUND;
 
 /// The first parties hear neither total.
-const WITHOUT_TOTALS: Away = |n, party, when| party <= spare(n) && when.round > LAST_ROUND;
+const WITHOUT_TOTALS: Away = |n, party, when| party <= spare(n) && when.round >= DEMAND_ROUND;
 
 #[test]
 fn parties_that_drop_off() {
@@ -443,6 +469,7 @@ fn parties_that_drop_off() {
             // Without a price the last round is one that is missed.
             let missed = if clears { 0 } else { spare(n) };
             assert_eq!(answered(OVER_THE_END), n - missed);
+            assert_eq!(answered(BETWEEN_LEVELS), n);
             assert_eq!(answered(A_WHOLE_PROBE), n);
             assert_eq!(answered(WITHOUT_DEMAND), n);
             let missed = if clears { spare(n) } else { 0 };

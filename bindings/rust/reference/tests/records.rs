@@ -1,9 +1,12 @@
-//! When a record's searches, its round and its totals are within their ranges,
-//! number by number; and what a buyer gets by such a record.
+//! When a record's searches, its round, its totals, its way and its pairs are within
+//! their ranges, number by number; and what a buyer gets by such a record.
 
-use clockivy_reference::{answer, fill, probe_limit, sheet_count, MAX_AMOUNT, RECORD};
+use clockivy_reference::{
+    answer, fill, probe_limit, sheet_count, MAX_AMOUNT, PAIRS as PAIR_WORDS, RECORD, ROUNDS_33,
+    WAYS,
+};
 use clockivy_testing::place::{
-    DEMAND, FIRST, FIRST_PROBES, HI, K, LO, N, OWN, PROBES, ROUND, SEARCH, SUPPLY,
+    DEMAND, FIRST, FIRST_PROBES, HI, K, LAST, LO, N, OWN, PAIRS, PROBES, ROUND, SEARCH, SUPPLY,
 };
 
 /// A record among three parties over five prices, which take at most three
@@ -23,6 +26,7 @@ fn record([lo, hi, probes, search, first, first_probes]: [u64; 6]) -> [u64; RECO
         (SEARCH, search),
         (FIRST, first),
         (FIRST_PROBES, first_probes),
+        (LAST, ROUNDS_33),
     ])
 }
 
@@ -181,28 +185,77 @@ const GOING_ON: [[u64; 6]; 2] = [[0, 6, 0, 1, 0, 0], [0, 6, 3, 2, 5, 3]];
 fn rounds_by_the_searches() {
     let most = u64::MAX;
     for round in (0..=40).chain([64, 290, 1 << 32, most]) {
-        let of_a_probe = (1..=33).contains(&round);
-        for numbers in GOING_ON {
-            let record = totalled(numbers, [round, 9, 9]);
-            let reply = if of_a_probe { SOUND } else { 1 };
-            assert_eq!(asked_of(&record), (reply, 77, 88));
-            let reply = if of_a_probe { NOT_CLEARED } else { REFUSED };
-            assert_eq!(filled(&record, 5), reply);
+        for last in WAYS {
+            rounds_of_a_way(round, last);
         }
-        let record = totalled(NO_PRICE, [round, 9, 9]);
-        let reply = if of_a_probe { (0, 0, 3) } else { REFUSED };
-        assert_eq!(asked_of(&record), reply);
+    }
+}
+
+fn rounds_of_a_way(round: u64, last: u64) {
+    let totalled = |numbers| {
+        let mut record = totalled(numbers, [round, 9, 9]);
+        record[LAST] = last;
+        record
+    };
+    let of_a_probe = (1..=last).contains(&round);
+    for numbers in GOING_ON {
+        let record = totalled(numbers);
+        let reply = if of_a_probe { SOUND } else { 1 };
+        assert_eq!(asked_of(&record), (reply, 77, 88));
         let reply = if of_a_probe { NOT_CLEARED } else { REFUSED };
         assert_eq!(filled(&record, 5), reply);
+    }
+    let record = totalled(NO_PRICE);
+    let reply = if of_a_probe { (0, 0, 3) } else { REFUSED };
+    assert_eq!(asked_of(&record), reply);
+    let reply = if of_a_probe { NOT_CLEARED } else { REFUSED };
+    assert_eq!(filled(&record, 5), reply);
 
-        let record = totalled(ENDED, [round, 9, 9]);
-        let (answered, filled_up) = match round {
-            34 | 35 => ((SOUND, 77, 88), NOT_CLEARED),
-            36 => ((0, 4, 6), (0, 5, 0)),
-            _ => (REFUSED, REFUSED),
-        };
-        assert_eq!(asked_of(&record), answered);
-        assert_eq!(filled(&record, 5), filled_up);
+    let record = totalled(ENDED);
+    let (answered, filled_up) = match round {
+        34 | 35 => ((SOUND, 77, 88), NOT_CLEARED),
+        36 => ((0, 4, 6), (0, 5, 0)),
+        _ => (REFUSED, REFUSED),
+    };
+    assert_eq!(asked_of(&record), answered);
+    assert_eq!(filled(&record, 5), filled_up);
+}
+
+/// Records in every standing: with what they reply to asking for the answer.
+const STANDINGS: [([u64; 6], u64, u64); 5] = [
+    (GOING_ON[0], 1, SOUND),
+    (GOING_ON[1], 7, SOUND),
+    (NO_PRICE, 1, 0),
+    (ENDED, 35, SOUND),
+    (ENDED, 36, 0),
+];
+
+#[test]
+fn no_other_way() {
+    for (numbers, round, reply) in STANDINGS {
+        let mut record = totalled(numbers, [round, 9, 9]);
+        for last in (0..=70).chain([1 << 32, (1 << 32) + 7, 1 << 63, u64::MAX]) {
+            record[LAST] = last;
+            let number = if WAYS.contains(&last) { reply } else { 1 };
+            assert_eq!(asked_of(&record).0, number, "{last}");
+        }
+    }
+}
+
+#[test]
+fn pairs_of_a_record() {
+    for (numbers, round, reply) in STANDINGS {
+        for last in WAYS {
+            for place in 0..PAIR_WORDS {
+                // In every place, whichever the round, a byte is sound.
+                for (share, number) in [(1, reply), (255, reply), (256, 1), (u64::MAX, 1)] {
+                    let mut record = totalled(numbers, [round, 9, 9]);
+                    record[LAST] = last;
+                    record[PAIRS + place] = share;
+                    assert_eq!(asked_of(&record).0, number, "{place}");
+                }
+            }
+        }
     }
 }
 

@@ -4,14 +4,11 @@ use std::iter;
 use std::ops::RangeInclusive;
 
 use clockivy::words::place::{
-    CARRY, DEMAND, FIRST, FIRST_PROBES, HI, LO, PROBES, ROUND, SEARCH, SUPPLY,
+    CARRY, DEMAND, FIRST, FIRST_PROBES, HI, LAST, LO, PAIRS, PROBES, ROUND, SEARCH, SUPPLY,
 };
-use clockivy::{DEMAND_ROUND, OVER_ROUND, PRIME, SUPPLY_ROUND, TOTAL_LIMIT};
+use clockivy::{Way, DEMAND_ROUND, OVER_ROUND, PAIRS_LEN, PRIME, SUPPLY_ROUND, TOTAL_LIMIT};
 
-use crate::panel::WAY;
-
-/// The words of a sheet.
-const SHEET: usize = WAY.sheet_len();
+use crate::panel::message_len;
 
 /// Every choice of who was present among so many.
 pub fn choices(n: u64) -> impl Iterator<Item = Vec<u8>> {
@@ -39,7 +36,7 @@ pub struct Hearing {
     pub totals: Vec<u64>,
     /// The party's sheets.
     pub sheets: Vec<u64>,
-    /// A message of each party.
+    /// A message of each party, one behind the other.
     pub messages: Vec<u64>,
     /// A mark of each party.
     pub present: Vec<u8>,
@@ -51,14 +48,21 @@ type Change = (u64, Rounds, fn(&mut Hearing));
 type Rounds = RangeInclusive<u64>;
 
 const ANY: Rounds = 1..=SUPPLY_ROUND;
-/// The round of a probe whose messages are amounts.
+/// The rounds of a probe, in which a sheet is read.
+const PROBE: Rounds = 1..=33;
+/// The one of them whose messages are amounts.
 const SUM: Rounds = 1..=1;
 /// The rounds of the totals at the price.
 const TOTALS: Rounds = DEMAND_ROUND..=SUPPLY_ROUND;
 
 /// In the order in which they are judged.
-const CHANGES: [Change; 33] = [
+const CHANGES: [Change; 41] = [
     (1, ANY, |h| put(&mut h.record, CARRY, 256)),
+    (1, ANY, |h| put(&mut h.record, PAIRS, 256)),
+    (1, ANY, |h| {
+        put(&mut h.record, PAIRS + PAIRS_LEN - 1, u64::MAX)
+    }),
+    (1, ANY, |h| put(&mut h.record, LAST, 8)),
     (1, ANY, |h| put(&mut h.record, DEMAND, TOTAL_LIMIT)),
     (1, ANY, |h| {
         let demand = h.record.get(DEMAND).copied().unwrap_or(0);
@@ -75,15 +79,20 @@ const CHANGES: [Change; 33] = [
     (2, ANY, |h| h.totals.clear()),
     (2, ANY, |h| h.totals.push(0)),
     (2, ANY, |h| h.totals.resize(4_000, 0)),
-    (2, ANY, |h| h.sheets.truncate(SHEET)),
+    (2, ANY, |h| h.sheets.truncate(sheet_len(h))),
     (2, ANY, |h| h.sheets.push(0)),
     (2, ANY, |h| h.sheets.resize(9_000, 0)),
     (2, ANY, |h| h.messages.truncate(4)),
     (2, ANY, |h| h.messages.resize(6, 0)),
+    // Those of another round.
+    (2, ANY, |h| {
+        let length = 2 * h.messages.len();
+        h.messages.resize(length, 0);
+    }),
     (2, ANY, |h| h.present.truncate(4)),
     (2, ANY, |h| h.present.resize(6, 0)),
     // The first search has given 0, and with that all is over.
-    (3, SUM, |h| {
+    (3, PROBE, |h| {
         let probes = h.record.get(PROBES).copied().unwrap_or(0);
         let fields = [
             (LO, 0),
@@ -107,19 +116,25 @@ const CHANGES: [Change; 33] = [
     (8, SUM, |h| fill_supply(h, u64::MAX)),
     (8, DEMAND_ROUND..=DEMAND_ROUND, |h| fill_demand(h, PRIME)),
     (8, SUPPLY_ROUND..=SUPPLY_ROUND, |h| fill_supply(h, u64::MAX)),
-    (8, SUM, |h| put_in_sheets(h, 0, PRIME)),
-    (8, SUM, |h| put_in_sheets(h, SHEET - 1, 256)),
-    (9, ANY, |h| add_to_message(h, 3)),
-    (9, ANY, |h| put(&mut h.messages, 3, 12_345)),
-    (10, ANY, |h| put(&mut h.messages, 0, PRIME)),
-    (10, ANY, |h| add_to_message(h, 1)),
+    (8, PROBE, |h| put_in_sheets(h, 0, PRIME)),
+    (8, PROBE, |h| put_in_sheets(h, sheet_len(h) - 1, 256)),
+    (9, ANY, |h| add_to_word(h, 3, 0)),
+    (9, ANY, |h| add_to_word(h, 3, message_len(&h.record) - 1)),
+    (9, ANY, |h| put_word(h, 3, 0, 12_345)),
+    (9, ANY, |h| put_word(h, 3, 0, u64::MAX)),
+    (10, ANY, |h| put_word(h, 0, 0, PRIME)),
+    (10, ANY, |h| {
+        put_word(h, 4, message_len(&h.record) - 1, u64::MAX)
+    }),
+    (10, ANY, |h| add_to_word(h, 1, 0)),
+    (10, ANY, |h| add_to_word(h, 1, message_len(&h.record) - 1)),
 ];
 
 /// A hearing changed in every way to be refused and in any two of them, made in
 /// either order; each with the number of its refusal, which is that of the way judged
-/// first. The hearing is that of the fourth of five parties in round 1 of the first
-/// search, or in round 34 or 35, all but the third being present, and its messages
-/// open.
+/// first. The hearing is that of the fourth of five parties in the first probe of the
+/// first search, or in round 34 or 35, all but the third being present, and its
+/// messages open.
 pub fn refused(good: &Hearing) -> impl Iterator<Item = (Hearing, u64)> + '_ {
     let round = good.record[ROUND];
     let ways = move || {
@@ -159,17 +174,30 @@ fn put<T>(slice: &mut [T], place: usize, element: T) {
     }
 }
 
+/// The words of a sheet by the record; 1 where it has no way.
+fn sheet_len(hearing: &Hearing) -> usize {
+    let way = hearing.record.get(LAST).copied().and_then(Way::from_rounds);
+    way.map_or(1, Way::sheet_len)
+}
+
 fn put_in_sheets(hearing: &mut Hearing, place: usize, word: u64) {
-    for sheet in hearing.sheets.chunks_mut(SHEET) {
+    let length = sheet_len(hearing);
+    for sheet in hearing.sheets.chunks_mut(length) {
         put(sheet, place, word);
     }
 }
 
-/// Another message, one that is in range.
-fn add_to_message(hearing: &mut Hearing, place: usize) {
-    if let Some(message) = hearing.messages.get_mut(place) {
-        *message = message.wrapping_add(1) % PRIME;
-    }
+/// Puts a word into a message: that of the party in this place.
+fn put_word(hearing: &mut Hearing, party: usize, place: usize, word: u64) {
+    let first = party * message_len(&hearing.record);
+    put(&mut hearing.messages, first + place, word);
+}
+
+/// Another word in it, one that is in range, or nearly so.
+fn add_to_word(hearing: &mut Hearing, party: usize, place: usize) {
+    let first = party * message_len(&hearing.record);
+    let before = hearing.messages.get(first + place).copied().unwrap_or(0);
+    put_word(hearing, party, place, before.wrapping_add(1) % PRIME);
 }
 
 /// Those in these places were not present. What is no mark stays.

@@ -11,7 +11,7 @@ mod tables;
 pub use clockivy::words::place;
 pub use hearings::{choices, count, refused, Hearing};
 pub use panel::{
-    collected, fixed, from_all, from_marked, go_on_until, panel, parts, plain_round, record, reply,
-    round, said, seat, sheets, stored, Bid, Plain, WAY,
+    collected, fixed, from_all, from_marked, go_on_until, message_len, panel, parts, plain_round,
+    record, reply, round, said, seat, sheets, stored, Bid, Plain, WAY, WAYS,
 };
 pub use tables::{meeting, tables};

@@ -2,13 +2,16 @@
 //! a party can be had once more, with the same shares and the same sheets: for a test,
 //! since it uses them again.
 
+use clockivy::words::place::{LAST, ROUND};
 use clockivy::{
     table_len, words, Collecting, Dealing, Entries, Message, Refusal, Seat, Sheets, Source,
     Speaking, Way, BLANK, RECORD_LEN, STORED_HEAD, VERSION,
 };
 
-/// The way that the tests go.
-pub const WAY: Way = Way::Rounds33;
+/// Both ways to a verdict.
+pub const WAYS: [Way; 2] = [Way::Rounds33, Way::Rounds7];
+/// The way of tests in which it makes no difference.
+pub const WAY: Way = WAYS[0];
 
 /// A bidder's number and its table.
 pub type Bid<'a> = (u64, &'a [u64]);
@@ -26,14 +29,14 @@ pub fn fixed(seed: u64) -> impl Source {
 }
 
 /// The seat of one party of n.
-pub fn seat(n: u64, own: u64, k: u64) -> Seat {
-    let way = WAY;
+pub fn seat(n: u64, own: u64, k: u64, way: Way) -> Seat {
     Seat { n, own, k, way }
 }
 
-/// One party of n that has these bids. A bid's coins go by its bidder.
-pub fn collected(n: u64, own: u64, k: u64, bids: &[Bid]) -> Collecting {
-    let mut session = Collecting::open(seat(n, own, k)).expect("the seat is one");
+/// The party of a seat that has these bids. A bid's coins go by its bidder.
+pub fn collected(seat: Seat, bids: &[Bid]) -> Collecting {
+    let Seat { n, own, k, way: _ } = seat;
+    let mut session = Collecting::open(seat).expect("the seat is one");
     for &(bidder, table) in bids {
         let shares = split_for_all(n, k, table, &mut fixed(bidder));
         let own = &shares[(own as usize - 1) * table_len(k)..][..table_len(k)];
@@ -52,23 +55,24 @@ fn split_for_all(n: u64, k: u64, table: &[u64], source: &mut impl Source) -> Vec
     shares
 }
 
-/// The sheets of one party of n.
-pub fn sheets(n: u64, own: u64, k: u64) -> Sheets {
-    dealt(n, k).swap_remove(own as usize - 1)
+/// The sheets of the party of a seat.
+pub fn sheets(seat: Seat) -> Sheets {
+    let Seat { n, own, k, way } = seat;
+    dealt(n, k, way).swap_remove(own as usize - 1)
 }
 
-fn dealt(n: u64, k: u64) -> Vec<Sheets> {
+fn dealt(n: u64, k: u64, way: Way) -> Vec<Sheets> {
     let mut source = fixed(1_000 * n + k);
-    Dealing::new(n, k, WAY, &mut source)
+    Dealing::new(n, k, way, &mut source)
         .and_then(Dealing::deal_all)
         .expect("there are such parties")
 }
 
 /// All parties that have these bids, about to speak.
-pub fn panel(n: u64, k: u64, bids: &[Bid]) -> Vec<Speaking> {
-    let sessions = (1..=n).map(|own| collected(n, own, k, bids));
+pub fn panel(n: u64, k: u64, way: Way, bids: &[Bid]) -> Vec<Speaking> {
+    let sessions = (1..=n).map(|own| collected(seat(n, own, k, way), bids));
     sessions
-        .zip(dealt(n, k))
+        .zip(dealt(n, k, way))
         .map(|(session, sheets)| session.speak(sheets))
         .collect()
 }
@@ -101,10 +105,18 @@ pub fn from_all(messages: &[u64]) -> Vec<Option<&[u64]>> {
 }
 
 /// A round in which those whose mark is 1 are present and say these words, whatever they
-/// are.
+/// are. They stand party by party, with equally many for each mark.
 pub fn from_marked<'a>(messages: &'a [u64], present: &[u8]) -> Vec<Option<&'a [u64]>> {
+    let length = messages.len() / present.len();
     let one = |(message, &mark): (&'a [u64], &u8)| (mark == 1).then_some(message);
-    messages.chunks(1).zip(present).map(one).collect()
+    messages.chunks(length).zip(present).map(one).collect()
+}
+
+/// The words of a message in the round that a record stands at; 1 where the record has
+/// no way.
+pub fn message_len(record: &[u64]) -> usize {
+    let way = record.get(LAST).and_then(|&last| Way::from_rounds(last));
+    way.map_or(1, |way| way.message_len(record[ROUND]))
 }
 
 /// A record with these words in their places, and 0 in all others.
@@ -150,13 +162,13 @@ impl Plain {
     }
 
     /// Its message of the current round.
-    pub fn say(&self) -> Result<u64, Refusal> {
-        let mut message = 0;
+    pub fn say(&self) -> Result<Vec<u64>, Refusal> {
+        let mut message = vec![BLANK; message_len(&self.record)];
         let number = words::say(&self.record, &self.totals, &self.sheets, &mut message);
         reply(number).map(|()| message)
     }
 
-    /// Takes the messages of those whose mark is 1.
+    /// Takes the messages of those whose mark is 1, one behind the other.
     pub fn hear(&mut self, messages: &[u64], present: &[u8]) -> Result<(), Refusal> {
         let (totals, sheets) = (&self.totals, &self.sheets);
         reply(words::hear(
@@ -172,7 +184,7 @@ impl Plain {
 /// Everybody on plain words says a message and hears all.
 pub fn plain_round(parties: &mut [Plain]) {
     let say = |party: &Plain| party.say().expect("it is its turn");
-    let messages: Vec<u64> = parties.iter().map(say).collect();
+    let messages: Vec<u64> = parties.iter().flat_map(say).collect();
     let present = vec![1; parties.len()];
     for party in parties {
         party.hear(&messages, &present).expect("the round is one");

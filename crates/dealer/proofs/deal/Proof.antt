@@ -1,11 +1,13 @@
 -- `deal` meets its contract: nothing is written unless the call is accepted. Assumes nothing.
-use mathlib.Core.Path.{_≡_, sym, ap, _∙_}
+use mathlib.Core.Path.{_≡_, sym, ap, ap₂, _∙_}
 use mathlib.Core.List.{List}
 use Prim.Native.Nat.{ℕ, _+_, _*_}
 use native.Mathlib.Omega.{arith}
 use Rattle.refusal.specs.declared.Judgement.the-variants.{Accepted}
 use Rattle.sharing.specs.Scheme.{threshold}
 use Rattle.dealer.specs.Deal.{deal-judgement, preprocessing, deal-left}
+use Rattle.ways.specs.Way.{way-of, triples-of}
+use Rattle.ways.proofs.Laws.{few-triples, drawn-split, sheet-split}
 use Rattle.refusal.proofs.Judging.{kept-new, kept-old}
 use Rattle.dealer.proofs.Laws.{deals}
 use borrow.Author.Needs.{needs}
@@ -16,14 +18,14 @@ use Rattle.dealer.proofs.deal.Tie as tie
 abbrev given : tie.After-enum-told → tie.Start
 given c = c .before .before .before .before .before .before .before
 
-yes : (c : tie.After-enum-told) → deal-judgement (given c .args .n) (given c .args .own) (given c .args .words .now) (given c .args .bytes .now) (given c .args .sheet .now) ≡ Accepted
+yes : (c : tie.After-enum-told) → deal-judgement (given c .args .n) (given c .args .own) (given c .args .last) (given c .args .words .now) (given c .args .bytes .now) (given c .args .sheet .now) ≡ Accepted
 yes c = sym (c .before .before .judge .ensures) ∙ c .enum-told .given .1
 
 -- what was written then
-written : (n own t : ℕ) (words drawn sheet now : List ℕ) → deal-judgement n own words drawn sheet ≡ Accepted → t ≡ threshold n
-    → now ≡ preprocessing t own words drawn → now ≡ deal-left n own words drawn sheet
-written n own t words drawn sheet now yes e w =
-    w ∙ ap (λ (m : ℕ). preprocessing m own words drawn) e ∙ sym (kept-new _ (preprocessing (threshold n) own words drawn) sheet yes)
+written : (n own last m t : ℕ) (words drawn sheet now : List ℕ) → deal-judgement n own last words drawn sheet ≡ Accepted → m ≡ triples-of (way-of last) → t ≡ threshold n
+    → now ≡ preprocessing m t own words drawn → now ≡ deal-left n own last words drawn sheet
+written n own last m t words drawn sheet now yes f e w =
+    w ∙ ap₂ (λ (m t : ℕ). preprocessing m t own words drawn) f e ∙ sym (kept-new _ (preprocessing (triples-of (way-of last)) (threshold n) own words drawn) sheet yes)
 
 judge-requires : tie.Need-judge-requires
 judge-requires c κs = search needs
@@ -31,14 +33,24 @@ judge-requires c κs = search needs
 enum-told : tie.Need-enum-told
 enum-told c = search needs
 
+triples-requires : tie.Need-triples-requires
+triples-requires c κs = search needs
+
 threshold-requires : tie.Need-threshold-requires
 threshold-requires c κs = search needs
 
 write-requires : tie.Need-write-requires
 write-requires c κs =
-    let h = deals _ _ _ _ _ (yes (c .before .before)) in
+    let h = deals _ _ _ _ _ _ (yes (c .before .before .before)) in
     let t = c .before .threshold .ensures in
-    (omega (arith, h .party .own-most, h .party .parties-most), h .words-long ∙ ap (λ (m : ℕ). 1 + m) (sym t), h .drawn-long ∙ ap (λ (m : ℕ). 126 * m + 62) (sym t), h .sheet-long)
+    let m = c .before .before .triples .ensures in (
+      omega (arith, h .party .own-most, h .party .parties-most),
+      h .words-long ∙ ap (λ (m : ℕ). 1 + m) (sym t),
+      h .drawn-long ∙ drawn-split _ _ ∙ ap₂ (λ (m t : ℕ). 33 * t + m * (2 + 3 * t)) (sym m) (sym t),
+      h .sheet-long ∙ sheet-split _ ∙ ap (λ (m : ℕ). 34 + 3 * m) (sym m),
+      rw m (few-triples _),
+      omega (arith, t, h .party .parties-most),
+    )
 
 enum-told-2 : tie.Need-enum-told-2
 enum-told-2 c = search needs
@@ -48,10 +60,12 @@ same-length c = search needs
 
 returns : tie.Need-returns
 returns c =
-    let a = given (c .before .before .before .before .before) .args in
-    let e = written (a .n) (a .own) (c .before .before .before .before .threshold .result) (a .words .now) (a .bytes .now) (a .sheet .now) in (
-      c .before .before .before .before .before .before .before .judge .ensures,
-      e _ (yes (c .before .before .before .before .before)) (c .before .before .before .before .threshold .ensures) (c .before .before .write .ensures),
+    let e = c .before .before .before .before .before .before in
+    let a = given e .args in (
+      e .before .before .judge .ensures,
+      written (a .n) (a .own) (a .last) (c .before .before .before .before .before .triples .result) (c .before .before .before .before .threshold .result)
+          (a .words .now) (a .bytes .now) (a .sheet .now) _ (yes e)
+          (c .before .before .before .before .before .triples .ensures) (c .before .before .before .before .threshold .ensures) (c .before .before .write .ensures),
     )
 
 same-length-2 : tie.Need-same-length-2
@@ -68,6 +82,7 @@ deal-spec =
     (tie.spec
     judge-requires
     enum-told
+    triples-requires
     threshold-requires
     write-requires
     enum-told-2

@@ -15,19 +15,19 @@ use Rattle.dealer.proofs.write.Statement.{statement}
 use Rattle.dealer.proofs.write.Tie as tie
 
 -- the mask's word and the bits' are in their places, and the triples' are put behind them
-module _ (sheet bits : List ℕ) (m : ℕ) (long : length sheet ≡ 127) (some : length bits ≡ 33) where
+module _ (k : ℕ) (sheet bits : List ℕ) (m : ℕ) (long : length sheet ≡ 34 + 3 * k) (some : length bits ≡ 33) where
   abbrev begun : List ℕ
   begun = putMid 1 33 (set sheet 0 m) bits
 
-  begun-length : length begun ≡ 127
+  begun-length : length begun ≡ 34 + 3 * k
   begun-length =
-      let l : length (set sheet 0 m) ≡ 127 = length-set sheet 0 m ∙ long in
+      let l : length (set sheet 0 m) ≡ 34 + 3 * k = length-set sheet 0 m ∙ long in
       same-len-mid 1 33 (set sheet 0 m) bits (some ∙ sym (length-take-le 33 (drop 1 (set sheet 0 m)) (simp length-drop (omega arith)))) ∙ l
 
   room : 34 ≤ length begun
   room = omega (arith, begun-length)
 
-  left : length (take (length begun - 34) (drop 34 begun)) ≡ 93
+  left : length (take (length begun - 34) (drop 34 begun)) ≡ 3 * k
   left = simp (length-take, length-drop) (omega (arith, begun-length))
 
   front : take 34 begun ≡ m ∷ bits
@@ -41,7 +41,7 @@ module _ (sheet bits : List ℕ) (m : ℕ) (long : length sheet ≡ 127) (some :
       let none : drop (length begun - 34) (drop 34 begun) ≡ [] = drop-drop (length begun - 34) 34 begun ∙ drop-of-length-le begun past in
       ap₂ (λ (a b : List ℕ). a ++ (triples ++ b)) front none ∙ ap (λ (l : List ℕ). m ∷ bits ++ l) (append-nil triples)
 
-  put-length : (triples : List ℕ) → length triples ≡ 93 → length (putMid 34 (length begun - 34) begun triples) ≡ length sheet
+  put-length : (triples : List ℕ) → length triples ≡ 3 * k → length (putMid 34 (length begun - 34) begun triples) ≡ length sheet
   put-length triples h = same-len-mid 34 (length begun - 34) begun triples (h ∙ sym left) ∙ begun-length ∙ sym long
 
 -- the words are the mask and its coefficients
@@ -49,16 +49,16 @@ all-words : (words : List ℕ) → 0 < length words → getD words 0 0 ∷ take 
 all-words [] h = absurd (omega arith)
 all-words (w ∷ words) h = ap (λ (l : List ℕ). w ∷ l) (take-all (suc (length words) - 1) words (omega arith))
 
-whole : (t own m : ℕ) (words drawn bits triples′ : List ℕ) → 0 < length words
+whole : (k t own m : ℕ) (words drawn bits triples′ : List ℕ) → 0 < length words
     → m ≡ value amounts (getD words 0 0 ∷ take (length words - 1) (drop 1 words)) own
     → bits ≡ byte-shares t own (mask-bits (getD words 0 0)) drawn
-    → triples′ ≡ triples t own 31 (take (length drawn - 33 * t) (drop (33 * t) drawn))
-    → m ∷ bits ++ triples′ ≡ preprocessing t own words drawn
+    → triples′ ≡ triples t own k (take (length drawn - 33 * t) (drop (33 * t) drawn))
+    → m ∷ bits ++ triples′ ≡ preprocessing k t own words drawn
 unfolding preprocessing
-whole t own m words drawn bits triples′ h em eb et =
+whole k t own m words drawn bits triples′ h em eb et =
     let rest = take-all (length drawn - 33 * t) (drop (33 * t) drawn) (omega (arith, length-drop (33 * t) drawn)) in
     ap₂ (λ (x : ℕ) (l : List ℕ). x ∷ l ++ triples′) (em ∙ ap (λ (l : List ℕ). value amounts l own) (all-words words h)) eb
-    ∙ ap (λ (l : List ℕ). value amounts words own ∷ byte-shares t own (mask-bits (getD words 0 0)) drawn ++ l) (et ∙ ap (triples t own 31) rest)
+    ∙ ap (λ (l : List ℕ). value amounts words own ∷ byte-shares t own (mask-bits (getD words 0 0)) drawn ++ l) (et ∙ ap (triples t own k) rest)
 
 -- once the bits are written: what the call was given, the mask's share, the bits' and how many they are
 abbrev given : tie.After-write-bits → tie.Start
@@ -124,12 +124,12 @@ part-write-triples-end c = search needs
 sub-write-triples-2 : tie.Need-sub-write-triples-2
 sub-write-triples-2 c =
     let e = c .before .before .before .before in
-    room (given e .args .sheet .now) (bit-words e) (mask-word e) (given e .pre .3) (some-bits e)
+    room (given e .args .m) (given e .args .sheet .now) (bit-words e) (mask-word e) (given e .pre .3) (some-bits e)
 
 part-write-triples-start-2 : tie.Need-part-write-triples-start-2
 part-write-triples-start-2 c =
     let e = c .before .before .before .before in
-    room (given e .args .sheet .now) (bit-words e) (mask-word e) (given e .pre .3) (some-bits e)
+    room (given e .args .m) (given e .args .sheet .now) (bit-words e) (mask-word e) (given e .pre .3) (some-bits e)
 
 part-write-triples-end-2 : tie.Need-part-write-triples-end-2
 part-write-triples-end-2 c = search needs
@@ -137,21 +137,21 @@ part-write-triples-end-2 c = search needs
 write-triples-requires : tie.Need-write-triples-requires
 write-triples-requires c κs =
     let e = c .before .before .before .before .before in
-    (simp (length-take, length-drop) (omega (arith, given e .pre)), left (given e .args .sheet .now) (bit-words e) (mask-word e) (given e .pre .3) (some-bits e), search needs)
+    (simp (length-take, length-drop) (omega (arith, given e .pre)), left (given e .args .m) (given e .args .sheet .now) (bit-words e) (mask-word e) (given e .pre .3) (some-bits e), search needs, given e .pre .4, given e .pre .5)
 
 same-length : tie.Need-same-length
 same-length c =
     let e = c .before .before .before .before .before .before .before .before in
-    put-length (given e .args .sheet .now) (bit-words e) (mask-word e) (given e .pre .3) (some-bits e) (c .before .before .write-triples .last .1 .1 .1 .1 .0)
-    (ap length (c .before .before .write-triples .ensures) ∙ length-triples _ _ 31 _)
+    put-length (given e .args .m) (given e .args .sheet .now) (bit-words e) (mask-word e) (given e .pre .3) (some-bits e) (c .before .before .write-triples .last .1 .1 .1 .1 .1 .0)
+    (ap length (c .before .before .write-triples .ensures) ∙ length-triples _ _ _ _)
 
 returns : tie.Need-returns
 returns c =
     let e = c .before .before .before .before .before .before .before .before in
     let a = given e .args in
-    let triple-words = c .before .before .write-triples .last .1 .1 .1 .1 .0 in
-    put (given e .args .sheet .now) (bit-words e) (mask-word e) (given e .pre .3) (some-bits e) triple-words
-    ∙ whole (a .t) (a .own) (mask-word e) (a .words .now) (a .bytes .now) (bit-words e) triple-words
+    let triple-words = c .before .before .write-triples .last .1 .1 .1 .1 .1 .0 in
+    put (given e .args .m) (given e .args .sheet .now) (bit-words e) (mask-word e) (given e .pre .3) (some-bits e) triple-words
+    ∙ whole (a .m) (a .t) (a .own) (mask-word e) (a .words .now) (a .bytes .now) (bit-words e) triple-words
     (omega (arith, given e .pre)) (e .before .before .before .before .share-amount .ensures) (e .write-bits .ensures) (c .before .before .write-triples .ensures)
 
 pub write-spec : {M : Type 1} → statement M

@@ -15,11 +15,11 @@ use Rattle.dealer.proofs.write_triples.Statement.{statement}
 use Rattle.dealer.proofs.write_triples.Tie as tie
 
 abbrev Inv-loop : tie.InvT-loop
-Inv-loop t point row drawn shares₀ logs powers step at₀ i₀ shares at i =
-    (i ≤ 31) × (at ≡ i * (2 + 3 * t)) × (length shares ≡ 93) × (take (3 * i) shares ++ triples t point (31 - i) (drop at drawn) ≡ triples t point 31 drawn)
+Inv-loop m t point row drawn shares₀ logs powers step at₀ i₀ shares at i =
+    (i ≤ m) × (at ≡ i * (2 + 3 * t)) × (length shares ≡ 3 * m) × (take (3 * i) shares ++ triples t point (m - i) (drop at drawn) ≡ triples t point m drawn)
 
 abbrev μ-loop : tie.MeasureT-loop
-μ-loop t point row drawn shares₀ logs powers step at₀ i₀ shares at i = 31 - i
+μ-loop m t point row drawn shares₀ logs powers step at₀ i₀ shares at i = m - i
 
 log-table-requires : tie.Need-log-table-requires Inv-loop μ-loop
 log-table-requires c κs = search needs
@@ -38,43 +38,46 @@ fits : (c : tie.In-loop Inv-loop μ-loop) → c .before .loop .at + (2 + 3 * c .
 fits c =
     let s = c .before .before .before .before .before .before in
     let l = c .before .loop in
-    let r : (l .i + 1) * (2 + 3 * s .args .t) ≤ 31 * (2 + 3 * s .args .t) = mul-le-mul-right (2 + 3 * s .args .t) (omega arith) in
+    let r : (l .i + 1) * (2 + 3 * s .args .t) ≤ s .args .m * (2 + 3 * s .args .t) = mul-le-mul-right (2 + 3 * s .args .t) (omega arith) in
     omega (arith, l .inv .1, s .pre .0)
 
 -- one triple more
-module _ (t point i at : ℕ) (shares part drawn : List ℕ) (long : length shares ≡ 93) (more : i < 31) (made : part ≡ triple t point (drop at drawn)) where
+module _ (m t point i at : ℕ) (shares part drawn : List ℕ) (long : length shares ≡ 3 * m) (more : i < m) (made : part ≡ triple t point (drop at drawn)) where
   three : length part ≡ 3
   three = ap length made ∙ length-triple t point (drop at drawn)
 
-  put-length : length (putMid (3 * i) (3 * i + 3 - 3 * i) shares part) ≡ 93
+  put-length : length (putMid (3 * i) (3 * i + 3 - 3 * i) shares part) ≡ 3 * m
   put-length =
       same-len-mid (3 * i) (3 * i + 3 - 3 * i) shares part (three ∙ sym (length-take-le (3 * i + 3 - 3 * i) (drop (3 * i) shares) (simp length-drop (omega arith)) ∙ omega arith))
       ∙ long
 
-  put-more : take (3 * i) shares ++ triples t point (31 - i) (drop at drawn)
-      ≡ take (3 * (i + 1)) (putMid (3 * i) (3 * i + 3 - 3 * i) shares part) ++ triples t point (31 - (i + 1)) (drop (at + (2 + 3 * t)) drawn)
+  put-more : take (3 * i) shares ++ triples t point (m - i) (drop at drawn)
+      ≡ take (3 * (i + 1)) (putMid (3 * i) (3 * i + 3 - 3 * i) shares part) ++ triples t point (m - (i + 1)) (drop (at + (2 + 3 * t)) drawn)
   unfolding triples
   put-more =
       let front = take (3 * i) shares in
-      let rest = triples t point (31 - (i + 1)) (drop (at + (2 + 3 * t)) drawn) in
-      let j : 31 - i ≡ suc (31 - (i + 1)) = omega arith in
+      let rest = triples t point (m - (i + 1)) (drop (at + (2 + 3 * t)) drawn) in
+      let j : m - i ≡ suc (m - (i + 1)) = omega arith in
       let l : length (front ++ part) ≡ 3 * (i + 1) = length-append front part ∙ ap₂ _+_ (length-take-le (3 * i) shares (omega arith)) three ∙ omega arith in
-      ap (λ (m : ℕ). front ++ triples t point m (drop at drawn)) j
-      ∙ ap₂ (λ (a b : List ℕ). front ++ (a ++ triples t point (31 - (i + 1)) b)) (sym made) (drop-drop (2 + 3 * t) at drawn)
+      ap (λ (k : ℕ). front ++ triples t point k (drop at drawn)) j
+      ∙ ap₂ (λ (a b : List ℕ). front ++ (a ++ triples t point (m - (i + 1)) b)) (sym made) (drop-drop (2 + 3 * t) at drawn)
       ∙ sym (append-assoc front part rest)
       ∙ ap (λ (a : List ℕ). a ++ rest) (sym (ap (take (3 * (i + 1))) (sym (append-assoc front part _)) ∙ take-at (front ++ part) _ (3 * (i + 1)) l))
 
 -- at the end
-all-put : (t point i : ℕ) (shares drawn whole : List ℕ) → length shares ≡ 93 → i ≡ 31 → take (3 * i) shares ++ triples t point (31 - i) drawn ≡ whole
+all-put : (m t point i : ℕ) (shares drawn whole : List ℕ) → length shares ≡ 3 * m → i ≡ m → take (3 * i) shares ++ triples t point (m - i) drawn ≡ whole
     → shares ≡ whole
 unfolding triples
-all-put t point i shares drawn whole l e w =
-    let z : 31 - i ≡ 0 = omega arith in
+all-put m t point i shares drawn whole l e w =
+    let z : m - i ≡ 0 = omega arith in
     sym (append-nil shares)
-    ∙ ap₂ (λ (a b : List ℕ). a ++ b) (sym (take-all (3 * i) shares (omega arith))) (ap (λ (m : ℕ). triples t point m drawn) (sym z)) ∙ w
+    ∙ ap₂ (λ (a b : List ℕ). a ++ b) (sym (take-all (3 * i) shares (omega arith))) (ap (λ (k : ℕ). triples t point k drawn) (sym z)) ∙ w
 
 loop-holds : tie.Need-loop-holds Inv-loop μ-loop
-loop-holds c = search needs
+loop-holds c =
+    let s = c .before .before .before .before in
+    let a = s .args in
+    (omega arith, omega arith, s .pre .1, ap (λ (k : ℕ). triples (a .t) (a .point) k (a .drawn .now)) (omega arith))
 
 mul-from : tie.Need-mul-from Inv-loop μ-loop
 mul-from c = search needs
@@ -125,13 +128,13 @@ loop-again c =
     let s = c .before .before .before .before .before .before .before .before .before .before .before .before .before in
     let l = c .before .before .before .before .before .before .before .before .loop in
     let a = s .args in
-    let h : l .i < 31 = c .before .before .before .before .before .before .before .loop-test .taken in
+    let h : l .i < a .m = c .before .before .before .before .before .before .before .loop-test .taken in
     let rest = take-all (length (a .drawn .now) - l .at) (drop (l .at) (a .drawn .now)) (omega (arith, length-drop (l .at) (a .drawn .now))) in
     let made = c .before .before .write-triple .ensures ∙ ap (triple (a .t) (a .point)) rest in (
       omega arith,
       omega arith,
-      put-length (a .t) (a .point) (l .i) (l .at) (l .shares) (c .before .before .write-triple .last .1 .1 .1 .1 .0) (a .drawn .now) (l .inv .2) h made,
-      sym (put-more (a .t) (a .point) (l .i) (l .at) (l .shares) (c .before .before .write-triple .last .1 .1 .1 .1 .0) (a .drawn .now) (l .inv .2) h made) ∙ l .inv .3,
+      put-length (a .m) (a .t) (a .point) (l .i) (l .at) (l .shares) (c .before .before .write-triple .last .1 .1 .1 .1 .0) (a .drawn .now) (l .inv .2) h made,
+      sym (put-more (a .m) (a .t) (a .point) (l .i) (l .at) (l .shares) (c .before .before .write-triple .last .1 .1 .1 .1 .0) (a .drawn .now) (l .inv .2) h made) ∙ l .inv .3,
     )
 
 same-length : tie.Need-same-length Inv-loop μ-loop
@@ -141,7 +144,7 @@ returns : tie.Need-returns Inv-loop μ-loop
 returns c =
     let l = c .before .loop in
     let a = c .before .before .before .before .before .before .args in
-    all-put (a .t) (a .point) (l .i) (l .shares) _ _ (l .inv .2) (omega arith) (l .inv .3)
+    all-put (a .m) (a .t) (a .point) (l .i) (l .shares) _ _ (l .inv .2) (omega arith) (l .inv .3)
 
 pub write-triples-spec : {M : Type 1} → statement M
 write-triples-spec =

@@ -5,6 +5,7 @@ use Prim.Native.Nat.{ℕ, _+_, _-_, _*_, _%_, _^_, _≤_}
 use native.Mathlib.Omega.{arith}
 use lib.ListN.{length, take}
 use lib.Seq.{length-take-le}
+use Rattle.ways.specs.Way.{way-of, triples-of, sheet-size}
 use Rattle.sharing.specs.Scheme.{threshold}
 use Rattle.draws.specs.Draws.{next, next-coin, later, drawn-coins, drawn-bytes, after-sheet}
 use Rattle.panel.specs.Parties.{part}
@@ -65,7 +66,10 @@ slice-aggregate-deal-each-2 : tie.Need-slice-aggregate-deal-each-2
 slice-aggregate-deal-each-2 c = prefix-count _ _ (c .before .before .before .before .draw-sheet .last .1 .1 .0) (array-borrow-prefix-bytes (c .before .before .before .before .before .before)) (c .before .before .bytes2 .given)
 
 deal-each-requires : tie.Need-deal-each-requires
-deal-each-requires c κs = search needs
+unfolding sheet-size way-of triples-of
+deal-each-requires c κs =
+    let p = c .before .before .before .before .before .before .before .before .before .before .before .pre in
+    (p .1, p .2, p .3)
 
 same-length : tie.Need-same-length
 same-length c = search needs

@@ -6,6 +6,7 @@ use mathlib.Core.List.{List}
 use Rattle.refusal.specs.Refusal.{codeOf}
 use Rattle.record.specs.declared.Party.{Party}
 use Rattle.record.specs.declared.Reply.{Reply}
+use Rattle.record.specs.Record.{sound}
 use Rattle.session.specs.Add.{add-reply, add-left}
 use Rattle.record_words.specs.Words.{party-of, on-record, number-on, code-without, stored}
 use Rattle.record_words.proofs.Lent.{lent-long, with-record, no-record, no-record-code}
@@ -53,13 +54,18 @@ returns c =
       sym (no-record (words j) _ _ no),
     )
 
-read-requires : tie.Need-read-requires
-read-requires c κs =
+is-sound-requires : tie.Need-is-sound-requires
+is-sound-requires c κs =
     let j = c .before .before in
     lent-long (words j) (ap not (sym (j .is-record .ensures)) ∙ c .before .if1 .left)
 
-add-requires : tie.Need-add-requires
-add-requires c κs = search needs
+read-requires : tie.Need-read-requires
+read-requires c κs =
+    let e = c .before .before .before in
+    lent-long (words (e .before)) (ap not (sym (e .before .is-record .ensures)) ∙ e .if1 .left)
+
+add-judged-requires : tie.Need-add-judged-requires
+add-judged-requires c κs = let r = c .before in r .before .before .is-sound .ensures ∙ ap sound (sym (r .read .ensures))
 
 store-requires : tie.Need-store-requires
 store-requires c κs = search needs
@@ -74,14 +80,15 @@ returns-2 : tie.Need-returns-2
 returns-2 c =
     let a = c .before .before .before .before .before .before in
     let r = a .before .before in
-    let j = r .before .before .before in
-    let lent = ap not (sym (j .is-record .ensures)) ∙ r .before .before .if1 .left in
+    let e = r .before .before .before .before in
+    let j = e .before in
+    let lent = ap not (sym (j .is-record .ensures)) ∙ e .if1 .left in
     let s = c .before .before .store .ensures in
-    let given : a .add .result ≡ add-reply (party-of (words j)) (totals j) (bidder j) (shares j) =
-    a .add .ensures .0 ∙ ap (λ (q : Party). add-reply q (totals j) (bidder j) (shares j)) (r .read .ensures) in (
+    let given : a .add-judged .result ≡ add-reply (party-of (words j)) (totals j) (bidder j) (shares j) =
+    a .add-judged .ensures .0 ∙ ap (λ (q : Party). add-reply q (totals j) (bidder j) (shares j)) (r .read .ensures) in (
       s .0 ∙ ap (λ (r : Reply). number-on (words j) (codeOf (r .judgement))) given ∙ adds (words j) lent _ (totals j) (bidder j) (shares j),
       s .1 ∙ ap (λ (r : Reply). on-record (words j) (stored r (words j)) (words j)) given,
-      a .add .ensures .1 ∙ ap (λ (q : Party). add-left q (totals j) (bidder j) (shares j)) (r .read .ensures) ∙ sym (with-record (words j) _ _ lent),
+      a .add-judged .ensures .1 ∙ ap (λ (q : Party). add-left q (totals j) (bidder j) (shares j)) (r .read .ensures) ∙ sym (with-record (words j) _ _ lent),
     )
 
 pub add-spec : {M : Type 1} → statement M
@@ -93,8 +100,9 @@ add-spec =
     without-record-requires
     same-length
     returns
+    is-sound-requires
     read-requires
-    add-requires
+    add-judged-requires
     store-requires
     same-length-2
     same-length-3

@@ -4,6 +4,7 @@ use mathlib.Core.Bool.{false, not}
 use Prim.Native.Nat.{ℕ}
 use mathlib.Core.List.{List}
 use Rattle.ranges.specs.Sizes.{long}
+use Rattle.record.specs.Record.{sound}
 use Rattle.record.specs.declared.Party.{Party}
 use Rattle.filling.specs.declared.Filled.{Filled}
 use Rattle.filling.specs.Fill.{fill-reply, filled-number, filled-hours, filled-remainder}
@@ -27,11 +28,14 @@ returns c =
     let no = ap not (sym (j .is-record .ensures)) ∙ c .before .if1 .taken in
     (c .number .ensures ∙ sym (no-record words _ _ no), sym (no-record words _ _ no), sym (no-record words _ _ no))
 
-read-requires : tie.Need-read-requires
-read-requires c κs = lent-long (c .before .before .before .args .words .now) (ap not (sym (c .before .is-record .ensures)) ∙ c .if1 .left)
+is-sound-requires : tie.Need-is-sound-requires
+is-sound-requires c κs = lent-long (c .before .before .before .args .words .now) (ap not (sym (c .before .is-record .ensures)) ∙ c .if1 .left)
 
-fill-requires : tie.Need-fill-requires
-fill-requires c κs = search needs
+read-requires : tie.Need-read-requires
+read-requires c κs = is-sound-requires (c .before) κs
+
+fill-judged-requires : tie.Need-fill-judged-requires
+fill-judged-requires c κs = c .before .is-sound .ensures ∙ ap sound (sym (c .read .ensures))
 
 enum-known-got : tie.Need-enum-known-got
 enum-known-got c = search needs
@@ -43,9 +47,9 @@ number-requires-2 : tie.Need-number-requires-2
 number-requires-2 c κs = search needs
 
 -- where `fill` has been called
-module _ (c : tie.After-fill) where
+module _ (c : tie.After-fill-judged) where
   abbrev args : tie.Start
-  args = c .before .before .before .before .before
+  args = c .before .before .before .before .before .before
 
   abbrev words : List ℕ
   words = args .args .words .now
@@ -54,19 +58,19 @@ module _ (c : tie.After-fill) where
   amount = args .args .amount
 
   lent : not (long record-size words) ≡ false
-  lent = ap not (sym (c .before .before .before .is-record .ensures)) ∙ c .before .before .if1 .left
+  lent = ap not (sym (c .before .before .before .before .is-record .ensures)) ∙ c .before .before .before .if1 .left
 
   -- the fill, as it was matched
-  given : (f : Filled) → c .fill .result ≡ f → fill-reply (party-of words) amount ≡ f
-  given f e = sym (c .fill .ensures ∙ ap (λ (q : Party). fill-reply q amount) (c .before .read .ensures)) ∙ e
+  given : (f : Filled) → c .fill-judged .result ≡ f → fill-reply (party-of words) amount ≡ f
+  given f e = sym (c .fill-judged .ensures ∙ ap (λ (q : Party). fill-reply q amount) (c .before .read .ensures)) ∙ e
 
-  number : (f : Filled) → c .fill .result ≡ f → fill-code words amount ≡ filled-number f
+  number : (f : Filled) → c .fill-judged .result ≡ f → fill-code words amount ≡ filled-number f
   number f e = with-record words _ _ lent ∙ ap filled-number (given f e)
 
-  hours : (f : Filled) (old : ℕ) → c .fill .result ≡ f → fill-hours words amount old ≡ filled-hours f old
+  hours : (f : Filled) (old : ℕ) → c .fill-judged .result ≡ f → fill-hours words amount old ≡ filled-hours f old
   hours f old e = with-record words _ _ lent ∙ ap (λ (r : Filled). filled-hours r old) (given f e)
 
-  left-over : (f : Filled) (old : ℕ) → c .fill .result ≡ f → fill-remainder words amount old ≡ filled-remainder f old
+  left-over : (f : Filled) (old : ℕ) → c .fill-judged .result ≡ f → fill-remainder words amount old ≡ filled-remainder f old
   left-over f old e = with-record words _ _ lent ∙ ap (λ (r : Filled). filled-remainder r old) (given f e)
 
 returns-2 : tie.Need-returns-2
@@ -88,8 +92,9 @@ fill-spec =
     is-record-requires
     number-requires
     returns
+    is-sound-requires
     read-requires
-    fill-requires
+    fill-judged-requires
     enum-known-got
     enum-known-why
     number-requires-2

@@ -1,14 +1,11 @@
 -- `hear` meets its contract: the slice is no record, or the call is `hearing::hear` on what it holds. Assumes nothing.
-use mathlib.Core.Path.{_≡_, sym, ap, _∙_}
+use mathlib.Core.Path.{sym, ap, _∙_}
 use mathlib.Core.Bool.{not}
 use Prim.Native.Nat.{ℕ}
 use mathlib.Core.List.{List}
 use Rattle.refusal.specs.Refusal.{codeOf}
-use Rattle.record.specs.declared.Party.{Party}
-use Rattle.record.specs.declared.Reply.{Reply}
-use Rattle.hearing.specs.Hear.{hear-reply}
-use Rattle.record_words.specs.Words.{party-of, on-record, number-on, code-without, stored}
-use Rattle.record_words.proofs.Lent.{lent-long, no-record, no-record-code}
+use Rattle.record_words.specs.Words.{party-of, code-without}
+use Rattle.record_words.proofs.Lent.{lent-long, with-record, no-record, no-record-code}
 use Rattle.record_calls.proofs.Codes.{hears}
 use borrow.Author.Needs.{needs}
 use Rattle.record_calls.proofs.hear.Statement.{statement}
@@ -34,9 +31,6 @@ module _ (c : tie.After-is-record) where
   abbrev words : List ℕ
   words = start .args .words .now
 
-  abbrev reply : Party → Reply
-  reply q = hear-reply q (start .args .totals .now) (start .args .sheets .now) (start .args .messages .now) (start .args .present .now)
-
 returns : tie.Need-returns
 returns c =
     let m = c .before in
@@ -46,32 +40,25 @@ returns c =
       sym (no-record (words j) _ _ no),
     )
 
-read-requires : tie.Need-read-requires
-read-requires c κs =
+hear-words-requires : tie.Need-hear-words-requires
+hear-words-requires c κs =
     let j = c .before .before in
     lent-long (words j) (ap not (sym (j .is-record .ensures)) ∙ c .before .if1 .left)
 
-hear-requires : tie.Need-hear-requires
-hear-requires c κs = search needs
-
-store-requires : tie.Need-store-requires
-store-requires c κs = search needs
+code-requires : tie.Need-code-requires
+code-requires c κs = search needs
 
 same-length-2 : tie.Need-same-length-2
 same-length-2 c = search needs
 
 returns-2 : tie.Need-returns-2
 returns-2 c =
-    let h = c .before .before .before .before in
-    let r = h .before in
-    let j = r .before .before .before in
+    let h = c .before .before .before in
+    let j = h .before .before .before in
     let a = start j .args in
-    let lent = ap not (sym (j .is-record .ensures)) ∙ r .before .before .if1 .left in
-    let s = c .before .before .store .ensures in
-    let given : h .hear .result ≡ reply j (party-of (words j)) = h .hear .ensures ∙ ap (reply j) (r .read .ensures) in (
-      s .0 ∙ ap (λ (r : Reply). number-on (words j) (codeOf (r .judgement))) given
-          ∙ hears (words j) lent _ (a .totals .now) (a .sheets .now) (a .messages .now) (a .present .now),
-      s .1 ∙ ap (λ (r : Reply). on-record (words j) (stored r (words j)) (words j)) given,
+    let lent = ap not (sym (j .is-record .ensures)) ∙ h .before .before .if1 .left in (
+      c .code .ensures ∙ ap codeOf (h .hear-words .ensures .0) ∙ sym (hears (words j) lent (party-of (words j)) (a .totals .now) (a .sheets .now) (a .messages .now) (a .present .now)),
+      h .hear-words .ensures .1 ∙ sym (with-record (words j) _ _ lent),
     )
 
 pub hear-spec : {M : Type 1} → statement M
@@ -83,8 +70,7 @@ hear-spec =
     without-record-requires
     same-length
     returns
-    read-requires
-    hear-requires
-    store-requires
+    hear-words-requires
+    code-requires
     same-length-2
     returns-2)

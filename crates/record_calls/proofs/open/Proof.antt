@@ -1,6 +1,6 @@
 -- `open` meets its contract: the slice is no record, or the call is `session::open`. Assumes nothing.
-use mathlib.Core.Path.{sym, ap, _∙_}
-use mathlib.Core.Bool.{not}
+use mathlib.Core.Path.{sym, ap, ap₂, _∙_}
+use mathlib.Core.Bool.{not, _&&_}
 use Prim.Native.Nat.{ℕ}
 use mathlib.Core.List.{List}
 use Rattle.refusal.specs.Refusal.{codeOf}
@@ -18,6 +18,9 @@ is-record-requires c κs = search needs
 on-list-requires : tie.Need-on-list-requires
 on-list-requires c κs = search needs
 
+is-way-requires : tie.Need-is-way-requires
+is-way-requires c κs = search needs
+
 without-record-requires : tie.Need-without-record-requires
 without-record-requires c κs = search needs
 
@@ -34,10 +37,11 @@ module _ (c : tie.After-is-record) where
 
 returns : tie.Need-returns
 returns c =
-    let o = c .before in
+    let w = c .before in
+    let o = w .before in
     let j = o .before .before in
     let no = ap not (sym (j .is-record .ensures)) ∙ o .before .if1 .taken in (
-      c .without-record .ensures ∙ ap code-without (o .on-list .ensures) ∙ sym (no-record-code (words j) _ _ no),
+      c .without-record .ensures ∙ ap code-without (ap₂ _&&_ (o .on-list .ensures) (w .is-way .ensures)) ∙ sym (no-record-code (words j) _ _ no),
       sym (no-record (words j) _ _ no),
       sym (no-record (words j) _ _ no),
     )
@@ -63,7 +67,7 @@ returns-2 c =
     let lent = ap not (sym (j .is-record .ensures)) ∙ e .if1 .left in
     let given = d .«open» .ensures in
     let s = c .before .before .store .ensures in (
-      s .0 ∙ ap (λ (r : Reply). number-on (words j) (codeOf (r .judgement))) (given .0) ∙ opens (words j) lent (a .n) (a .own) (a .k) (a .totals .now),
+      s .0 ∙ ap (λ (r : Reply). number-on (words j) (codeOf (r .judgement))) (given .0) ∙ opens (words j) lent (a .n) (a .own) (a .k) (a .last) (a .totals .now),
       given .1 ∙ sym (with-record (words j) _ _ lent),
       s .1 ∙ ap (λ (r : Reply). on-record (words j) (stored r (words j)) (words j)) (given .0),
     )
@@ -74,6 +78,7 @@ open-spec =
     (tie.spec
     is-record-requires
     on-list-requires
+    is-way-requires
     without-record-requires
     same-length
     returns

@@ -37,12 +37,18 @@ shared-slice-read-t19 c = search needs
 shared-slice-read-t21 : tie.Need-shared-slice-read-t21
 shared-slice-read-t21 c = search needs
 
+shared-slice-read-t23 : tie.Need-shared-slice-read-t23
+shared-slice-read-t23 c = search needs
+
+read-pairs-requires : tie.Need-read-pairs-requires
+read-pairs-requires c κs = search needs
+
 returns : tie.Need-returns
 unfolding party-of
 returns c =
-    let r = c .before .before in
+    let r = c .before .before .before .before in
     let s = r .before .before .before .before in
-    rw (r .read-roll .ensures, s .read-search .ensures)
+    rw (c .read-pairs .ensures, r .read-roll .ensures, s .read-search .ensures)
 
 pub read-spec : {M : Type 1} → statement M
 read-spec =
@@ -59,4 +65,6 @@ read-spec =
     read-roll-requires
     shared-slice-read-t19
     shared-slice-read-t21
+    shared-slice-read-t23
+    read-pairs-requires
     returns)

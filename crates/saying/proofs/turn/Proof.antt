@@ -12,7 +12,7 @@ use Rattle.saying.proofs.turn.Tie as tie
 -- where the lengths are judged
 judges : (c : tie.After-are-long) →
     let a = c .before .before .before .before .args in
-    not (long (2 * a .q .k) (a .totals .now) && long (sheets-long (a .q .k)) (a .sheets .now) && a .else-long) ≡ not (c .are-long .result && a .else-long)
+    not (long (2 * a .q .k) (a .totals .now) && long (sheets-long (a .q .k) (a .q .last)) (a .sheets .now) && a .else-long) ≡ not (c .are-long .result && a .else-long)
 judges c = let a = c .before .before .before .before .args in ap (λ (b : Bool). not (b && a .else-long)) (sym (c .are-long .ensures))
 
 returns : tie.Need-returns

@@ -1,5 +1,5 @@
 -- `after` meets its contract. Assumes nothing.
-use mathlib.Core.Path.{_≡_, sym, ap, _∙_}
+use mathlib.Core.Path.{_≡_, sym, ap, _∙_, refl}
 use mathlib.Core.List.{List}
 use Prim.Native.Nat.{ℕ}
 use native.Mathlib.Omega.{arith}
@@ -13,36 +13,47 @@ use Rattle.record.specs.declared.Party.{Party}
 use Rattle.round.specs.declared.Heard.{Heard}
 use Rattle.round.specs.declared.Heard.the-variants.{Sum, Factors, Verdict}
 use Rattle.round.specs.Round.{Possible}
-use Rattle.saying.specs.Say.{bit-share}
-use Rattle.saying.proofs.Sheets.{probe-words}
+use Rattle.message.specs.Message.{bit-share}
+use Rattle.message.proofs.Sheets.{probe-words}
 use Rattle.record.specs.Updates.{in-round, decided}
 use Rattle.stepping.specs.After.{after}
 use Rattle.record.proofs.Soundness.{sound-facts, few-rounds, sheets-most}
+use mathlib.Core.Bool.{Bool, true, false, cond}
+use lib.Dec.{eqb}
+use Prim.Native.Nat.{_≤_, _<_}
+use Rattle.message.proofs.Messages.{sheet-at-least}
+use Rattle.stepping.specs.After.{role}
 use borrow.Author.Needs.{needs}
 use Rattle.stepping.proofs.after.Statement.{statement}
 use Rattle.stepping.proofs.after.Tie as tie
 
 module _ (q : Party) (sheet : List ℕ) (h : Heard) where
-  summed : (v b carry : ℕ) → h ≡ Sum v → b ≡ bit-share sheet 1 → carry ≡ first-carry (on-shares bytes) v b
-      → in-round q 2 v carry ≡ after q sheet h
+  summed : (v carry : ℕ) → h ≡ Sum v → carry ≡ cond (eqb (q .last) 7) (q .carry) (first-carry (on-shares bytes) v (bit-share sheet 1))
+      → in-round q 2 v carry (q .pairs) ≡ after q sheet h
   unfolding after
-  summed v b carry e f g = rw (e, g, f)
+  summed v carry e g = rw (e, g)
 
   judged : (v : ℕ) (s : Search) → h ≡ Verdict v → s ≡ next (q .search) v → decided q s ≡ after q sheet h
   unfolding after
   judged v s e f = rw (e, f)
 
+-- a round that is judged as one up to 32 is that round
+role-is : (q : Party) → role q ≤ 32 → role q ≡ q .round
+role-is q = split (eqb (q .round) (q .last))
+  where
+    split : (b : Bool) → cond b 33 (q .round) ≤ 32 → cond b 33 (q .round) ≡ q .round
+    split true h = absurd (omega arith)
+    split false h = refl
+
 enum-known-heard : tie.Need-enum-known-heard
 enum-known-heard c = search needs
 
-byte-share-requires : tie.Need-byte-share-requires
-byte-share-requires c κs =
+begun-requires : tie.Need-begun-requires
+begun-requires c κs =
     let s = c .before .before .before .before in
-    let first : s .args .q .round ≡ 1 = rw (c .before .heard .given .1) at (s .pre .3) in
-    (s .pre .1 ∙ probe-words (s .args .q) (omega arith), s .pre .2, omega arith, omega arith)
-
-first-carry-requires : tie.Need-first-carry-requires
-first-carry-requires c κs = search needs
+    let first : role (s .args .q) ≡ 1 = rw (c .before .heard .given .1) at (s .pre .3) in
+    let one : s .args .q .round ≡ 1 = sym (role-is (s .args .q) (omega (arith, first))) ∙ first in
+    (s .pre .2, omega (arith, sheet-at-least (s .args .q) (s .args .sheet .now) (omega (arith, one)) (s .pre .1)))
 
 in-round-requires : tie.Need-in-round-requires
 in-round-requires c κs = search needs
@@ -53,8 +64,12 @@ enum-known-heard-2 c = search needs
 multiplied-requires : tie.Need-multiplied-requires
 multiplied-requires c κs =
     let s = c .before .before .before .before in
-    let possible : Possible (s .args .q .round) (Factors _ _) = rw (c .before .heard2 .given .1) at (s .pre .3) in
-    (s .pre .1 ∙ probe-words (s .args .q) (omega (arith, possible .1)), s .pre .2, possible)
+    let possible : Possible (role (s .args .q)) (Factors _ _) = rw (c .before .heard2 .given .1) at (s .pre .3) in
+    let e = role-is (s .args .q) (possible .1) in (
+      sheet-at-least (s .args .q) (s .args .sheet .now) (omega (arith, possible .1, e)) (s .pre .1),
+      s .pre .2,
+      (omega (arith, possible .0, e), omega (arith, possible .1, e), possible .2, possible .3),
+    )
 
 enum-known-heard-3 : tie.Need-enum-known-heard-3
 enum-known-heard-3 c = search needs
@@ -81,10 +96,9 @@ enum-told c = search needs
 
 returns : tie.Need-returns
 returns c =
-    let s = c .before .before .before .before .before .before .before in
+    let s = c .before .before .before .before .before .before in
     c .in-round .ensures
-    ∙ summed (s .args .q) (s .args .sheet .now) (s .args .heard) _ _ _ (c .before .before .before .before .heard .given .1)
-    (c .before .before .byte-share .ensures) (c .before .first-carry .ensures)
+    ∙ summed (s .args .q) (s .args .sheet .now) (s .args .heard) _ _ (c .before .before .before .heard .given .1) (c .before .begun .ensures)
 
 returns-2 : tie.Need-returns-2
 returns-2 c = c .multiplied .ensures ∙ ap (after _ _) (sym (c .before .before .heard2 .given .1))
@@ -108,8 +122,7 @@ after-spec =
     tie.close
     (tie.spec
     enum-known-heard
-    byte-share-requires
-    first-carry-requires
+    begun-requires
     in-round-requires
     enum-known-heard-2
     multiplied-requires

@@ -7,7 +7,7 @@ use Rattle.comparison.specs.Local.{on-shares}
 use Rattle.comparison.specs.Rounds.{next-carry}
 use Rattle.record.specs.declared.Party.{Party}
 use Rattle.round.specs.declared.Heard.the-variants.{Factors}
-use Rattle.saying.specs.Say.{triple-share}
+use Rattle.message.specs.Message.{triple-share}
 use Rattle.record.specs.Updates.{in-round}
 use Rattle.stepping.specs.After.{after}
 use borrow.Author.Needs.{needs}
@@ -17,7 +17,7 @@ use Rattle.stepping.proofs.multiplied.Tie as tie
 -- the carry is made of the round's triple
 made : (q : Party) (sheet : List ℕ) (d e alpha beta gamma carry : ℕ) → carry ≡ next-carry (on-shares bytes) (q .sum) (q .round) d e alpha beta gamma
     → alpha ≡ triple-share sheet (q .round) 0 → beta ≡ triple-share sheet (q .round) 1 → gamma ≡ triple-share sheet (q .round) 2
-    → in-round q (q .round + 1) (q .sum) carry ≡ after q sheet (Factors d e)
+    → in-round q (q .round + 1) (q .sum) carry (q .pairs) ≡ after q sheet (Factors d e)
 unfolding after
 made q sheet d e alpha beta gamma carry h a b g = rw (h, a, b, g)
 
@@ -42,15 +42,19 @@ next-carry-requires c κs = search needs
 add-in-round : tie.Need-add-in-round
 add-in-round c = search needs
 
+cast-in-round : tie.Need-cast-in-round
+cast-in-round c = search needs
+
 in-round-requires : tie.Need-in-round-requires
 in-round-requires c κs = search needs
 
 returns : tie.Need-returns
 returns c =
-    let s = c .before .before .before .before .before .before in
+    let n = c .before .before in
+    let s = n .before .before .before .before .before in
     c .in-round .ensures
-    ∙ made (s .args .q) (s .args .sheet .now) (s .args .d) (s .args .e) _ _ _ _ (c .before .next-carry .ensures) (c .before .before .before .before .triple-share .ensures)
-    (c .before .before .before .triple-share2 .ensures) (c .before .before .triple-share3 .ensures)
+    ∙ made (s .args .q) (s .args .sheet .now) (s .args .d) (s .args .e) _ _ _ _ (n .next-carry .ensures) (n .before .before .before .triple-share .ensures)
+    (n .before .before .triple-share2 .ensures) (n .before .triple-share3 .ensures)
 
 pub multiplied-spec : {M : Type 1} → statement M
 multiplied-spec =
@@ -63,5 +67,6 @@ multiplied-spec =
     cast-next-carry-2
     next-carry-requires
     add-in-round
+    cast-in-round
     in-round-requires
     returns)

@@ -1,5 +1,5 @@
 -- `open_totals` meets its contract: rounds are made to the end of every auction in which the parties may stand. Assumes nothing.
-use mathlib.Core.Path.{_≡_, sym, ap, _∙_}
+use mathlib.Core.Path.{_≡_, refl, sym, ap, _∙_}
 use mathlib.Core.Bool.{false, not}
 use mathlib.Core.List.{List}
 use Prim.Native.Nat.{_-_, _≤_, _<_}
@@ -14,6 +14,7 @@ use Rattle.auction.specs.Auction.{Bid, IsAuction}
 use Rattle.auction.specs.Coins.{Coins, InRange}
 use Rattle.auction.proofs.Closed.{decided-stage}
 use Rattle.auction.proofs.Whole.{last, end, end-over}
+use Rattle.standing.specs.Numbered.{rehearsed}
 use Rattle.standing.proofs.Standing.{Stands}
 use Rattle.total_rounds.proofs.Closing.{Closing, closing-start, closing-more, closing-end, stopped}
 use borrow.Author.Needs.{needs}
@@ -25,9 +26,9 @@ Inv-loop n k totals sheets here₀ more₀ made₀ here more made =
     (made ≤ 2)
     × (length here ≡ 9)
     × (more ≡ not (ended (getD here 0 blank)))
-    × ((bids : List Bid) (c : Coins) → IsAuction (record { n = n; k = k; bids = bids }) → InRange (record { n = n; k = k; bids = bids }) c
-    → Stands (record { n = n; k = k; bids = bids }) c (decided-stage (last (record { n = n; k = k; bids = bids }) c)) here₀ totals sheets
-    → Closing (record { n = n; k = k; bids = bids }) c (end (record { n = n; k = k; bids = bids }) c) here totals sheets made)
+    × ((bids : List Bid) (c : Coins) → IsAuction (rehearsed n k bids) → InRange (rehearsed n k bids) c
+    → Stands (rehearsed n k bids) c (decided-stage (last (rehearsed n k bids) c)) here₀ totals sheets
+    → Closing (rehearsed n k bids) c (end (rehearsed n k bids) c) here totals sheets made)
 
 abbrev μ-loop : tie.MeasureT-loop
 μ-loop n k totals sheets here₀ more₀ made₀ here more made = 2 - made
@@ -46,7 +47,7 @@ loop-holds c =
     let parties = c .before .before .before .before .args .parties in
     let long : length parties ≡ 9 = search needs in
     let first = getD-there parties 0 _ blank (omega arith) in
-    (omega arith, long, c .going .ensures ∙ ap (λ q. not (ended q)) first, λ bids d A C H. closing-start _ d A _ _ C _ H)
+    (omega arith, long, c .going .ensures ∙ ap (λ q. not (ended q)) first, λ bids d A C H. closing-start _ d A refl _ _ C _ H)
 
 round-requires : tie.Need-round-requires Inv-loop μ-loop
 round-requires c κs = search needs
@@ -76,14 +77,14 @@ loop-again c =
       long,
       c .going2 .ensures ∙ ap (λ q. not (ended q)) next,
       λ bids d A C H.
-          closing-more _ d A (a .totals .now) (a .sheets .now) _ (end-over _ d A C 1) (l .here) (l .made) (l .inv .3 bids d A C H) g (after .result) (after .ensures),
+          closing-more _ d A refl (a .totals .now) (a .sheets .now) _ (end-over _ d A C 1) (l .here) (l .made) (l .inv .3 bids d A C H) g (after .result) (after .ensures),
     )
 
 returns : tie.Need-returns Inv-loop μ-loop
 returns c bids d A C H =
     let l = c .before .loop in
     let a = c .before .before .before .before .before .before .args in
-    closing-end _ d A (a .totals .now) (a .sheets .now) _ (end-over _ d A C 1) (l .here) (l .made) (l .inv .3 bids d A C H)
+    closing-end _ d A refl (a .totals .now) (a .sheets .now) _ (end-over _ d A C 1) (l .here) (l .made) (l .inv .3 bids d A C H)
     (stopped (l .made) 2 (l .more) _ (c .loop-test .left) (l .inv .2))
 
 pub open-totals-spec : {M : Type 1} → statement M

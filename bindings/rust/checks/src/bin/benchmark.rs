@@ -14,11 +14,13 @@
 //! call.
 //!
 //! A second table has one party's shares of a bid written entry by entry beside
-//! the same by one call, on either side, in the same way. A third has hearings at
-//! which just t + 1 parties were present beside those of the same rounds at which
-//! all were. A fourth has the settlement page of all bidders and sides beside the
-//! formatting and parsing of the standard library: `writeln!` of each line, without a
-//! judgement, and lines that are split and parsed, then laid out anew and compared.
+//! the same by one call, on either side, in the same way. A third has the two ways to a
+//! verdict beside each other: one party's sheet, and all that it says and hears in a
+//! probe. A fourth has hearings at which just t + 1 parties were present beside those of
+//! the same rounds at which all were. A fifth has the settlement page of all bidders and
+//! sides beside the formatting and parsing of the standard library: `writeln!` of each
+//! line, without a judgement, and lines that are split and parsed, then laid out anew
+//! and compared.
 //!
 //! All inputs are drawn before the clock starts. Buffers that a call writes
 //! are not cleared between calls. The record that a call steps is set back
@@ -28,23 +30,26 @@ use std::process::ExitCode;
 use std::thread::available_parallelism;
 use std::time::{Duration, Instant};
 
-use clockivy::words::place::BIDS;
+use clockivy::words::place::{self, BIDS};
 use clockivy::{
-    coins_len, deal_bytes_len, deal_words_len, sheet_count, sheets_len, table_len, threshold, Way,
-    DEMAND_ROUND, HIGHEST_PRICE, MAX_AMOUNT, MAX_BIDS, MAX_PAGE_LEN, MAX_PRICES, RECORD_LEN,
-    SETTLEMENT_LEN, SUPPLY_ROUND,
+    coins_len, deal_words_len, sheet_count, table_len, threshold, DEMAND_ROUND, HIGHEST_PRICE,
+    MAX_AMOUNT, MAX_BIDS, MAX_PAGE_LEN, MAX_PRICES, RECORD_LEN, SETTLEMENT_LEN, SUPPLY_ROUND,
 };
 use clockivy_checks::engine::{ByteProduct, Engine, Plain, Verified};
 use clockivy_checks::formatted;
-use clockivy_checks::record::{has_cleared, is_over, mark, marks};
+use clockivy_checks::outcome::Totals;
+use clockivy_checks::record::{has_cleared, is_over, mark, marks, width};
 use clockivy_checks::rng::Rng;
+use clockivy_reference::{
+    drawn_len, message_len, sheet_len, MOST_WORDS, ROUNDS_33, ROUNDS_7, WAYS,
+};
 
 const N: u64 = 5;
 const K: u64 = MAX_PRICES;
-const WAY: Way = Way::Rounds33;
 const TABLE: usize = table_len(K);
-const LAST_ROUND: u64 = WAY.rounds();
-/// The party whose calls are timed one by one.
+/// The numbers of parties whose two ways are timed.
+const PANELS: [u64; 3] = [3, N, 9];
+/// The party whose calls are timed one by one, or the last where there are fewer.
 const OWN: u64 = 4;
 /// The entry that is timed: all do the same work.
 const ENTRY: u64 = K;
@@ -57,9 +62,9 @@ const AMOUNT: u64 = 123_456;
 /// The price of the settlement page, in pence: one of as many digits as any below the
 /// highest.
 const PRICE: u64 = HIGHEST_PRICE - 54_321;
-/// Marks of everybody, and of t + 1 parties with the timed one among them. These
+/// Marks of everybody, and of t + 1 of N parties with the timed one among them. These
 /// are not the first ones: nothing is known of them before.
-const ALL: [u8; N as usize] = [1; N as usize];
+const ALL: [u8; 9] = [1; 9];
 const FEWEST: [u8; N as usize] = [0, 1, 0, 1, 1];
 
 /// The products of a chain.
@@ -116,26 +121,67 @@ macro_rules! case {
     };
 }
 
-const CALLS: [Case; 22] = [
+const CALLS: [Case; 39] = [
     case!("split", split),
     case!("split_entry", split_entry),
-    case!("deal", deal),
+    case!("deal", deal, N, ROUNDS_33),
+    case!("deal, 7 rounds", deal, N, ROUNDS_7),
     case!("add", add),
-    case!("say, round 1", say, 1),
-    case!("say, rounds 2 to 32", say, MIDDLE),
-    case!("say, round 33", say, LAST_ROUND),
-    case!("say, round 34", say, DEMAND_ROUND),
-    case!("say, round 35", say, SUPPLY_ROUND),
-    case!("hear, round 1", hear, 1, false),
-    case!("hear, rounds 2 to 32", hear, MIDDLE, false),
-    case!("hear, round 33", hear, LAST_ROUND, false),
-    case!("hear, round 34", hear, DEMAND_ROUND, false),
-    case!("hear, round 35", hear, SUPPLY_ROUND, false),
-    case!("hear, round 1, t + 1 present", hear, 1, true),
-    case!("hear, rounds 2 to 32, t + 1 present", hear, MIDDLE, true),
-    case!("hear, round 33, t + 1 present", hear, LAST_ROUND, true),
-    case!("hear, round 34, t + 1 present", hear, DEMAND_ROUND, true),
-    case!("hear, round 35, t + 1 present", hear, SUPPLY_ROUND, true),
+    case!("say, round 1", say, ROUNDS_33, 1),
+    case!("say, rounds 2 to 32", say, ROUNDS_33, MIDDLE),
+    case!("say, round 33", say, ROUNDS_33, ROUNDS_33),
+    case!("say, round 34", say, ROUNDS_33, DEMAND_ROUND),
+    case!("say, round 35", say, ROUNDS_33, SUPPLY_ROUND),
+    case!("say, round 1 of 7", say, ROUNDS_7, 1),
+    case!("say, round 2 of 7", say, ROUNDS_7, 2),
+    case!("say, round 3 of 7", say, ROUNDS_7, 3),
+    case!("say, round 4 of 7", say, ROUNDS_7, 4),
+    case!("say, round 5 of 7", say, ROUNDS_7, 5),
+    case!("say, round 6 of 7", say, ROUNDS_7, 6),
+    case!("say, round 7 of 7", say, ROUNDS_7, ROUNDS_7),
+    case!("hear, round 1", hear, ROUNDS_33, 1, false),
+    case!("hear, rounds 2 to 32", hear, ROUNDS_33, MIDDLE, false),
+    case!("hear, round 33", hear, ROUNDS_33, ROUNDS_33, false),
+    case!("hear, round 34", hear, ROUNDS_33, DEMAND_ROUND, false),
+    case!("hear, round 35", hear, ROUNDS_33, SUPPLY_ROUND, false),
+    case!("hear, round 1 of 7", hear, ROUNDS_7, 1, false),
+    case!("hear, round 2 of 7", hear, ROUNDS_7, 2, false),
+    case!("hear, round 3 of 7", hear, ROUNDS_7, 3, false),
+    case!("hear, round 4 of 7", hear, ROUNDS_7, 4, false),
+    case!("hear, round 5 of 7", hear, ROUNDS_7, 5, false),
+    case!("hear, round 6 of 7", hear, ROUNDS_7, 6, false),
+    case!("hear, round 7 of 7", hear, ROUNDS_7, ROUNDS_7, false),
+    case!("hear, round 1, t + 1 present", hear, ROUNDS_33, 1, true),
+    case!(
+        "hear, rounds 2 to 32, t + 1 present",
+        hear,
+        ROUNDS_33,
+        MIDDLE,
+        true
+    ),
+    case!(
+        "hear, round 33, t + 1 present",
+        hear,
+        ROUNDS_33,
+        ROUNDS_33,
+        true
+    ),
+    case!(
+        "hear, round 34, t + 1 present",
+        hear,
+        ROUNDS_33,
+        DEMAND_ROUND,
+        true
+    ),
+    case!(
+        "hear, round 35, t + 1 present",
+        hear,
+        ROUNDS_33,
+        SUPPLY_ROUND,
+        true
+    ),
+    case!("a probe of one party, 33 rounds", probe, N, ROUNDS_33),
+    case!("a probe of one party, 7 rounds", probe, N, ROUNDS_7),
     case!("fill", fill),
     case!("settlement_write, 2,000 lines", settlement_write),
     case!("settlement_read, 2,000 lines", settlement_read),
@@ -161,27 +207,56 @@ const fn by_entries<E: Engine>() -> Case {
     }
 }
 
-/// A hearing at which t + 1 parties were present, beside one at which all were.
-macro_rules! fewest {
-    ($name:literal, $engine:ident, $round:expr) => {
+/// A sheet or a probe of 7 rounds, beside one of 33.
+macro_rules! ways {
+    ($name:literal, $run:ident, $engine:ident, $n:expr) => {
         Case {
             name: $name,
-            timed: hear::<$engine, { $round }, true>,
-            beside: hear::<$engine, { $round }, false>,
+            timed: $run::<$engine, { $n }, ROUNDS_7>,
+            beside: $run::<$engine, { $n }, ROUNDS_33>,
             parts: 1,
         }
     };
 }
 
-const HEARINGS_BY_FEWEST: [Case; 8] = [
-    fewest!("verified, round 1", Verified, 1),
-    fewest!("verified, rounds 2 to 32", Verified, MIDDLE),
-    fewest!("verified, round 33", Verified, LAST_ROUND),
-    fewest!("verified, round 34", Verified, DEMAND_ROUND),
-    fewest!("plain, round 1", Plain, 1),
-    fewest!("plain, rounds 2 to 32", Plain, MIDDLE),
-    fewest!("plain, round 33", Plain, LAST_ROUND),
-    fewest!("plain, round 34", Plain, DEMAND_ROUND),
+const TWO_WAYS: [Case; 12] = [
+    ways!("verified, deal, 3 parties", deal, Verified, 3),
+    ways!("verified, deal, 5 parties", deal, Verified, 5),
+    ways!("verified, deal, 9 parties", deal, Verified, 9),
+    ways!("verified, a probe, 3 parties", probe, Verified, 3),
+    ways!("verified, a probe, 5 parties", probe, Verified, 5),
+    ways!("verified, a probe, 9 parties", probe, Verified, 9),
+    ways!("plain, deal, 3 parties", deal, Plain, 3),
+    ways!("plain, deal, 5 parties", deal, Plain, 5),
+    ways!("plain, deal, 9 parties", deal, Plain, 9),
+    ways!("plain, a probe, 3 parties", probe, Plain, 3),
+    ways!("plain, a probe, 5 parties", probe, Plain, 5),
+    ways!("plain, a probe, 9 parties", probe, Plain, 9),
+];
+
+/// A hearing at which t + 1 parties were present, beside one at which all were.
+macro_rules! fewest {
+    ($name:literal, $engine:ident, $last:expr, $round:expr) => {
+        Case {
+            name: $name,
+            timed: hear::<$engine, { $last }, { $round }, true>,
+            beside: hear::<$engine, { $last }, { $round }, false>,
+            parts: 1,
+        }
+    };
+}
+
+const HEARINGS_BY_FEWEST: [Case; 10] = [
+    fewest!("verified, round 1", Verified, ROUNDS_33, 1),
+    fewest!("verified, rounds 2 to 32", Verified, ROUNDS_33, MIDDLE),
+    fewest!("verified, round 33", Verified, ROUNDS_33, ROUNDS_33),
+    fewest!("verified, round 34", Verified, ROUNDS_33, DEMAND_ROUND),
+    fewest!("verified, round 2 of 7", Verified, ROUNDS_7, 2),
+    fewest!("plain, round 1", Plain, ROUNDS_33, 1),
+    fewest!("plain, rounds 2 to 32", Plain, ROUNDS_33, MIDDLE),
+    fewest!("plain, round 33", Plain, ROUNDS_33, ROUNDS_33),
+    fewest!("plain, round 34", Plain, ROUNDS_33, DEMAND_ROUND),
+    fewest!("plain, round 2 of 7", Plain, ROUNDS_7, 2),
 ];
 
 /// A call on a settlement page, beside what the standard library has for it.
@@ -222,6 +297,12 @@ fn main() -> ExitCode {
     }
 
     println!();
+    heading(["one party", "7 rounds", "33 rounds"]);
+    for case in &TWO_WAYS {
+        println!("{}", measure(case, &mut inputs, &CALL_PLAN));
+    }
+
+    println!();
     heading(["hear", "t + 1 present", "all present"]);
     for case in &HEARINGS_BY_FEWEST {
         println!("{}", measure(case, &mut inputs, &CALL_PLAN));
@@ -238,19 +319,22 @@ fn main() -> ExitCode {
     format_page(&mut inputs);
     parse_page(&mut inputs);
     let formatted = (inputs.formatted.as_bytes(), &inputs.read);
-    if verified != plain || formatted != (&verified.page, &verified.amounts) {
-        println!("\nbenchmark: FAILED, the answers, the fills, the pages or the products differ");
+    let ways_agree = verified.probed.chunks(2).all(|ways| ways[0] == ways[1]);
+    if verified != plain || formatted != (&verified.page, &verified.amounts) || !ways_agree {
+        println!("\nbenchmark: FAILED, the answers, the fills, the probes, the pages or the products differ");
         return ExitCode::FAILURE;
     }
-    println!("\nbenchmark: done, same answers, fills, pages and products");
+    println!("\nbenchmark: done, same answers, fills, probes, pages and products");
     ExitCode::SUCCESS
 }
 
-/// What an auction, a fill, a page written and read, and a chain of products come to.
+/// What an auction, a fill, the probes of each number of parties on each way, a page
+/// written and read, and a chain of products come to.
 #[derive(PartialEq)]
 struct Outcome {
     answer: [u64; 2],
     filled: [u64; 2],
+    probed: Vec<[u64; RECORD_LEN]>,
     page: Vec<u8>,
     amounts: Vec<u64>,
     product: u8,
@@ -259,12 +343,14 @@ struct Outcome {
 fn outcome<E: Engine + ByteProduct>(inputs: &mut Inputs) -> Outcome {
     auction::<E>(inputs);
     fill::<E>(inputs);
+    let probed = inputs.panels.iter().map(probed::<E>).collect();
     settlement_write::<E>(inputs);
     settlement_read::<E>(inputs);
     products::<E>(inputs);
     Outcome {
         answer: inputs.answer,
         filled: inputs.filled,
+        probed,
         page: inputs.written.clone(),
         amounts: inputs.read.clone(),
         product: inputs.product,
@@ -367,14 +453,24 @@ struct Round {
     messages: Vec<u64>,
 }
 
+/// The timed party of so many on one way.
+struct Panel {
+    n: u64,
+    last: u64,
+    /// What was drawn for its first sheet.
+    drawn: Drawn,
+    /// The party when the auction is over, the rounds of its first probe and then the
+    /// two of the totals.
+    seat: Seat,
+    rounds: Vec<Round>,
+}
+
 /// All that the calls are given and lent.
 struct Inputs {
     bids: Vec<Bid>,
     draws: Vec<Drawn>,
-    /// The timed party when the auction is over, the rounds of its first probe and
-    /// then the two of the totals.
-    seat: Seat,
-    rounds: Vec<Round>,
+    /// Of each number of parties the two ways.
+    panels: Vec<Panel>,
     /// The timed party with half of the bids added, shares below the prime that
     /// are added over and over, and to what.
     half: [u64; RECORD_LEN],
@@ -388,6 +484,8 @@ struct Inputs {
     /// What the calls write.
     shares: Vec<u64>,
     sheet: Vec<u64>,
+    message: [u64; MOST_WORDS],
+    stepped: [u64; RECORD_LEN],
     answer: [u64; 2],
     filled: [u64; 2],
     written: Vec<u8>,
@@ -404,31 +502,18 @@ impl Inputs {
                 coins: rng.words(coins_len(N, K), Rng::amount_share),
             })
             .collect();
-        let draws: Vec<Drawn> = (0..sheet_count(K))
-            .map(|_| {
-                let mut words = rng.words(deal_words_len(N), Rng::amount_share);
-                words[0] = rng.mask();
-                let bytes = rng.bytes(deal_bytes_len(N, WAY));
-                Drawn { words, bytes }
-            })
+        let draws = Drawn::for_all(rng, N, ROUNDS_33);
+        let clears = |bid: &&Bid| Totals::of(K, [&bid.table[..]]).price() > 0;
+        let table = &bids.iter().find(clears).expect("one has a price").table;
+        let ways = PANELS.iter().flat_map(|n| WAYS.map(|last| (*n, last)));
+        let panels = ways
+            .map(|(n, last)| Panel::draw(rng, n, last, table))
             .collect();
-
-        let mut seats = seats::<Plain>(&bids, &draws);
-        let mut rounds = Vec::new();
-        while !is_over(&seats[0].record) {
-            let record = seats[OWN as usize - 1].record;
-            let messages = round::<Plain>(&mut seats);
-            if rounds.len() < LAST_ROUND as usize || has_cleared(&record) {
-                rounds.push(Round { record, messages });
-            }
-        }
-        assert_eq!(rounds.len() as u64, SUPPLY_ROUND, "there is a price");
         let amounts = amounts(rng);
         let page = formatted::page(formatted::rows(PRICE, &amounts)).into_bytes();
         assert_eq!(page.len(), MAX_PAGE_LEN, "everybody wants something");
         Inputs {
-            seat: seats.swap_remove(OWN as usize - 1),
-            rounds,
+            panels,
             bids,
             draws,
             half: half(),
@@ -436,7 +521,9 @@ impl Inputs {
             sum: vec![0; TABLE],
             factors: (0..CHAIN).map(|_| rng.between(1, 255) as u8).collect(),
             shares: vec![0; TABLE],
-            sheet: vec![0; WAY.sheet_len()],
+            sheet: vec![0; sheet_len(ROUNDS_7)],
+            message: [0; MOST_WORDS],
+            stepped: [0; RECORD_LEN],
             answer: [0; 2],
             filled: [0; 2],
             written: vec![0; page.len()],
@@ -446,6 +533,70 @@ impl Inputs {
             page,
             product: 0,
         }
+    }
+}
+
+/// The place of the timed party of `n` on a way among those drawn.
+const fn panel(n: u64, last: u64) -> usize {
+    let mut place = 0;
+    while PANELS[place] != n {
+        place += 1;
+    }
+    place * WAYS.len() + (last == ROUNDS_7) as usize
+}
+
+impl Drawn {
+    /// The dealer's coins for all probes.
+    fn for_all(rng: &mut Rng, n: u64, last: u64) -> Vec<Drawn> {
+        let one = |_| {
+            let mut words = rng.words(deal_words_len(n), Rng::amount_share);
+            words[0] = rng.mask();
+            let bytes = rng.bytes(drawn_len(n, last));
+            Drawn { words, bytes }
+        };
+        (0..sheet_count(K)).map(one).collect()
+    }
+}
+
+impl Panel {
+    /// An auction of one bid with this table, which has a price; everybody is on the
+    /// roll.
+    fn draw(rng: &mut Rng, n: u64, last: u64, table: &[u64]) -> Panel {
+        let bid = Bid {
+            table: table.to_vec(),
+            coins: rng.words(coins_len(n, K), Rng::amount_share),
+        };
+        let mut draws = Drawn::for_all(rng, n, last);
+        let mut seats = seats::<Plain>(n, last, &[bid], &draws);
+        for seat in &mut seats {
+            enter(&mut seat.record, 1);
+        }
+        let own = OWN.min(n) as usize - 1;
+        let mut rounds = Vec::new();
+        while !is_over(&seats[0].record) {
+            let record = seats[own].record;
+            let messages = round::<Plain>(&mut seats);
+            if (rounds.len() as u64) < last || has_cleared(&record) {
+                rounds.push(Round { record, messages });
+            }
+        }
+        assert_eq!(rounds.len() as u64, last + 2, "there is a price");
+        Panel {
+            n,
+            last,
+            drawn: draws.swap_remove(0),
+            seat: seats.swap_remove(own),
+            rounds,
+        }
+    }
+
+    /// A round of the first probe, or one of the totals.
+    fn round(&self, number: u64) -> &Round {
+        let place = match number {
+            DEMAND_ROUND.. => self.last + number - DEMAND_ROUND,
+            _ => number - 1,
+        };
+        &self.rounds[place as usize]
     }
 }
 
@@ -481,9 +632,12 @@ fn split_entries<E: Engine>(inputs: &mut Inputs) {
     }
 }
 
-fn deal<E: Engine>(inputs: &mut Inputs) {
-    let Drawn { words, bytes } = &inputs.draws[0];
-    done(E::deal(N, OWN, words, bytes, &mut inputs.sheet));
+fn deal<E: Engine, const PARTIES: u64, const LAST: u64>(inputs: &mut Inputs) {
+    let Drawn { words, bytes } = &inputs.panels[const { panel(PARTIES, LAST) }].drawn;
+    let own = OWN.min(PARTIES);
+    let length = sheet_len(LAST);
+    let sheet = &mut inputs.sheet[..length];
+    done(E::deal(PARTIES, own, LAST, words, bytes, sheet));
 }
 
 fn add<E: Engine>(inputs: &mut Inputs) {
@@ -491,18 +645,25 @@ fn add<E: Engine>(inputs: &mut Inputs) {
     done(E::add(&mut record, &mut inputs.sum, NEXT, &inputs.addend));
 }
 
-fn say<E: Engine, const ROUND: u64>(inputs: &mut Inputs) {
-    let round = &inputs.rounds[ROUND as usize - 1];
-    let Seat { totals, sheets, .. } = &inputs.seat;
-    let mut message = 0;
-    done(E::say(&round.record, totals, sheets, &mut message));
-    assert_eq!(message, round.messages[OWN as usize - 1]);
+fn say<E: Engine, const LAST: u64, const ROUND: u64>(inputs: &mut Inputs) {
+    let panel = &inputs.panels[const { panel(N, LAST) }];
+    let Seat { totals, sheets, .. } = &panel.seat;
+    let round = panel.round(ROUND);
+    let message = &mut inputs.message[..message_len(LAST, ROUND)];
+    done(E::say(&round.record, totals, sheets, message));
+    let own = (OWN as usize - 1) * message.len();
+    assert_eq!(*message, round.messages[own..own + message.len()]);
 }
 
-fn hear<E: Engine, const ROUND: u64, const BY_FEWEST: bool>(inputs: &mut Inputs) {
-    let round = &inputs.rounds[ROUND as usize - 1];
-    let Seat { totals, sheets, .. } = &inputs.seat;
-    let present = if BY_FEWEST { &FEWEST } else { &ALL };
+fn hear<E: Engine, const LAST: u64, const ROUND: u64, const BY_FEWEST: bool>(inputs: &mut Inputs) {
+    let panel = &inputs.panels[const { panel(N, LAST) }];
+    let Seat { totals, sheets, .. } = &panel.seat;
+    let round = panel.round(ROUND);
+    let present = if BY_FEWEST {
+        &FEWEST
+    } else {
+        &ALL[..N as usize]
+    };
     let mut record = round.record;
     done(E::hear(
         &mut record,
@@ -513,9 +674,31 @@ fn hear<E: Engine, const ROUND: u64, const BY_FEWEST: bool>(inputs: &mut Inputs)
     ));
 }
 
+/// All that one party says and hears in a probe, everybody being present.
+fn probe<E: Engine, const PARTIES: u64, const LAST: u64>(inputs: &mut Inputs) {
+    let panel = &inputs.panels[const { panel(PARTIES, LAST) }];
+    inputs.stepped = probed::<E>(panel);
+}
+
+/// The record that the first probe of a party leaves, without the way.
+fn probed<E: Engine>(panel: &Panel) -> [u64; RECORD_LEN] {
+    let Seat { totals, sheets, .. } = &panel.seat;
+    let present = &ALL[..panel.n as usize];
+    let mut record = panel.rounds[0].record;
+    let mut message = [0; MOST_WORDS];
+    for Round { messages, .. } in &panel.rounds[..panel.last as usize] {
+        let width = messages.len() / present.len();
+        done(E::say(&record, totals, sheets, &mut message[..width]));
+        done(E::hear(&mut record, totals, sheets, messages, present));
+    }
+    record[place::LAST] = 0;
+    record
+}
+
 fn fill<E: Engine>(inputs: &mut Inputs) {
     let [tenths, remainder] = &mut inputs.filled;
-    done(E::fill(&inputs.seat.record, AMOUNT, tenths, remainder));
+    let record = &inputs.panels[const { panel(N, ROUNDS_33) }].seat.record;
+    done(E::fill(record, AMOUNT, tenths, remainder));
 }
 
 fn settlement_write<E: Engine>(inputs: &mut Inputs) {
@@ -565,17 +748,23 @@ fn products<E: ByteProduct>(inputs: &mut Inputs) {
 /// bidder on the roll.
 fn half() -> [u64; RECORD_LEN] {
     let mut record = [0; RECORD_LEN];
-    done(Plain::open(N, OWN, K, &mut [0; TABLE], &mut record));
-    for bidder in (1..=MAX_BIDS).step_by(2) {
-        mark(&mut record, bidder);
-    }
-    record[BIDS] = marks(&record);
+    let totals = &mut [0; TABLE];
+    done(Plain::open(N, OWN, K, ROUNDS_33, totals, &mut record));
+    enter(&mut record, 2);
     record
+}
+
+/// Puts the bidders 1, 1 + `step` and so on onto the roll of a record.
+fn enter(record: &mut [u64], step: usize) {
+    for bidder in (1..=MAX_BIDS).step_by(step) {
+        mark(record, bidder);
+    }
+    record[BIDS] = marks(record);
 }
 
 /// Every call of an auction, for all parties.
 fn auction<E: Engine>(inputs: &mut Inputs) {
-    let mut seats = seats::<E>(&inputs.bids, &inputs.draws);
+    let mut seats = seats::<E>(N, ROUNDS_33, &inputs.bids, &inputs.draws);
     while !is_over(&seats[0].record) {
         round::<E>(&mut seats);
     }
@@ -586,29 +775,30 @@ fn auction<E: Engine>(inputs: &mut Inputs) {
 }
 
 /// All parties with the bids added and the sheets dealt.
-fn seats<E: Engine>(bids: &[Bid], draws: &[Drawn]) -> Vec<Seat> {
+fn seats<E: Engine>(n: u64, last: u64, bids: &[Bid], draws: &[Drawn]) -> Vec<Seat> {
+    let length = sheet_len(last);
     let mut seats = Vec::new();
-    for own in 1..=N {
+    for own in 1..=n {
         let mut seat = Seat {
             record: [0; RECORD_LEN],
             totals: vec![0; TABLE],
-            sheets: vec![0; sheets_len(K, WAY)],
+            sheets: vec![0; length * draws.len()],
         };
-        done(E::open(N, own, K, &mut seat.totals, &mut seat.record));
+        let Seat { record, totals, .. } = &mut seat;
+        done(E::open(n, own, K, last, totals, record));
         seats.push(seat);
     }
     let mut shares = vec![0; TABLE];
     for (bidder, Bid { table, coins }) in (1..).zip(bids) {
         for (own, seat) in (1..).zip(&mut seats) {
-            done(E::split(N, own, K, table, coins, &mut shares));
+            done(E::split(n, own, K, table, coins, &mut shares));
             done(E::add(&mut seat.record, &mut seat.totals, bidder, &shares));
         }
     }
-    let length = WAY.sheet_len();
     for (probe, Drawn { words, bytes }) in draws.iter().enumerate() {
         for (own, seat) in (1..).zip(&mut seats) {
             let sheet = &mut seat.sheets[length * probe..length * (probe + 1)];
-            done(E::deal(N, own, words, bytes, sheet));
+            done(E::deal(n, own, last, words, bytes, sheet));
         }
     }
     seats
@@ -616,17 +806,19 @@ fn seats<E: Engine>(bids: &[Bid], draws: &[Drawn]) -> Vec<Seat> {
 
 /// One round of all parties; gives the messages.
 fn round<E: Engine>(seats: &mut [Seat]) -> Vec<u64> {
-    let mut messages = vec![0; seats.len()];
-    for (seat, message) in seats.iter().zip(&mut messages) {
+    let width = width(&seats[0].record);
+    let mut messages = vec![0; width * seats.len()];
+    for (seat, message) in seats.iter().zip(messages.chunks_exact_mut(width)) {
         done(E::say(&seat.record, &seat.totals, &seat.sheets, message));
     }
+    let present = &ALL[..seats.len()];
     for seat in seats {
         done(E::hear(
             &mut seat.record,
             &seat.totals,
             &seat.sheets,
             &messages,
-            &ALL,
+            present,
         ));
     }
     messages

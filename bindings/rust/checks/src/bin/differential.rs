@@ -3,14 +3,15 @@
 //!     cargo run --release --bin differential [CALLS [SEED]]
 //!
 //! It passes where the library has the version that its calls are compared for, no call
-//! and no byte product made a difference, every reply has come up, those of a hearing by
-//! who was present and by what was opened, every fault of a record has met every call
-//! that judges one, every call on a record was lent one of another length, with and
-//! without a fault in what needs no record, every fault of a settlement page has been
-//! read, and whole auctions have ended in every way, with and without parties that drop
-//! off. All byte products, the whole auctions and some thousand pages come first, however
-//! few calls are asked for, and single calls fill up the number; without enough of these,
-//! something may not come up.
+//! and no byte product made a difference, and all of this has come up on both ways to a
+//! verdict: every reply, those of a hearing by who was present, by the one word of a
+//! level that is wrong and by what was opened; every fault of a record, met by every
+//! call that judges one; and whole auctions that end in every way, with and without
+//! parties that drop off, and in the same way on both. Every call on a record was lent
+//! one of another length, with and without a fault in what needs no record, and every
+//! fault of a settlement page has been read. All byte products, the whole auctions and
+//! some thousand pages come first, however few calls are asked for, and single calls
+//! fill up the number; without enough of these, something may not come up.
 
 use std::env;
 use std::process::ExitCode;
@@ -18,7 +19,7 @@ use std::time::Instant;
 
 use clockivy_checks::differential::{run, Difference, Tally};
 
-const CALLS: u64 = 4_000_000;
+const CALLS: u64 = 5_000_000;
 const SEED: u64 = 1979;
 /// The numbers of listed prices of the whole auctions.
 const PRICES: [u64; 18] = [
@@ -72,11 +73,20 @@ fn main() -> ExitCode {
 /// What has to come up and did not, a line for each.
 fn missing(tally: &Tally) -> Vec<String> {
     let mut lines = Vec::new();
-    for (kind, reply) in tally.unreached() {
-        lines.push(format!("{} never replied {reply}", kind.name()));
+    for (kind, last, reply) in tally.unreached() {
+        let name = kind.name();
+        lines.push(format!("{name} never replied {reply}, {last} rounds"));
     }
-    for (kind, condition) in tally.unmet() {
-        lines.push(format!("{} met no such record: {condition}", kind.name()));
+    for (kind, last, condition) in tally.unmet() {
+        let name = kind.name();
+        lines.push(format!(
+            "{name} met no such record, {last} rounds: {condition}"
+        ));
+    }
+    for (last, place) in tally.unpaired() {
+        lines.push(format!(
+            "no pair share {place} was above 255, {last} rounds"
+        ));
     }
     for (kind, reply) in tally.unlent() {
         let name = kind.name();
@@ -84,6 +94,11 @@ fn missing(tally: &Tally) -> Vec<String> {
     }
     for (present, reply) in tally.unheard() {
         lines.push(format!("hear never replied {reply} in {present}"));
+    }
+    for (fault, word) in tally.unfaulted() {
+        lines.push(format!(
+            "hear never refused such in word {word} of the levels: {fault}"
+        ));
     }
     for reason in tally.unopened() {
         lines.push(format!("hear never refused such: {reason}"));

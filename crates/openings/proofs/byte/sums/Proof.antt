@@ -86,7 +86,7 @@ cast-terms c = search needs
 
 -- the weight is not 0
 positive : (c : tie.In-loop Inv-loop μ-loop) → 0 < getD (c .before .before .before .byte-row .result) (place c) 0
-positive c = rw (row-is c) (weight-positive _ _ (readable-lows _ (words c) (many (start c))) (place c) (inside c))
+positive c = rw (row-is c) (weight-positive (n c) (place c) (start c .pre .0) (start c .pre .1) (inside c))
 
 terms-requires : tie.Need-terms-requires Inv-loop μ-loop
 terms-requires c κs =

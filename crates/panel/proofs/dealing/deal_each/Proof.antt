@@ -10,11 +10,11 @@ use Rattle.panel.proofs.dealing.deal_each.Statement.{statement}
 use Rattle.panel.proofs.dealing.deal_each.Tie as tie
 
 abbrev Inv-loop : tie.InvT-loop
-Inv-loop n words bytes at width sheets₀ last from₀ i₀ sheets from i =
-    (i ≤ n) × (from ≡ i * width) × Spread width n (λ i. sheet-dealt n (i + 1) words bytes at (part width i sheets₀)) sheets₀ sheets i
+Inv-loop n last words bytes at width sheets₀ count from₀ i₀ sheets from i =
+    (i ≤ n) × (from ≡ i * width) × Spread width n (λ i. sheet-dealt n (i + 1) last words bytes at (part width i sheets₀)) sheets₀ sheets i
 
 abbrev μ-loop : tie.MeasureT-loop
-μ-loop n words bytes at width sheets₀ last from₀ i₀ sheets from i = n - i
+μ-loop n last words bytes at width sheets₀ count from₀ i₀ sheets from i = n - i
 
 -- there is room for a part more
 fits : (c : tie.In-loop Inv-loop μ-loop) → c .before .loop .from + c .before .before .before .before .before .args .width ≤ length (c .before .loop .sheets)
@@ -64,7 +64,7 @@ loop-again c =
       omega (arith, l .inv .1),
       spread-more (a .width) (a .n) _ (a .sheets .now) (l .sheets) (l .i) (l .from) _ _ (l .inv .2) (s .pre .2) h (l .inv .1) k (c .before .sheets .given .0)
           (c .before .before .deal-one .ensures
-          ∙ ap (sheet-dealt (a .n) (l .i + 1) (a .words .now) (a .bytes .now) (a .at)) (lent (a .width) (a .n) _ (a .sheets .now) (l .sheets) (l .i) (l .from) _ (l .inv .2) h (l .inv .1) k)),
+          ∙ ap (sheet-dealt (a .n) (l .i + 1) (a .last) (a .words .now) (a .bytes .now) (a .at)) (lent (a .width) (a .n) _ (a .sheets .now) (l .sheets) (l .i) (l .from) _ (l .inv .2) h (l .inv .1) k)),
     )
 
 same-length : tie.Need-same-length Inv-loop μ-loop

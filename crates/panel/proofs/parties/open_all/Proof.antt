@@ -13,14 +13,14 @@ use Rattle.panel.proofs.parties.open_all.Statement.{statement}
 use Rattle.panel.proofs.parties.open_all.Tie as tie
 
 abbrev Inv-loop : tie.InvT-loop
-Inv-loop n k totals₀ width last parties₀ at₀ i₀ totals parties at i =
+Inv-loop n k last totals₀ width count parties₀ at₀ i₀ totals parties at i =
     (i ≤ n)
     × (at ≡ i * (2 * k))
-    × Spread (2 * k) n (λ i. open-left n (i + 1) k (part (2 * k) i totals₀)) totals₀ totals i
-    × Rowed blank n (λ i. open-reply n (i + 1) k (part (2 * k) i totals₀) .party) parties₀ parties i
+    × Spread (2 * k) n (λ i. open-left n (i + 1) k last (part (2 * k) i totals₀)) totals₀ totals i
+    × Rowed blank n (λ i. open-reply n (i + 1) k last (part (2 * k) i totals₀) .party) parties₀ parties i
 
 abbrev μ-loop : tie.MeasureT-loop
-μ-loop n k totals₀ width last parties₀ at₀ i₀ totals parties at i = n - i
+μ-loop n k last totals₀ width count parties₀ at₀ i₀ totals parties at i = n - i
 
 mul-width : tie.Need-mul-width Inv-loop μ-loop
 mul-width c = search needs
@@ -85,9 +85,9 @@ loop-again c =
       omega arith,
       omega (arith, l .inv .1),
       spread-more (2 * a .k) (a .n) _ (a .totals .now) (l .totals) (l .i) (l .at) _ _ (l .inv .2) (s .pre .2) h (l .inv .1) k (c .before .before .totals .given .0)
-          (c .before .before .before .open .ensures .1 ∙ ap (open-left (a .n) (l .i + 1) (a .k)) p),
+          (c .before .before .before .open .ensures .1 ∙ ap (open-left (a .n) (l .i + 1) (a .k) (a .last)) p),
       rowed-more blank (a .n) _ _ (l .parties) (l .i) _ (l .inv .3) (omega arith)
-          (c .returned .ensures ∙ ap (λ (r : Reply). r .party) (c .before .before .before .open .ensures .0 ∙ ap (open-reply (a .n) (l .i + 1) (a .k)) p)),
+          (c .returned .ensures ∙ ap (λ (r : Reply). r .party) (c .before .before .before .open .ensures .0 ∙ ap (open-reply (a .n) (l .i + 1) (a .k) (a .last)) p)),
     )
 
 same-length : tie.Need-same-length Inv-loop μ-loop

@@ -1,25 +1,22 @@
 -- `hear_all` meets its contract. Assumes nothing.
-use mathlib.Core.Path.{sym, ap₂, _∙_}
-use mathlib.Core.List.{List}
-use Prim.Native.Nat.{ℕ, _-_, _*_, _≤_}
+use mathlib.Core.Path.{ap, _∙_}
+use Prim.Native.Nat.{_-_, _*_, _≤_}
 use native.Mathlib.Omega.{arith}
-use lib.Seq.{length-take-le}
-use Rattle.search.specs.Limit.{most-probes}
 use Rattle.record.specs.declared.Party.{Party}
 use Rattle.record.specs.Record.{blank}
 use Rattle.hearing.specs.Hear.{hear-reply}
 use Rattle.panel.specs.Parties.{part}
 use Rattle.panel_rounds.specs.Round.{heard-by}
-use Rattle.panel.proofs.Parts.{room, Rowed, rowed-start, rowed-more, getD-there, take-replicate}
+use Rattle.panel.proofs.Parts.{room, Rowed, rowed-start, rowed-more, getD-there}
 use borrow.Author.Needs.{needs}
 use Rattle.panel_rounds.proofs.rounds.hear_all.Statement.{statement}
 use Rattle.panel_rounds.proofs.rounds.hear_all.Tie as tie
 
 abbrev Inv-loop : tie.InvT-loop
-Inv-loop n k totals sheets messages parties last everyone after₀ i₀ after i = (i ≤ n) × Rowed blank n (heard-by n k parties totals sheets messages) parties after i
+Inv-loop n k lent totals sheets messages present parties count after₀ i₀ after i = (i ≤ n) × Rowed blank n (heard-by k lent parties totals sheets messages present) parties after i
 
 abbrev μ-loop : tie.MeasureT-loop
-μ-loop n k totals sheets messages parties last everyone after₀ i₀ after i = n - i
+μ-loop n k lent totals sheets messages present parties count after₀ i₀ after i = n - i
 
 loop-holds : tie.Need-loop-holds Inv-loop μ-loop
 loop-holds c = (omega arith, rowed-start _ _ _ _)
@@ -30,21 +27,15 @@ mul-q c = search needs
 array-copy-out-q : tie.Need-array-copy-out-q Inv-loop μ-loop
 array-copy-out-q c = search needs
 
-array-share-prefix-everyone : tie.Need-array-share-prefix-everyone Inv-loop μ-loop
-array-share-prefix-everyone c = c .before .before .before .before .before .before .pre .0
-
-slice-aggregate-hear-one : tie.Need-slice-aggregate-hear-one Inv-loop μ-loop
-slice-aggregate-hear-one c = sym (length-take-le _ _ (omega (arith, c .before .before .before .before .before .before .before .pre .0)))
-
 hear-one-requires : tie.Need-hear-one-requires Inv-loop μ-loop
 hear-one-requires c κs =
     let s = c .before .before .before .before .before .before .before in
-    let i = c .before .before .before .loop .i in
-    let h = c .before .before .loop-test .taken in (
+    let i = c .before .before .loop .i in
+    let h = c .before .loop-test .taken in (
       s .pre .1,
       omega (arith, h, s .pre .0),
       omega (arith, room (2 * s .args .k) (s .args .n) i h, s .pre .2),
-      omega (arith, room (127 * most-probes (s .args .k)) (s .args .n) i h, s .pre .3),
+      omega (arith, room (s .args .lent) (s .args .n) i h, s .pre .3),
     )
 
 mul-after : tie.Need-mul-after Inv-loop μ-loop
@@ -62,15 +53,14 @@ loop-less c = search needs
 loop-again : tie.Need-loop-again Inv-loop μ-loop
 unfolding heard-by
 loop-again c =
-    let l = c .before .before .before .before .loop in
+    let l = c .before .before .before .loop in
     let s = c .before .before .before .before .before .before .before .before in
     let a = s .args in
-    let there = getD-there (a .t3) (l .i) _ blank (omega (arith, s .good, s .pre .0, c .before .before .before .loop-test .taken)) in (
+    let there = getD-there (a .t4) (l .i) _ blank (omega (arith, s .good, s .pre .0, c .before .before .loop-test .taken)) in (
       omega arith,
       rowed-more blank (a .n) _ _ (l .after) (l .i) _ (l .inv .1) (omega (arith, s .good, s .pre .0))
           (c .hear-one .ensures
-          ∙ ap₂ (λ (q : Party) (marks : List ℕ). hear-reply q (part (2 * a .k) (l .i) (a .totals .now)) (part (127 * most-probes (a .k)) (l .i) (a .sheets .now)) (a .messages .now) marks .party)
-          there (take-replicate (a .n) 9 1 (s .pre .0))),
+          ∙ ap (λ (q : Party). hear-reply q (part (2 * a .k) (l .i) (a .totals .now)) (part (a .lent) (l .i) (a .sheets .now)) (a .messages .now) (a .present .now) .party) there),
     )
 
 returns : tie.Need-returns Inv-loop μ-loop
@@ -85,8 +75,6 @@ hear-all-spec =
     loop-holds
     mul-q
     array-copy-out-q
-    array-share-prefix-everyone
-    slice-aggregate-hear-one
     hear-one-requires
     mul-after
     array-set-from-after

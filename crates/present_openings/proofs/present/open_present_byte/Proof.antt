@@ -22,15 +22,31 @@ returns-2 c =
     let b = c .before in
     rw (b .before .if1 .left) (not-bytes _ _ _ (sym (b .are-bytes .ensures) ∙ not-true (b .are-bytes .result) (c .if2 .taken)))
 
-open-some-requires : tie.Need-open-some-requires
-open-some-requires c κs = search needs
+log-table-requires : tie.Need-log-table-requires
+log-table-requires c κs = search needs
+
+power-table-requires : tie.Need-power-table-requires
+power-table-requires c κs = search needs
+
+open-some-by-requires : tie.Need-open-some-by-requires
+open-some-by-requires c κs = search needs
 
 returns-3 : tie.Need-returns-3
 returns-3 c =
-    let b = c .before .before in
+    let l = c .before .before .before .before .before in
+    let b = l .before in
     rw (b .before .if1 .left)
-    (c .open-some .ensures .0 ∙ lows-are _ _ _ (sym (b .are-bytes .ensures) ∙ not-false (b .are-bytes .result) (c .before .if2 .left)))
+    (c .open-some-by .ensures .0 ∙ lows-are _ _ _ (sym (b .are-bytes .ensures) ∙ not-false (b .are-bytes .result) (l .if2 .left)))
 
 pub open-present-byte-spec : {M : Type 1} → statement M
 open-present-byte-spec =
-    tie.close (tie.spec open-byte-requires returns are-bytes-requires returns-2 open-some-requires returns-3)
+    tie.close
+    (tie.spec
+    open-byte-requires
+    returns
+    are-bytes-requires
+    returns-2
+    log-table-requires
+    power-table-requires
+    open-some-by-requires
+    returns-3)

@@ -14,11 +14,25 @@ returns c =
     let e = c .open-pair .ensures in
     rw (c .before .if1 .taken) (e .0 ∙ by-everyone byte-fits _ _, e .1 ∙ by-everyone byte-fits _ _)
 
-open-some-requires : tie.Need-open-some-requires
-open-some-requires c κs = search needs
+log-table-requires : tie.Need-log-table-requires
+log-table-requires c κs = search needs
+
+power-table-requires : tie.Need-power-table-requires
+power-table-requires c κs = search needs
+
+open-some-by-requires : tie.Need-open-some-by-requires
+open-some-by-requires c κs = search needs
 
 returns-2 : tie.Need-returns-2
-returns-2 c = rw (c .before .if1 .left) (c .open-some .ensures)
+returns-2 c = rw (c .before .before .before .before .before .if1 .left) (c .open-some-by .ensures)
 
 pub open-present-pair-spec : {M : Type 1} → statement M
-open-present-pair-spec = tie.close (tie.spec open-pair-requires returns open-some-requires returns-2)
+open-present-pair-spec =
+    tie.close
+    (tie.spec
+    open-pair-requires
+    returns
+    log-table-requires
+    power-table-requires
+    open-some-by-requires
+    returns-2)

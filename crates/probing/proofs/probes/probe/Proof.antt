@@ -1,14 +1,17 @@
 -- `probe` meets its contract: i rounds are made, of every auction in which the parties may stand. Assumes nothing.
-use mathlib.Core.Path.{_≡_}
+use mathlib.Core.Path.{_≡_, refl}
 use mathlib.Core.List.{List}
 use Prim.Native.Nat.{_-_, _≤_}
 use native.Mathlib.Omega.{arith}
 use Rattle.search.specs.declared.searches.Search.{Search}
+use Rattle.ways.specs.Way.{way-of}
 use Rattle.comparison.specs.Probe.{SheetCoins}
 use Rattle.auction.specs.Auction.{Bid, IsAuction}
 use Rattle.auction.specs.Coins.{Coins, InRange}
 use Rattle.auction.proofs.Closed.{polynomials, probe-of, fresh-stage}
 use Rattle.auction.proofs.Round.{Ready, stage-of}
+use Rattle.draws.specs.Draws.{last-rehearsed}
+use Rattle.standing.specs.Numbered.{rehearsed}
 use Rattle.standing.proofs.Standing.{Stands}
 use Rattle.standing.proofs.Rounds.{round-stands, step-at, step-last}
 use borrow.Author.Needs.{needs}
@@ -18,11 +21,11 @@ use Rattle.probing.proofs.probes.probe.Tie as tie
 abbrev Inv-loop : tie.InvT-loop
 Inv-loop n k totals sheets after₀ i₀ after i =
     (i ≤ 32)
-    × ((bids : List Bid) (c : Coins) → IsAuction (record { n = n; k = k; bids = bids }) → InRange (record { n = n; k = k; bids = bids }) c
-    → (here : Search) (s : SheetCoins) (ss : List SheetCoins) → Ready (record { n = n; k = k; bids = bids }) c here s ss
-    → Stands (record { n = n; k = k; bids = bids }) c (fresh-stage here) after₀ totals sheets
-    → Stands (record { n = n; k = k; bids = bids }) c
-    (stage-of here (probe-of (record { n = n; k = k; bids = bids }) (polynomials (record { n = n; k = k; bids = bids }) c) here s) i)
+    × ((bids : List Bid) (c : Coins) → IsAuction (rehearsed n k bids) → InRange (rehearsed n k bids) c
+    → (here : Search) (s : SheetCoins) (ss : List SheetCoins) → Ready (rehearsed n k bids) c here s ss
+    → Stands (rehearsed n k bids) c (fresh-stage here) after₀ totals sheets
+    → Stands (rehearsed n k bids) c
+    (stage-of (way-of last-rehearsed) here (probe-of (rehearsed n k bids) (polynomials (rehearsed n k bids) c) here s) i)
     after totals sheets)
 
 abbrev μ-loop : tie.MeasureT-loop
@@ -46,7 +49,7 @@ loop-again c =
     let a = c .before .before .before .before .before .args in (
       omega arith,
       λ bids d A C here s ss R H.
-          round-stands _ d A _ _ _ _ (step-at _ d A C here s ss R (l .i) (omega (arith, c .before .loop-test .taken))) (l .after) (a .totals .now) (a .sheets .now) (l .inv .1 bids d A C here s ss R H) (c .round .result) (c .round .ensures),
+          round-stands _ d A refl _ _ _ _ (step-at _ d A refl C here s ss R (l .i) (omega (arith, c .before .loop-test .taken))) (l .after) (a .totals .now) (a .sheets .now) (l .inv .1 bids d A C here s ss R H) (c .round .result) (c .round .ensures),
     )
 
 round-requires-2 : tie.Need-round-requires-2 Inv-loop μ-loop
@@ -57,7 +60,7 @@ returns c = λ bids d A C here s ss R H.
     let l = c .before .before .loop in
     let a = c .before .before .before .before .before .args in
     let e : l .i ≡ 32 = omega (arith, c .before .loop-test .left, l .inv .0) in
-    round-stands _ d A _ _ _ _ (step-last _ d A C here s ss R) (l .after) (a .totals .now) (a .sheets .now) (rw e at (l .inv .1 bids d A C here s ss R H)) (c .round2 .result) (c .round2 .ensures)
+    round-stands _ d A refl _ _ _ _ (step-last _ d A refl C here s ss R) (l .after) (a .totals .now) (a .sheets .now) (rw e at (l .inv .1 bids d A C here s ss R H)) (c .round2 .result) (c .round2 .ensures)
 
 pub probe-spec : {M : Type 1} → statement M
 probe-spec =

@@ -18,6 +18,7 @@ use Rattle.auction.specs.Auction.{Bid, IsAuction}
 use Rattle.auction.specs.Coins.{Coins, InRange}
 use Rattle.auction.specs.Demands.{FleetTold}
 use Rattle.auction.proofs.Closed.{fresh-stage}
+use Rattle.standing.specs.Numbered.{rehearsed}
 use Rattle.standing.proofs.Standing.{Stands}
 use Rattle.total_rounds.proofs.Closing.{stopped}
 use Rattle.listing.specs.Lines.{most-listed}
@@ -34,9 +35,9 @@ Inv-loop n k totals sheets index₀ verdict₀ here₀ more₀ done₀ index ver
     × (length verdict ≡ most-listed)
     × (length here ≡ 9)
     × (more ≡ not (finished (getD here 0 blank .search)))
-    × ((bids : List Bid) (c : Coins) → IsAuction (record { n = n; k = k; bids = bids }) → InRange (record { n = n; k = k; bids = bids }) c
-    → Stands (record { n = n; k = k; bids = bids }) c (fresh-stage (first-search k)) here₀ totals sheets
-    → Led (record { n = n; k = k; bids = bids }) c here totals sheets index verdict done)
+    × ((bids : List Bid) (c : Coins) → IsAuction (rehearsed n k bids) → InRange (rehearsed n k bids) c
+    → Stands (rehearsed n k bids) c (fresh-stage (first-search k)) here₀ totals sheets
+    → Led (rehearsed n k bids) c here totals sheets index verdict done)
 
 abbrev μ-loop : tie.MeasureT-loop
 μ-loop n k totals sheets index₀ verdict₀ here₀ more₀ done₀ index verdict here more done = most-listed - done

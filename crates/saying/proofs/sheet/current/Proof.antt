@@ -1,16 +1,27 @@
 -- `current` meets its contract. Assumes nothing.
-use mathlib.Core.Path.{_≡_, sym}
+use mathlib.Core.Path.{_≡_, ap₂, _∙_}
 use mathlib.Core.List.{List}
-use Prim.Native.Nat.{ℕ, _+_, _-_, _*_}
+use Prim.Native.Nat.{ℕ, _+_, _-_}
 use native.Mathlib.Omega.{arith}
 use lib.ListN.{take, drop}
+use Rattle.ways.specs.Way.{way-of}
+use Rattle.message.specs.Message.{sheet-words}
 use Rattle.saying.specs.Say.{current}
+use Rattle.ways.proofs.Laws.{sheets-least}
 use borrow.Author.Needs.{needs}
 use Rattle.saying.proofs.sheet.current.Statement.{statement}
 use Rattle.saying.proofs.sheet.current.Tie as tie
 
-mul-from : tie.Need-mul-from
-mul-from c = search needs
+-- a part of so many words
+part : (from words : ℕ) (sheets : List ℕ) → take (from + words - from) (drop from sheets) ≡ take words (drop from sheets)
+part from words sheets =
+    let e : from + words - from ≡ words = omega arith in
+    rw e
+
+sheets-words-requires : tie.Need-sheets-words-requires
+sheets-words-requires c κs =
+    let s = c .before in
+    omega (arith, s .pre, sheets-least (way-of (s .args .q .last)) (s .args .q .search .probes))
 
 sheet-words-requires : tie.Need-sheet-words-requires
 sheet-words-requires c κs = search needs
@@ -30,19 +41,23 @@ part-result-start c = search needs
 part-result-end : tie.Need-part-result-end
 part-result-end c = search needs
 
--- a part of so many words
-part : (from words : ℕ) (sheets : List ℕ) → take (from + words - from) (drop from sheets) ≡ take words (drop from sheets)
-part from words sheets =
-    let e : from + words - from ≡ words = omega arith in
-    rw e
-
 returns : tie.Need-returns
 unfolding current
 returns c =
-    let a = c .before .before .before .args in
-    rw (sym (c .before .sheet-words .ensures)) (part (127 * a .q .search .probes) (c .before .sheet-words .result) (a .sheets .now))
+    let w = c .before in
+    let a = w .before .before .before .args in
+    part (w .before .sheets-words .result) (w .sheet-words .result) (a .sheets .now)
+    ∙ ap₂ (λ (n m : ℕ). take n (drop m (a .sheets .now))) (w .sheet-words .ensures) (w .before .sheets-words .ensures)
 
 pub current-spec : {M : Type 1} → statement M
 current-spec =
     tie.close
-    (tie.spec mul-from sheet-words-requires add-to mul-result sub-result part-result-start part-result-end returns)
+    (tie.spec
+    sheets-words-requires
+    sheet-words-requires
+    add-to
+    mul-result
+    sub-result
+    part-result-start
+    part-result-end
+    returns)

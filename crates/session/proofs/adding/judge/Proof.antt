@@ -15,12 +15,12 @@ use Rattle.session.proofs.adding.judge.Statement.{statement}
 use Rattle.session.proofs.adding.judge.Tie as tie
 
 abbrev start : tie.After-is-bidder → tie.Start
-start c = c .before .before .before .before
+start c = c .before .before .before
 
 -- the test of the ranges, and what has passed where it did
 ranges : (c : tie.After-is-bidder)
-    → not (c .before .sound .result && c .is-bidder .result) ≡ not (sound (start c .args .q) && is-bidder (start c .args .bidder))
-ranges c = ap₂ (λ (a b : Bool). not (a && b)) (c .before .sound .ensures) (c .is-bidder .ensures)
+    → not (start c .args .whole && c .is-bidder .result) ≡ not (sound (start c .args .q) && is-bidder (start c .args .bidder))
+ranges c = ap₂ (λ (a b : Bool). not (a && b)) (start c .pre) (c .is-bidder .ensures)
 
 whole : (c : tie.Else1) → not (sound (start (c .before) .args .q) && is-bidder (start (c .before) .args .bidder)) ≡ false
 whole c = sym (ranges (c .before)) ∙ c .if1 .left
@@ -42,9 +42,6 @@ below : (c : tie.After-all-below2)
     → let a = start (sized (in-turn (unmarked c)) .before .before) .args in
     c .before .all-below .result && c .all-below2 .result ≡ amounts-below (a .totals .now) && amounts-below (a .shares .now)
 below c = ap₂ _&&_ (c .before .all-below .ensures) (c .all-below2 .ensures)
-
-sound-requires : tie.Need-sound-requires
-sound-requires c κs = search needs
 
 is-bidder-requires : tie.Need-is-bidder-requires
 is-bidder-requires c κs = search needs
@@ -110,7 +107,6 @@ pub judge-spec : {M : Type 1} → statement M
 judge-spec =
     tie.close
     (tie.spec
-    sound-requires
     is-bidder-requires
     returns
     mul-words

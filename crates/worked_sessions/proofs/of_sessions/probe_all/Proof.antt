@@ -5,10 +5,10 @@ use Rattle.worked_sessions.proofs.of_sessions.probe_all.Statement.{stat
 use Rattle.worked_sessions.proofs.of_sessions.probe_all.Tie as tie
 
 abbrev Inv-loop : tie.InvT-loop
-Inv-loop n totals sheets digest₀ now₀ probe₀ digest now probe = Unit {0}
+Inv-loop n kind totals sheets digest₀ now₀ probe₀ digest now probe = Unit {0}
 
 abbrev μ-loop : tie.MeasureT-loop
-μ-loop n totals sheets digest₀ now₀ probe₀ digest now probe = 6 - probe
+μ-loop n kind totals sheets digest₀ now₀ probe₀ digest now probe = 6 - probe
 
 loop-holds : tie.Need-loop-holds Inv-loop μ-loop
 loop-holds c = search needs

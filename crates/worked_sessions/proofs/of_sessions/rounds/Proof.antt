@@ -5,10 +5,10 @@ use Rattle.worked_sessions.proofs.of_sessions.rounds.Statement.{stateme
 use Rattle.worked_sessions.proofs.of_sessions.rounds.Tie as tie
 
 abbrev Inv-loop : tie.InvT-loop
-Inv-loop n totals sheets digest₀ now₀ round₀ digest now round = Unit {0}
+Inv-loop n kind totals sheets digest₀ now₀ round₀ digest now round = Unit {0}
 
 abbrev μ-loop : tie.MeasureT-loop
-μ-loop n totals sheets digest₀ now₀ round₀ digest now round = 33 - round
+μ-loop n kind totals sheets digest₀ now₀ round₀ digest now round = kind .last - round
 
 loop-holds : tie.Need-loop-holds Inv-loop μ-loop
 loop-holds c = search needs

@@ -1,0 +1,2 @@
+-- Laws of a level.
+pub mod Laws

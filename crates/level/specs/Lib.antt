@@ -1,0 +1,2 @@
+-- A level of a probe in seven rounds: what the contracts cite.
+pub mod Level

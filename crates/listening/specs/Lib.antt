@@ -1,0 +1,2 @@
+-- Listening to a round: what the contracts cite.
+pub mod Listen

@@ -1,0 +1,2 @@
+-- Laws of the two ways.
+pub mod Laws
