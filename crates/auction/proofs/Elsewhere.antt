@@ -25,7 +25,8 @@ use Rattle.message.specs.Message.{in-level}
 use Rattle.saying.specs.Say.{current, say-judgement}
 use Rattle.presence.specs.Presence.{are-marks}
 use Rattle.stepping.proofs.Next.{after-same, level-same}
-use Rattle.hearing.specs.Hear.{hear-judgement, heard-next}
+use Rattle.heard_round.specs.Next.{heard-next}
+use Rattle.hearing.specs.Hear.{hear-judgement}
 use Rattle.stepping.specs.After.{role, after, after-level}
 use Rattle.level.specs.Level.{level-kept}
 use Rattle.level_round.specs.Columns.{level-sides}

@@ -51,9 +51,9 @@ use Rattle.stepping.specs.After.{after, after-level}
 use Rattle.message.proofs.Messages.{first-single, product-single, last-single, level-message, single-message}
 use Rattle.round.proofs.Opened.{sum-heard, factors-heard, verdict-heard}
 use Rattle.listening.specs.Listen.{opening}
-use Rattle.hearing.specs.Hear.{heard-next}
+use Rattle.heard_round.specs.Next.{heard-next}
 use Rattle.listening.proofs.Laws.{level-opening}
-use Rattle.hearing.proofs.Hears.{level-next}
+use Rattle.heard_round.proofs.Left.{level-next}
 use Rattle.auction.specs.Auction.{Auction, IsAuction, left-side, right-side}
 use Rattle.auction.specs.Coins.{Coins, InRange}
 use Rattle.auction.specs.Attendance.{Enough}

@@ -31,14 +31,16 @@ use Rattle.level_round.specs.Columns.{column}
 use Rattle.level_round.proofs.Laws.{column-length}
 use Rattle.round.specs.Round.{heard}
 use Rattle.listening.specs.Listen.{own-words, opening, width-of}
-use Rattle.hearing.specs.Hear.{hear-judgement, heard-next}
+use Rattle.heard_round.specs.Next.{heard-next}
+use Rattle.hearing.specs.Hear.{hear-judgement}
 use Rattle.record.proofs.Soundness.{RoundSound, Sound, sound-of}
 use Rattle.saying.proofs.Laws.{InTurn, say-accepted}
 use Rattle.message.proofs.Sheets.{InField, in-field-any, in-field-of, in-field-bytes}
 use Rattle.saying.proofs.Sheets.{current-long}
 use Rattle.round.proofs.Opened.{heard-unmarked}
 use Rattle.listening.proofs.Laws.{Admitted, one-opening}
-use Rattle.hearing.proofs.Hears.{hear-accepted, one-next}
+use Rattle.heard_round.proofs.Left.{one-next}
+use Rattle.hearing.proofs.Hears.{hear-accepted}
 use Rattle.roll.proofs.Entry.{entered-proper}
 use Rattle.auction.specs.Auction.{Auction, bidders, IsAuction}
 use Rattle.auction.specs.Coins.{Coins, InRange}

@@ -8,7 +8,8 @@ ghost use Rattle.bid.specs.Entry.{split-entry-left};
 ghost use Rattle.dealer.specs.Deal.{deal-left};
 ghost use Rattle.settlement.specs.Write.{write-left};
 ghost use Rattle.settlement.specs.Read.{read-left};
-ghost use Rattle.record_calls.specs.Calls.{open-code, open-totals, open-record, add-code, add-totals, add-record, say-code, say-messages, hear-code, hear-record, answer-code, answer-index, answer-probes, fill-code, fill-hours, fill-remainder};
+ghost use Rattle.record_calls.specs.Calls.{open-code, open-totals, open-record, add-code, add-totals, add-record, answer-code, answer-index, answer-probes, fill-code, fill-hours, fill-remainder};
+ghost use Rattle.round_calls.specs.Calls.{say-code, say-messages, hear-code, hear-record};
 ghost use Rattle.stateless_calls.specs.Calls.{split-code, split-entry-code, deal-code, settlement-write-code, settlement-written, settlement-read-code};
 
 // The version of these calls and of the record's words. It grows by one whenever any of them changes.
@@ -105,7 +106,7 @@ pub extern "C" fn clockivy_say(
     ensures { λ r. ⌜ (r ≡ say-code (now (words .entry)) (now (totals .entry)) (now (sheets .entry)) (now (messages .entry)))
         × (now (messages .exit) ≡ say-messages (now (words .entry)) (now (totals .entry)) (now (sheets .entry)) (now (messages .entry))) ⌝ }
 {
-    record_calls::say(words, totals, sheets, messages)
+    round_calls::say(words, totals, sheets, messages)
 }
 
 #[no_mangle]
@@ -119,7 +120,7 @@ pub extern "C" fn clockivy_hear(
     ensures { λ r. ⌜ (r ≡ hear-code (now (words .entry)) (now (totals .entry)) (now (sheets .entry)) (now (messages .entry)) (now (present .entry)))
         × (now (words .exit) ≡ hear-record (now (words .entry)) (now (totals .entry)) (now (sheets .entry)) (now (messages .entry)) (now (present .entry))) ⌝ }
 {
-    record_calls::hear(words, totals, sheets, messages, present)
+    round_calls::hear(words, totals, sheets, messages, present)
 }
 
 #[no_mangle]

@@ -19,17 +19,13 @@ use Rattle.sharing.specs.Scheme.{threshold}
 use Rattle.presence.specs.Presence.{are-marks, how-many, is-present}
 use Rattle.record.specs.declared.Party.{Party}
 use Rattle.record.specs.Record.{sound}
-use Rattle.round.specs.Round.{heard}
-use Rattle.level.specs.Level.{level-kept}
-use Rattle.level_round.specs.Columns.{level-sides}
-use Rattle.message.specs.Message.{in-level, message}
+use Rattle.message.specs.Message.{message}
 use Rattle.message.proofs.Sheets.{InField, in-field-facts, in-field-of}
 use Rattle.saying.specs.Say.{current, turn-judgement}
 use Rattle.saying.proofs.Laws.{InTurn, turns, turn-accepted}
-use Rattle.stepping.specs.After.{role, after, after-level}
 use Rattle.listening.specs.Listen.{width-of, own-words, opening, of-messages, messages-judgement}
 use Rattle.listening.proofs.Laws.{Admitted, admitted, admitted-tests}
-use Rattle.hearing.specs.Hear.{heard-next, hear-judgement}
+use Rattle.hearing.specs.Hear.{hear-judgement}
 
 -- ---- hearing is judged as a turn is, and then by the marks and the messages
 
@@ -57,18 +53,6 @@ turn-whole q false a b totals sheets h = shut a ∙ sym (shut b)
   where
     shut : (x : Bool) → turn-judgement q false totals sheets x ≡ Refused OutOfRange
     shut x = refuses _ _ _ refl
-
--- ---- by the round
-
-module _ (q : Party) (sheet messages present : List ℕ) where
-  pub level-next : in-level q ≡ true
-      → heard-next q sheet messages present ≡ after-level q (level-kept (q .round) (q .sum) (q .pairs .words) sheet (level-sides (q .n) (q .round) present messages))
-  unfolding heard-next
-  level-next e = rw e
-
-  pub one-next : in-level q ≡ false → heard-next q sheet messages present ≡ after q sheet (heard (q .n) (role q) present messages)
-  unfolding heard-next
-  one-next e = rw e
 
 -- ---- an accepted hearing
 

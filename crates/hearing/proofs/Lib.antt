@@ -1,7 +1,5 @@
 -- What the tests of hearing say, for theorems about runs, and lemmas that the functions' proofs share.
 pub mod Hears
-pub mod Roles
 pub mod Left
-pub mod Same
 pub mod Next
 pub mod Unmarked

@@ -26,7 +26,7 @@ use Rattle.round.specs.declared.Heard.the-variants.{Sum, Factors, Verdict, Tota
 use Rattle.message.specs.Message.{sheet-words, bit-share, triple-share, in-level}
 use Rattle.saying.specs.Say.{current}
 use Rattle.listening.specs.Listen.{opening}
-use Rattle.hearing.specs.Hear.{heard-next}
+use Rattle.heard_round.specs.Next.{heard-next}
 use Rattle.round.specs.Round.{Possible}
 use Rattle.stepping.specs.After.{role, after, after-level}
 use Rattle.stepping.proofs.Next.{first-carry-lt, next-carry-lt}
@@ -37,8 +37,9 @@ use Rattle.message.proofs.Sheets.{byte-at}
 use Rattle.saying.proofs.Sheets.{current-long}
 use Rattle.round.proofs.Opened.{heard-possible}
 use Rattle.listening.proofs.Laws.{Admitted, one-opening}
-use Rattle.hearing.proofs.Roles.{role-is, role-other, role-least, last-on, late-on}
-use Rattle.hearing.proofs.Hears.{Hears, level-next, one-next}
+use Rattle.heard_round.proofs.Roles.{role-is, role-other, role-least, last-on, late-on}
+use Rattle.heard_round.proofs.Left.{level-next, one-next}
+use Rattle.hearing.proofs.Hears.{Hears}
 
 -- before the last round there is another
 before-last : (q : Party) → Sound q → ended q ≡ false → q .round ≤ 32 → (q .round ≡ q .last → ⊥) → q .round + 1 ≤ q .last

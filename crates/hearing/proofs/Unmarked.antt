@@ -27,9 +27,10 @@ use Rattle.message.proofs.Messages.{level-wide, single-wide}
 use Rattle.stepping.specs.After.{role, after, after-level}
 use Rattle.listening.specs.Listen.{width-of, own-words, opening}
 use Rattle.listening.proofs.Laws.{level-opening, one-opening}
-use Rattle.hearing.specs.Hear.{heard-next, hear-judgement}
+use Rattle.heard_round.specs.Next.{heard-next}
+use Rattle.hearing.specs.Hear.{hear-judgement}
 use Rattle.hearing.specs.Unmarked.{UnmarkedUnread}
-use Rattle.hearing.proofs.Hears.{level-next, one-next}
+use Rattle.heard_round.proofs.Left.{level-next, one-next}
 
 -- words that are the same where there is a mark
 chosen-alike : (present xs ys : List ℕ) → length xs ≡ length ys → ((i : ℕ) → i < length xs → eqb 1 (getD present i 0) ≡ true → getD xs i 0 ≡ getD ys i 0)

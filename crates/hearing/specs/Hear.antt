@@ -21,12 +21,7 @@ use Rattle.message.specs.Message.{sheet-words, in-level}
 use Rattle.saying.specs.Say.{sheets-long, current}
 use Rattle.stepping.specs.After.{role, after, after-level}
 use Rattle.listening.specs.Listen.{width-of, of-messages}
-
--- what the round makes of the record
-unfoldable pub heard-next : (q : Party) (sheet messages present : List ℕ) → Party
-heard-next q sheet messages present =
-    cond (in-level q) (after-level q (level-kept (q .round) (q .sum) (q .pairs .words) sheet (level-sides (q .n) (q .round) present messages)))
-    (after q sheet (heard (q .n) (role q) present messages))
+use Rattle.heard_round.specs.Next.{heard-next}
 
 unfoldable pub hear-judgement : (q : Party) (totals sheets messages present : List ℕ) → Judgement
 hear-judgement q totals sheets messages present =
@@ -50,9 +45,3 @@ pub record HasTurn (q : Party) (totals sheet : List ℕ) (count : ℕ) (messages
   pub counted : count ≡ how-many present
   pub messages-long : length messages ≡ q .n * width-of q
   pub marks-long : length present ≡ q .n
-
--- and a sheet that is judged: refusal 8 is out
-pub record HasSheet (q : Party) (sheet : List ℕ) : Type 0 where
-  pub sound : sound q ≡ true
-  pub sheet-long : length sheet ≡ sheet-words q
-  pub sheet-bytes : every (λ w. ltb w 256) (drop 1 sheet) ≡ true

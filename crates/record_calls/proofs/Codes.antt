@@ -9,13 +9,11 @@ use Rattle.refusal.specs.declared.Judgement.{Judgement}
 use Rattle.ranges.specs.Sizes.{party, listed, long}
 use Rattle.ways.specs.Way.{is-way}
 use Rattle.roll.specs.Marks.{is-bidder}
-use Rattle.presence.specs.Presence.{are-marks}
 use Rattle.record.specs.declared.Party.{Party}
 use Rattle.record.specs.Record.{sound, replied}
 use Rattle.record.proofs.Replies.{reply-judgement}
 use Rattle.session.specs.Open.{open-judgement, open-reply}
 use Rattle.session.specs.Add.{add-judgement, add-reply}
-use Rattle.hearing.specs.Hear.{hear-judgement}
 use Rattle.record_words.specs.Words.{record-size, number-on, code-on}
 use Rattle.record_words.proofs.Lent.{with-record, with-record-code}
 
@@ -34,8 +32,3 @@ module _ (words : List ℕ) (lent : not (long record-size words) ≡ false) wher
       → number-on words (codeOf (add-reply q totals bidder shares .judgement)) ≡ code-on words (is-bidder bidder) (add-judgement q totals bidder shares)
   unfolding add-judgement
   adds q totals bidder shares = told _ _ _ _ (with-record-code words (sound q) (is-bidder bidder) _ lent)
-
-  pub hears : (q : Party) (totals sheets messages present : List ℕ)
-      → code-on words (are-marks present) (hear-judgement q totals sheets messages present) ≡ codeOf (hear-judgement q totals sheets messages present)
-  unfolding hear-judgement
-  hears q totals sheets messages present = with-record-code words (sound q) (are-marks present) _ lent

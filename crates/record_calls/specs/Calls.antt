@@ -3,22 +3,18 @@
 use mathlib.Core.Bool.{_&&_}
 use mathlib.Core.List.{List}
 use Prim.Native.Nat.{ℕ}
-use Rattle.refusal.specs.Refusal.{codeOf}
 use Rattle.ranges.specs.Sizes.{party, listed}
 use Rattle.ways.specs.Way.{is-way}
 use Rattle.roll.specs.Marks.{is-bidder}
-use Rattle.presence.specs.Presence.{are-marks}
 use Rattle.session.specs.Open.{open-judgement, open-reply, open-left}
 use Rattle.session.specs.Add.{add-judgement, add-reply, add-left}
 use Rattle.session.specs.Answer.{answer-reply, answer-number, cleared-index, cleared-probes}
-use Rattle.saying.specs.Say.{say-judgement, say-left}
-use Rattle.hearing.specs.Hear.{hear-judgement, hear-reply}
 use Rattle.filling.specs.Fill.{fill-reply, filled-number, filled-hours, filled-remainder}
 use Rattle.record_words.specs.Words.{party-of, on-record, number-on, code-on, stored}
 
 -- ---- the calls with something to judge that needs no record: "n, keeper number or k outside its range", "33 or 7 as the
 -- last round of its probes; another, .. is 1", "A bidder number outside 1 to
--- 1,000 is 1", "a mark above 1 is 1"
+-- 1,000 is 1"
 
 module _ (n own k last : ℕ) (totals words : List ℕ) where
   abbrev pub open-code : ℕ
@@ -40,21 +36,7 @@ module _ (words totals : List ℕ) (bidder : ℕ) (shares : List ℕ) where
   abbrev pub add-totals : List ℕ
   add-totals = on-record words (add-left (party-of words) totals bidder shares) totals
 
-module _ (words totals sheets messages present : List ℕ) where
-  abbrev pub hear-code : ℕ
-  hear-code = code-on words (are-marks present) (hear-judgement (party-of words) totals sheets messages present)
-
-  abbrev pub hear-record : List ℕ
-  hear-record = on-record words (stored (hear-reply (party-of words) totals sheets messages present) words) words
-
 -- ---- the others: nothing of them is judged without a record
-
-module _ (words totals sheets messages : List ℕ) where
-  abbrev pub say-code : ℕ
-  say-code = number-on words (codeOf (say-judgement (party-of words) totals sheets messages))
-
-  abbrev pub say-messages : List ℕ
-  say-messages = on-record words (say-left (party-of words) totals sheets messages) messages
 
 module _ (words : List ℕ) where
   abbrev pub answer-code : ℕ

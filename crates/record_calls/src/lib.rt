@@ -1,10 +1,9 @@
-// The calls on a record that is lent as its words, with their replies as numbers. Where no record is lent,
+// The calls on a record that is lent as its words, but for those of a round, with their replies as numbers. Where no record is lent,
 // what needs none is judged all the same: each call gives the lowest number that applies. The record is judged
 // where it stands before it is read: so no copy of it is made for that.
 ghost use mathlib.Core.Path.{_≡_};
-ghost use Rattle.record_calls.specs.Calls.{open-code, open-totals, open-record, add-code, add-totals, add-record, say-code, say-messages, hear-code, hear-record, answer-code, answer-index, answer-probes, fill-code, fill-hours, fill-remainder};
+ghost use Rattle.record_calls.specs.Calls.{open-code, open-totals, open-record, add-code, add-totals, add-record, answer-code, answer-index, answer-probes, fill-code, fill-hours, fill-remainder};
 use filling::Filled;
-use presence::count_marks;
 use ranges::on_list;
 use record_words::is_record;
 use record_words::is_sound;
@@ -12,7 +11,6 @@ use record_words::read;
 use record_words::store;
 use record_words::without_record;
 use refusal::Refusal;
-use refusal::code;
 use refusal::number;
 use roll::is_bidder;
 use session::Answer;
@@ -44,36 +42,6 @@ pub fn add(words: &mut [u64], totals: &mut [u64], bidder: u64, shares: &[u64]) -
         session::add_judged(read(&words[..]), whole, totals, bidder, shares),
         words,
     )
-}
-
-// The words of the round. The record is only read.
-pub fn say(words: &[u64], totals: &[u64], sheets: &[u64], messages: &mut [u64]) -> u64
-    ensures { λ r. ⌜ (r ≡ say-code (now (words .entry)) (now (totals .entry)) (now (sheets .entry)) (now (messages .entry)))
-        × (now (messages .exit) ≡ say-messages (now (words .entry)) (now (totals .entry)) (now (sheets .entry)) (now (messages .entry))) ⌝ }
-{
-    if !is_record(words) {
-        return number(Refusal::WrongLength);
-    }
-    let whole = is_sound(words);
-    code(saying::say_judged(read(words), whole, totals, sheets, messages))
-}
-
-// The record after the round is written over the record before it.
-pub fn hear(
-    words: &mut [u64],
-    totals: &[u64],
-    sheets: &[u64],
-    messages: &[u64],
-    present: &[u8],
-) -> u64
-    ensures { λ r. ⌜ (r ≡ hear-code (now (words .entry)) (now (totals .entry)) (now (sheets .entry)) (now (messages .entry)) (now (present .entry)))
-        × (now (words .exit) ≡ hear-record (now (words .entry)) (now (totals .entry)) (now (sheets .entry)) (now (messages .entry)) (now (present .entry))) ⌝ }
-{
-    if !is_record(&words[..]) {
-        let tally = count_marks(present);
-        return without_record(tally.marks);
-    }
-    code(hearing::hear_words(words, totals, sheets, messages, present))
 }
 
 // The price index, 0 for no price, and how many probes both searches made.

@@ -27,7 +27,8 @@ use Rattle.session.proofs.Laws.{adds}
 use Rattle.round.specs.Round.{heard}
 use Rattle.message.specs.Message.{in-level}
 use Rattle.saying.specs.Say.{current}
-use Rattle.hearing.specs.Hear.{hear-judgement, hear-reply, heard-next}
+use Rattle.heard_round.specs.Next.{heard-next}
+use Rattle.hearing.specs.Hear.{hear-judgement, hear-reply}
 use Rattle.stepping.specs.After.{role, after, after-level}
 use Rattle.level.specs.Level.{level-kept}
 use Rattle.level_round.specs.Columns.{level-sides}

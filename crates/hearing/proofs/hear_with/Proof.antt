@@ -15,7 +15,8 @@ use Rattle.record_words.specs.Words.{words-of, party-of}
 use Rattle.message.specs.Message.{in-level}
 use Rattle.listening.specs.Listen.{listening-judgement, opened-judgement, messages-judgement}
 use Rattle.listening.proofs.Laws.{listened, listened-bytes}
-use Rattle.hearing.specs.Hear.{heard-next, HasTurn, HasSheet}
+use Rattle.heard_round.specs.Next.{heard-next, HasSheet}
+use Rattle.hearing.specs.Hear.{HasTurn}
 use Rattle.hearing.proofs.hear_with.Statement.{statement}
 use Rattle.hearing.proofs.hear_with.Tie as tie
 

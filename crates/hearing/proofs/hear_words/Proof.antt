@@ -24,7 +24,8 @@ use Rattle.saying.specs.Say.{current, turn-judgement}
 use Rattle.saying.proofs.Sheets.{current-there, current-long}
 use Rattle.saying.proofs.Laws.{InTurn, turns}
 use Rattle.listening.specs.Listen.{width-of, messages-judgement}
-use Rattle.hearing.specs.Hear.{heard-next, HasTurn, hear-judgement}
+use Rattle.heard_round.specs.Next.{heard-next}
+use Rattle.hearing.specs.Hear.{HasTurn, hear-judgement}
 use Rattle.hearing.proofs.Hears.{turn-of, turn-whole, no-turn, by-messages}
 use Rattle.hearing.proofs.hear_words.Statement.{statement}
 use Rattle.hearing.proofs.hear_words.Tie as tie

@@ -1,0 +1,2 @@
+-- A heard round: what the contracts cite.
+pub mod Next
