@@ -141,7 +141,7 @@ impl Collecting {
     /// [an older one](crate::callers#storing-a-session) is not refused.
     ///
     /// Refused: [`OutOfRange`](Refusal::OutOfRange) where the version is another than
-    /// this crate's, the second word is above 1 or `k` is out of range,
+    /// this crate's, the second word is above 1, or `k` or `last` is out of range,
     /// [`WrongLength`](Refusal::WrongLength), and
     /// [`OutOfTurn`](Refusal::OutOfTurn) where the session speaks. The rest of the
     /// record, and the totals, are judged by the calls on them.
@@ -338,7 +338,7 @@ impl Speaking {
     /// [gives bids away](crate::callers#four-uses-that-give-bids-away).
     ///
     /// Refused: [`OutOfRange`](Refusal::OutOfRange) where the version is another than
-    /// this crate's, the second word is above 1 or `k` is out of range,
+    /// this crate's, the second word is above 1, or `k` or `last` is out of range,
     /// [`WrongLength`](Refusal::WrongLength), and
     /// [`OutOfTurn`](Refusal::OutOfTurn) where the session collects. The rest of the
     /// record, the totals and the sheets are judged by the calls on them.
@@ -405,7 +405,7 @@ fn resumed(phase: u64, stored: &[u64]) -> Result<(Record, Secret<u64>), Refusal>
     }
     let (record, totals) = rest.split_first_chunk().ok_or(Refusal::WrongLength)?;
     let record = Record::from_words(*record);
-    if !(1..=MAX_PRICES).contains(&record.k) {
+    if !(1..=MAX_PRICES).contains(&record.k) || record.way().is_none() {
         return Err(Refusal::OutOfRange);
     }
     if totals.len() != table_len(record.k) {

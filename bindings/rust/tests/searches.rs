@@ -318,6 +318,22 @@ fn replies(record: [u64; RECORD_LEN]) -> [Option<Refusal>; 5] {
     [added, said, heard, answered, filled]
 }
 
+/// The same of plain words: a session whose record has no way is not resumed.
+fn plain_replies(record: [u64; RECORD_LEN]) -> [Option<Refusal>; 5] {
+    let mut added_to = record;
+    let added = words::add(&mut added_to, &mut [0; 10], 1, &[0; 10]);
+    let way = Way::from_rounds(record[place::LAST]).unwrap_or(Way::Rounds33);
+    let mut party = Plain::resume(
+        &stored(1, &record, &[0; 10]),
+        sheets(seat(N, 1, 5, way)).words(),
+    );
+    let said = party.say().err();
+    let words = vec![u64::MAX; 3 * message_len(&record)];
+    let heard = party.hear(&words, &[1; 3]).err();
+    let [answered, filled] = asked(&record);
+    [reply(added).err(), said, heard, answered, filled]
+}
+
 #[test]
 fn records_within_their_ranges() {
     for way in WAYS {
@@ -425,7 +441,14 @@ fn shares_and_ways_out_of_range() {
             assert!(!is_sound(place, 256) && !is_sound(place, u64::MAX));
         }
         for last in (0..=40).chain([127, 220, (1 << 32) + 7, u64::MAX]) {
-            assert_eq!(is_sound(place::LAST, last), last == 7 || last == 33);
+            let mut record = record(way, numbers);
+            record[place::LAST] = last;
+            let is_way = last == 7 || last == 33;
+            assert_eq!(plain_replies(record) != UNSOUND, is_way);
+            assert_eq!(
+                Collecting::resume(&stored(0, &record, &[0; 10])).is_ok(),
+                is_way
+            );
         }
     }
 }

@@ -266,6 +266,12 @@ fn what_is_not_resumed() {
             assert_eq!(resume(&stored(phase, &record, &[0; 4])), out_of_range);
             assert_eq!(resume(&stored(phase, &record, &[])), out_of_range);
         }
+        for last in [0, 1, 6, 8, 32, 34, u64::MAX] {
+            let mut record = opened;
+            record[place::LAST] = last;
+            assert_eq!(resume(&stored(phase, &record, &[0; 4])), out_of_range);
+            assert_eq!(resume(&stored(phase, &record, &[])), out_of_range);
+        }
         // Eleven words were a session before there was a roll, 27 before there was a
         // second search, 30 before there were totals, and 32 before there was a version.
         // Then the record had 31 words, in version 1.

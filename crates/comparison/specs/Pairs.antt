@@ -1,7 +1,7 @@
 -- The report's pair operator, on pairs of bits, top and bottom, which can be grouped anyhow; and the levels in which parties merge shared
 -- pairs by it: the first two, or neighbours at once. Assumes nothing.
 use mathlib.Core.List.{List, [], _∷_, _++_}
-use Prim.Native.Nat.{ℕ, zero, suc, _<_}
+use Prim.Native.Nat.{ℕ, suc, _<_}
 use lib.ListN.{length, drop}
 use Rattle.fields.specs.Bits.{bit}
 use Rattle.fields.specs.Byte.{xor, product}

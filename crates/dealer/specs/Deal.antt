@@ -1,5 +1,5 @@
--- The dealer: "One call writes keeper j's sheet of 127 words", or of 220 for seven rounds: "mask share, 33 bit shares, then alpha, beta, gamma shares for each i."
--- Assumes nothing.
+-- The dealer: "One call writes keeper j's sheet of 127 words", or of 220 for seven rounds: "mask share, 33 bit shares, then alpha, beta, gamma
+-- shares for each i." Assumes nothing.
 use mathlib.Core.Bool.{not, _&&_}
 use mathlib.Core.List.{List, [], _∷_, _++_, map}
 use Prim.Native.Nat.{ℕ, zero, suc, _+_, _*_, _^_}

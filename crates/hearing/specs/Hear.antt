@@ -1,25 +1,19 @@
 -- Hearing a round: how it is judged, and what it makes of the record. Assumes nothing.
 use mathlib.Core.Path.{_≡_}
-use mathlib.Core.Bool.{true, false, cond, not, _&&_}
+use mathlib.Core.Bool.{true, false, not, _&&_}
 use mathlib.Core.List.{List, _∷_}
 use Prim.Native.Nat.{ℕ, _*_}
-use lib.Dec.{ltb}
-use lib.ListN.{length, drop}
+use lib.ListN.{length}
 use Rattle.refusal.specs.Judging.{_⇒_, judged}
 use Rattle.refusal.specs.declared.Judgement.{Judgement}
 use Rattle.refusal.specs.declared.Refusal.the-variants.{OutOfRange, WrongLength, OutOfTurn}
-use Rattle.ranges.specs.Lists.{every}
 use Rattle.ranges.specs.Sizes.{long}
 use Rattle.presence.specs.Presence.{are-marks, how-many}
 use Rattle.record.specs.declared.Party.{Party}
 use Rattle.record.specs.declared.Reply.{Reply}
 use Rattle.record.specs.Record.{sound, ended, replied}
-use Rattle.round.specs.Round.{heard}
-use Rattle.level.specs.Level.{level-kept}
-use Rattle.level_round.specs.Columns.{level-sides}
-use Rattle.message.specs.Message.{sheet-words, in-level}
+use Rattle.message.specs.Message.{sheet-words}
 use Rattle.saying.specs.Say.{sheets-long, current}
-use Rattle.stepping.specs.After.{role, after, after-level}
 use Rattle.listening.specs.Listen.{width-of, of-messages}
 use Rattle.heard_round.specs.Next.{heard-next}
 

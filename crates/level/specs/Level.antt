@@ -28,7 +28,8 @@ triples-read (a ∷ []) = []
 triples-read (a ∷ b ∷ []) = []
 triples-read (a ∷ b ∷ g ∷ ws) = record { alpha = a; beta = b; gamma = g } ∷ triples-read ws
 
--- The pairs that a level starts from: in round 2 the 32 that T and the mask's bits make, later those that are kept, as many as words are said.
+-- The pairs that a level starts from: in round 2 the 32 that T and the mask's bits make, later those that are kept, as many as words are
+-- said.
 unfoldable pub level-pairs : (round sum : ℕ) (kept sheet : List ℕ) → List (Pair ℕ)
 level-pairs round sum kept sheet =
     cond (eqb round 2) (first-pairs (on-shares bytes) sum (take 32 (drop 1 sheet))) (pairs-read (take (2 * width tree round) kept))

@@ -18,8 +18,8 @@ use Rattle.record.specs.declared.Reply.{Reply}
 unfoldable pub are-totals : (demand supply : ℕ) → Bool
 are-totals demand supply = ltb demand (2 ^ 32) && ltb supply (2 ^ 32) && leb supply demand
 
--- "round outside 1 to 33", or a round past the last one of a probe; "Once the searches end with m not 0, refusal 1 admits only these rounds and then 36": 34 and 35 open total demand
--- and total supply
+-- "round outside 1 to 33", or past the last one of a probe; "Once the searches end with m not 0, refusal 1 admits only these rounds and
+-- then 36": 34 and 35 open total demand and total supply
 unfoldable pub round-sound : Search → (last round : ℕ) → Bool
 round-sound s last round = cond (clears s) (leb 34 round && leb round 36) (leb 1 round && leb round last)
 

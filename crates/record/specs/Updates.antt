@@ -67,8 +67,8 @@ in-round q round sum carry pairs =
       pairs = pairs;
     }
 
--- a verdict moved the searches: "round, T and carry return to 1, 0, 0", and the kept pair shares to 0; where they have ended with m not 0, "the keepers open total demand
--- D and total supply S at m, in rounds 34 and 35"
+-- a verdict moved the searches: "round, T and carry return to 1, 0, 0", and the kept pair shares to 0; where they have ended with m not 0,
+-- "the keepers open total demand D and total supply S at m, in rounds 34 and 35"
 unfoldable pub decided : Party → Search → Party
 decided q s =
     record {

@@ -13,8 +13,7 @@ use Rattle.filling.specs.Fill.{fill-reply, filled-number, filled-hours, filled-
 use Rattle.record_words.specs.Words.{party-of, on-record, number-on, code-on, stored}
 
 -- ---- the calls with something to judge that needs no record: "n, keeper number or k outside its range", "33 or 7 as the
--- last round of its probes; another, .. is 1", "A bidder number outside 1 to
--- 1,000 is 1"
+-- last round of its probes; another, .. is 1", "A bidder number outside 1 to 1,000 is 1"
 
 module _ (n own k last : ℕ) (totals words : List ℕ) where
   abbrev pub open-code : ℕ

@@ -1,5 +1,5 @@
--- The calls of a round on a lent record: each one's code, and what it leaves in each lent place, by the definitions of the call that it wraps. "A
--- refusal returns its number; lent buffers and the record are as before." Assumes nothing.
+-- The calls of a round on a lent record: each one's code, and what it leaves in each lent place, by the definitions of the call that it
+-- wraps. "A refusal returns its number; lent buffers and the record are as before." Assumes nothing.
 use mathlib.Core.List.{List}
 use Prim.Native.Nat.{ℕ}
 use Rattle.refusal.specs.Refusal.{codeOf}

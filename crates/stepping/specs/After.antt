@@ -13,12 +13,12 @@ use Rattle.round.specs.declared.Heard.{Heard}
 use Rattle.round.specs.declared.Heard.the-variants.{Sum, Factors, Verdict, Total, Unopened}
 use Rattle.message.specs.Message.{bit-share, triple-share}
 
--- round 1 gives T, and in 33 rounds the first carry; of these rounds 2 to 32 the next carry, round 33 the verdict, by which the searches move; rounds 34 and 35 the
--- totals at the price
 -- what a round is judged as: "Levels are judged as rounds 2 to 32, round 7 as 33"
 abbrev pub role : Party → ℕ
 role q = cond (eqb (q .round) (q .last)) 33 (q .round)
 
+-- Round 1 gives T, and in 33 rounds the first carry; of these rounds 2 to 32 give the next carry. The last round of a probe gives the
+-- verdict, by which the searches move; rounds 34 and 35 the totals at the price.
 unfoldable pub after : (q : Party) (sheet : List ℕ) → Heard → Party
 after q sheet (Sum v) = in-round q 2 v (cond (eqb (q .last) 7) (q .carry) (first-carry (on-shares bytes) v (bit-share sheet 1))) (q .pairs)
 after q sheet (Factors d e) =

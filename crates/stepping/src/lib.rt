@@ -24,8 +24,8 @@ use search::Search;
 use search::clears;
 use search::next;
 
-// Round 1 gives the first carry, rounds 2 to 32 the next one, round 33 the verdict, rounds 34 and 35 the
-// totals.
+// Round 1 gives the first carry, rounds 2 to 32 the next one, the last round of a probe the verdict, rounds
+// 34 and 35 the totals.
 pub fn after(q: Party, sheet: &[u64], heard: Heard) -> Party
     requires { ⌜ (sound q ≡ true) × (length (now sheet) ≡ sheet-words q) × (every (λ w. ltb w 256) (drop 1 (now sheet)) ≡ true)
         × Possible (role q) heard ⌝ }

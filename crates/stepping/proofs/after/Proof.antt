@@ -14,13 +14,12 @@ use Rattle.round.specs.declared.Heard.{Heard}
 use Rattle.round.specs.declared.Heard.the-variants.{Sum, Factors, Verdict}
 use Rattle.round.specs.Round.{Possible}
 use Rattle.message.specs.Message.{bit-share}
-use Rattle.message.proofs.Sheets.{probe-words}
 use Rattle.record.specs.Updates.{in-round, decided}
 use Rattle.stepping.specs.After.{after}
 use Rattle.record.proofs.Soundness.{sound-facts, few-rounds, sheets-most}
 use mathlib.Core.Bool.{Bool, true, false, cond}
 use lib.Dec.{eqb}
-use Prim.Native.Nat.{_≤_, _<_}
+use Prim.Native.Nat.{_≤_}
 use Rattle.message.proofs.Messages.{sheet-at-least}
 use Rattle.stepping.specs.After.{role}
 use borrow.Author.Needs.{needs}

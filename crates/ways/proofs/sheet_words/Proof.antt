@@ -1,6 +1,6 @@
 -- `sheet_words` meets its contract. Assumes nothing.
 use mathlib.Core.Path.{sym, ap, _∙_}
-use Rattle.ways.specs.Way.{triples-of, sheet-size}
+use Rattle.ways.specs.Way.{sheet-size}
 use Rattle.ways.proofs.Laws.{way-tree, way-chain, sheet-tree, sheet-chain}
 use Rattle.ways.proofs.sheet_words.Statement.{statement}
 use Rattle.ways.proofs.sheet_words.Tie as tie

@@ -1,6 +1,6 @@
 -- `triples` meets its contract. Assumes nothing.
 use mathlib.Core.Path.{sym, ap, _∙_}
-use Rattle.ways.specs.Way.{triples-of, sheet-size}
+use Rattle.ways.specs.Way.{triples-of}
 use Rattle.ways.proofs.Laws.{way-tree, way-chain, triples-tree, triples-chain}
 use Rattle.ways.proofs.triples.Statement.{statement}
 use Rattle.ways.proofs.triples.Tie as tie
