@@ -81,9 +81,10 @@ fn bids_and_then_rounds() {
 
 #[test]
 fn the_fields_of_a_record_in_their_order() {
-    let record: [u64; RECORD_LEN] = std::array::from_fn(|place| place as u64 + 10);
-    let words = stored(1, &record, &[7; table_len(12)]);
-    let party = Speaking::resume(&words, Sheets::blank(12, WAY)).unwrap();
+    // Each word is its place and 2 more, so that there are four prices and 33 rounds.
+    let record: [u64; RECORD_LEN] = std::array::from_fn(|place| place as u64 + 2);
+    let words = stored(1, &record, &[7; table_len(4)]);
+    let party = Speaking::resume(&words, Sheets::blank(4, Way::Rounds33)).unwrap();
     let (left, record) = (party.store(), party.record());
     // The sum, the carry and the pairs are shown by the stored words alone.
     let (left, _) = parts(&left);
@@ -99,10 +100,10 @@ fn the_fields_of_a_record_in_their_order() {
         (place::SUM, left[place::SUM]),
         (place::CARRY, left[place::CARRY]),
     ];
-    let expected = [10, 11, 12, 13, 14, 15, 16, 17, 18, 19];
+    let expected = [2, 3, 4, 5, 6, 7, 8, 9, 10, 11];
     assert_eq!(numbers.map(|(_, number)| number), expected);
     assert_eq!(numbers.map(|(place, _)| left[place]), expected);
-    assert_eq!(record.roll, std::array::from_fn(|place| place as u64 + 20));
+    assert_eq!(record.roll, std::array::from_fn(|place| place as u64 + 12));
     assert_eq!(left[place::ROLL..place::SEARCH], record.roll);
     let others = [
         (place::SEARCH, record.search),
@@ -112,10 +113,10 @@ fn the_fields_of_a_record_in_their_order() {
         (place::SUPPLY, record.supply),
         (place::LAST, record.last),
     ];
-    let expected = [36, 37, 38, 39, 40, 41];
+    let expected = [28, 29, 30, 31, 32, 33];
     assert_eq!(others.map(|(_, number)| number), expected);
     assert_eq!(others.map(|(place, _)| left[place]), expected);
-    let pairs: [u64; PAIRS_LEN] = std::array::from_fn(|place| place as u64 + 42);
+    let pairs: [u64; PAIRS_LEN] = std::array::from_fn(|place| place as u64 + 34);
     assert_eq!(left[place::PAIRS..], pairs);
     assert_eq!(party.store(), words);
 }
@@ -584,14 +585,14 @@ fn a_resumed_record_is_judged_by_the_next_call() {
     let reply = add_to(heard, BIDDER, [0; 4], &[0; 4]);
     assert_eq!(reply, Err(Refusal::OutOfTurn));
 
-    // Of the record, resuming judges the number of prices alone.
+    // Of the record, resuming judges the number of prices and the way alone.
     let mut none = [u64::MAX; RECORD_LEN];
     assert_eq!(
         resume(&stored(0, &none, &[])),
         [Some(Refusal::OutOfRange); 2]
     );
     let out_of_range = Err(Refusal::OutOfRange);
-    none[place::K] = K;
+    [none[place::K], none[place::LAST]] = [K, WAY.rounds()];
     let reply = add_to(none, BIDDER, [0; 4], &[0; 4]);
     assert_eq!(reply.map(|_| ()), out_of_range);
     let stored = stored(1, &none, &[0; 4]);
@@ -641,6 +642,7 @@ fn any_words_tell_where_a_session_stands() {
     [sound[place::PROBES], sound[place::FIRST_PROBES]] = [2, 1];
     let mut unsound = [u64::MAX; RECORD_LEN];
     [unsound[place::K], unsound[place::SEARCH]] = [K, 2];
+    unsound[place::LAST] = WAY.rounds();
     // How often there was an outcome, and how often none yet.
     let mut counts = [0, 0];
     for numbers in (0..edges.len().pow(4)).map(|number| {

@@ -1,10 +1,10 @@
 -- `current` meets its contract. Assumes nothing.
 use mathlib.Core.Path.{_≡_, ap₂, _∙_}
 use mathlib.Core.List.{List}
-use Prim.Native.Nat.{ℕ, _+_, _-_}
+use Prim.Native.Nat.{ℕ, _+_, _-_, _*_, _≤_}
 use native.Mathlib.Omega.{arith}
 use lib.ListN.{take, drop}
-use Rattle.ways.specs.Way.{way-of}
+use Rattle.ways.specs.Way.{Way, sheet-size}
 use Rattle.message.specs.Message.{sheet-words}
 use Rattle.saying.specs.Say.{current}
 use Rattle.ways.proofs.Laws.{sheets-least}
@@ -18,10 +18,12 @@ part from words sheets =
     let e : from + words - from ≡ words = omega arith in
     rw e
 
+-- so many sheets stand before a part of the slice, and none is shorter than 127 words
+least : (w : Way) (count words long : ℕ) → sheet-size w * count + words ≤ long → 127 * count ≤ long
+least w count words long e = omega (arith, e, sheets-least w count)
+
 sheets-words-requires : tie.Need-sheets-words-requires
-sheets-words-requires c κs =
-    let s = c .before in
-    omega (arith, s .pre, sheets-least (way-of (s .args .q .last)) (s .args .q .search .probes))
+sheets-words-requires c κs = omega (arith, least _ _ _ _ (c .before .pre))
 
 sheet-words-requires : tie.Need-sheet-words-requires
 sheet-words-requires c κs = search needs
