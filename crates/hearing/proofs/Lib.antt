@@ -2,4 +2,3 @@
 pub mod Hears
 pub mod Left
 pub mod Next
-pub mod Unmarked

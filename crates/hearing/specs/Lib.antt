@@ -1,3 +1,2 @@
--- Hearing a round: how it is judged and its reply, which the contracts cite, and what is promised of unmarked words.
+-- Hearing a round: how it is judged and its reply, which the contracts cite.
 pub mod Hear
-pub mod Unmarked

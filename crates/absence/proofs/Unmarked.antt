@@ -28,8 +28,8 @@ use Rattle.stepping.specs.After.{role, after, after-level}
 use Rattle.listening.specs.Listen.{width-of, own-words, opening}
 use Rattle.listening.proofs.Laws.{level-opening, one-opening}
 use Rattle.heard_round.specs.Next.{heard-next}
 use Rattle.hearing.specs.Hear.{hear-judgement}
-use Rattle.hearing.specs.Unmarked.{UnmarkedUnread}
+use Rattle.absence.specs.Unmarked.{UnmarkedUnread}
 use Rattle.heard_round.proofs.Left.{level-next, one-next}
 
 -- words that are the same where there is a mark
