@@ -1,5 +1,7 @@
 // Splitting a bid among the parties (the paper's desk): one party's share of every amount, by one call
 // for the whole table or by one for each entry.
+#![tactic(auto)]
+
 ghost use Rattle.std.specs.Prelude.{◌≡◌, ◌&&◌, ◌∷◌, ◌*◌, ◌≤◌, leb, length, take, drop};
 ghost use Rattle.fields.specs.Amount.{amounts};
 ghost use Rattle.ranges.specs.Lists.{every};

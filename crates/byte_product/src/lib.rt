@@ -1,4 +1,6 @@
 // The byte product by itself, exported so that its time can be measured.
+#![tactic(auto)]
+
 ghost use Rattle.std.specs.Prelude.{◌≡◌};
 ghost use Rattle.fields.specs.Byte.{bytes};
 

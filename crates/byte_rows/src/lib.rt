@@ -1,4 +1,6 @@
 // Rows of a byte's multiples, which many products by it are read from.
+#![tactic(auto)]
+
 ghost use Rattle.std.specs.Prelude.{◌≡◌};
 ghost use Rattle.fields.specs.Byte.{xtimes};
 ghost use Rattle.byte_rows.specs.Row.{multiples};

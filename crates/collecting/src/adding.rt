@@ -24,7 +24,7 @@ fn no_coins() -> [u64; 2048] {
 }
 
 // The records after a bid, where the next bid begins, and the state of the draws.
-#[derive(Drop)]
+#[derive(Clone, Copy)]
 pub struct Added {
     pub parties: [Party; 9],
     pub at: usize,

@@ -1,4 +1,6 @@
 // The bids are collected: sessions are opened, and the bids of the input are read and added.
+#![tactic(auto)]
+
 ghost use Rattle.std.specs.Prelude.{◌≡◌, ◌*◌, ◌≤◌, length, drop};
 ghost use Rattle.sharing.specs.Scheme.{threshold};
 ghost use Rattle.auction.specs.Auction.{IsAuction};

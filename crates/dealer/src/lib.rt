@@ -1,5 +1,7 @@
 // Dealing the preprocessing of one probe (the paper's dealer): one party's shares of the mask, of
 // the mask's bits, and of the triples that products are made with.
+#![tactic(auto)]
+
 ghost use Rattle.std.specs.Prelude.{◌≡◌, ◌∷◌, ◌+◌, ◌*◌, ◌≤◌, ◌<◌, length, take, drop};
 ghost use Rattle.fields.specs.Byte.{bytes};
 ghost use Rattle.fields.specs.Table.{Tables};

@@ -1,1 +1,2 @@
 // Numbers as decimal digits: definitions in specs/, their laws in proofs/, and no code.
+#![tactic(auto)]

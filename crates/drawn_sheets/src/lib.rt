@@ -1,4 +1,6 @@
 // The preprocessing: one set of draws per sheet, dealt to each party.
+#![tactic(auto)]
+
 ghost use Rattle.std.specs.Prelude.{◌≡◌, ◌∷◌, ◌+◌, ◌-◌, ◌*◌, ◌%◌, ◌^◌, ◌≤◌, length};
 ghost use Rattle.sharing.specs.Scheme.{threshold};
 ghost use Rattle.search.specs.Limit.{most_probes};

@@ -1,4 +1,6 @@
 // Draws: Marsaglia's xorshift64. What is drawn are the low bits of the next state.
+#![tactic(auto)]
+
 ghost use Rattle.std.specs.Prelude.{◌≡◌, ◌+◌, ◌^◌, ◌<◌, length};
 ghost use Rattle.draws.specs.Draws.{next, first_state, next_coin, later, drawn_coins, drawn_bytes};
 

@@ -1,5 +1,7 @@
 // The entries of the settlement page: each bid of the input is read again, and its buyer's hours are
 // asked for.
+#![tactic(auto)]
+
 ghost use Rattle.std.specs.Prelude.{◌≡◌, ◌*◌, ◌≤◌, length, drop};
 ghost use Rattle.sections.specs.Sections.{tables};
 ghost use Rattle.entering.specs.Entries.{entries, hours_told};

@@ -2,6 +2,8 @@
 // Each answers 0, or the refusal's number, and writes what it gives into what it is lent; a refused call
 // changes nothing that is lent. Beside them stands the version, by which a caller tells that the library is
 // the one that it was written for.
+#![tactic(auto)]
+
 ghost use Rattle.std.specs.Prelude.{◌≡◌};
 ghost use Rattle.bid.specs.Split.{split_left};
 ghost use Rattle.bid.specs.Entry.{split_entry_left};

@@ -1,4 +1,6 @@
 // What a buyer gets at the price, once the totals there are open.
+#![tactic(auto)]
+
 ghost use Rattle.std.specs.Prelude.{◌≡◌, ◌^◌, ◌≤◌, ◌<◌};
 ghost use Rattle.bid.specs.Table.{most};
 ghost use Rattle.record.specs.Record.{sound};
@@ -12,7 +14,7 @@ use refusal::Refusal;
 const OPEN: u64 = 36;
 
 // The tenths of an hour that the buyer gets, and the remainder of the division.
-#[derive(Drop)]
+#[derive(Clone, Copy)]
 pub enum Filled {
     Hours(u64, u64),
     Refused(Refusal),

@@ -1,5 +1,7 @@
 // A round, heard by a party that has listened to it: what its messages open to is judged, and the record is stepped where its words
 // stand.
+#![tactic(auto)]
+
 ghost use Rattle.std.specs.Prelude.{◌≡◌, true, false, ◌*◌, length};
 ghost use Rattle.refusal.specs.Judging.{kept};
 ghost use Rattle.presence.specs.Presence.{all_or};

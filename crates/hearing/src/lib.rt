@@ -1,4 +1,6 @@
 // Hearing a round: it is judged, and the record is stepped by it, where its words stand or by value.
+#![tactic(auto)]
+
 ghost use Rattle.std.specs.Prelude.{◌≡◌, length};
 ghost use Rattle.refusal.specs.Judging.{kept};
 ghost use Rattle.record_words.specs.Words.{record_size, words_of, party_of, stored};

@@ -1,9 +1,11 @@
 // The pair shares that a party keeps from level to level of a probe in seven rounds.
+#![tactic(auto)]
+
 ghost use Rattle.std.specs.Prelude.{◌≡◌, ◌<◌, get_or};
 ghost use Rattle.kept_pairs.specs.Pairs.{none};
 
 // Of at most 16 pairs the top's share and the bottom's, in list order; 0 where there is none.
-#[derive(Drop)]
+#[derive(Clone, Copy)]
 pub struct Pairs {
     pub words: [u64; 32],
 }

@@ -1,4 +1,6 @@
 // A level of a probe in seven rounds, as a party makes it: what it says, and the pair shares that it keeps.
+#![tactic(auto)]
+
 ghost use Rattle.std.specs.Prelude.{◌≡◌, ◌+◌, ◌*◌, ◌<◌, ◌≤◌, length, get_or};
 ghost use Rattle.fields.specs.Table.{Tables};
 ghost use Rattle.ways.specs.Way.{tree, width};

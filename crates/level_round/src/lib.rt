@@ -1,4 +1,6 @@
 // What a level's messages open to, product by product, and the pair shares that a party then keeps.
+#![tactic(auto)]
+
 ghost use Rattle.std.specs.Prelude.{◌≡◌, true, cond, map, ◌*◌, ◌≤◌, ◌<◌, ltb, length, take, replicate};
 ghost use Rattle.ranges.specs.Lists.{every};
 ghost use Rattle.fields.specs.Table.{Tables};
@@ -19,7 +21,7 @@ use ranges::all_below;
 use ways::width;
 
 // Whether all products opened, and the pair shares that are kept.
-#[derive(Drop)]
+#[derive(Clone, Copy)]
 pub struct LevelHeard {
     pub opened: bool,
     pub pairs: Pairs,

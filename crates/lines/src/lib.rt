@@ -1,4 +1,6 @@
 // Lines of text read as whole numbers: any bytes are lines, and each is a number or misshapen.
+#![tactic(auto)]
+
 mod line;
 mod numbers;
 

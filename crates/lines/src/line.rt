@@ -8,14 +8,14 @@ const NEWLINE: u8 = 10;
 
 // A line of the input. Where the input has ended there is no number either, so that reads as a
 // misshapen line.
-#[derive(Drop)]
+#[derive(Clone, Copy)]
 pub enum Line {
     Number(u64),
     Misshapen,
 }
 
 // What has been read of a line.
-#[derive(Drop)]
+#[derive(Clone, Copy)]
 pub enum Part {
     Empty,
     Digits(u64),
@@ -23,7 +23,7 @@ pub enum Part {
 }
 
 // A line, and where the next one begins.
-#[derive(Drop)]
+#[derive(Clone, Copy)]
 pub struct LineRead {
     pub line: Line,
     pub next: usize,

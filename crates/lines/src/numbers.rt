@@ -5,7 +5,7 @@ ghost use Rattle.lines.specs.Lines.{line_value, shaped, past, first_line, number
 use crate::line::{Line, read_line};
 
 // How many lines were numbers before the first that was not, and where the next line begins.
-#[derive(Drop)]
+#[derive(Clone, Copy)]
 pub struct Numbers {
     pub formed: usize,
     pub next: usize,

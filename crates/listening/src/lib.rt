@@ -1,5 +1,7 @@
 // Listening to a round: its messages, party by party, and n marks of who was present. What is judged of them before they
 // are opened, and of what they open to. The words of those who were not present change nothing.
+#![tactic(auto)]
+
 ghost use Rattle.std.specs.Prelude.{◌≡◌, true, false, ◌&&◌, ◌-◌, ◌*◌, ◌≤◌, ltb, leb, length, take, drop};
 ghost use Rattle.ranges.specs.Lists.{every, same};
 ghost use Rattle.ranges.specs.Sizes.{long};

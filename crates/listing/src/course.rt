@@ -16,7 +16,7 @@ pub const ROOM: usize = 2048;
 
 // How the auction went: so many probes of both searches, each with its index and its verdict, the
 // index that clears, and total demand and total supply there.
-#[derive(Drop)]
+#[derive(Clone, Copy)]
 pub struct Course {
     pub probes: u64,
     pub index: [u64; PROBES],

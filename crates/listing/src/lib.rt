@@ -1,4 +1,6 @@
 // The listing, written line by line into a lent buffer.
+#![tactic(auto)]
+
 mod course;
 mod text;
 

@@ -1,4 +1,6 @@
 // Lowering the degree of a polynomial by lines through its words: amounts, or words of two bytes.
+#![tactic(auto)]
+
 mod amount;
 mod byte;
 

@@ -1,4 +1,6 @@
 // What a party says in a round in which it says one word, of a sheet that it is given. (In a level it says several: `level`.)
+#![tactic(auto)]
+
 mod sheet;
 mod word;
 

@@ -1,5 +1,7 @@
 // What the words of all n open to, where many openings are made at once. What a byte brings to the sums of an opening
 // is additive in it, so it is read from two rows, one for its low four bits and one for its high four.
+#![tactic(auto)]
+
 ghost use Rattle.std.specs.Prelude.{◌≡◌, ◌*◌, ◌≤◌, ◌<◌, length};
 ghost use Rattle.fields.specs.Table.{Tables};
 ghost use Rattle.opening_rows.specs.Rows.{Brings, RowTo, RowsOf, Doubled, Spread};

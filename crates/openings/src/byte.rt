@@ -16,7 +16,7 @@ use sharing::threshold;
 use weights::byte_row;
 
 // What the lowest bytes of n words open to, and what is above them.
-#[derive(Drop)]
+#[derive(Clone, Copy)]
 pub struct Pair {
     pub low: Opening,
     pub high: Opening,
@@ -71,7 +71,7 @@ fn secret_of(small: bool, all: u64) -> Opening
     Opening::Inconsistent
 }
 
-#[derive(Drop)]
+#[derive(Clone, Copy)]
 struct Summed {
     low: u64,
     high: u64,

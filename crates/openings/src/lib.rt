@@ -1,4 +1,6 @@
 // Opening all n shares, in both fields.
+#![tactic(auto)]
+
 mod amount;
 mod byte;
 mod opening;

@@ -6,7 +6,7 @@ use ranges::all_below;
 
 // The value at 0 of the polynomial through the words, or that no polynomial of degree at most t
 // passes through them all.
-#[derive(Drop)]
+#[derive(Clone, Copy)]
 pub enum Opening {
     Secret(u64),
     Inconsistent,

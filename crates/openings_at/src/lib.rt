@@ -1,5 +1,7 @@
 // Opening words at any different points, amounts or bytes: they are lowered by lines until they are to agree. What
 // is left of the words is of no further use.
+#![tactic(auto)]
+
 ghost use Rattle.std.specs.Prelude.{◌≡◌, cond, map, ◌/◌, ◌%◌, ◌<◌, length};
 ghost use Rattle.fields.specs.Amount.{amounts};
 ghost use Rattle.fields.specs.Byte.{bytes};

@@ -1,4 +1,6 @@
 // A round of all parties: each says its words, and all words go to each party's hearing.
+#![tactic(auto)]
+
 mod rounds;
 mod turns;
 

@@ -9,7 +9,7 @@ use lines::{Line, read_line};
 use sections::{Fault, read_bids, read_prices, read_seeds};
 
 // An accepted input: its counts, the seeds' exclusive or, and where its prices and bids begin.
-#[derive(Drop)]
+#[derive(Clone, Copy)]
 pub struct Shape {
     pub n: u64,
     pub seed: u64,
@@ -19,7 +19,7 @@ pub struct Shape {
     pub bids_at: usize,
 }
 
-#[derive(Drop)]
+#[derive(Clone, Copy)]
 pub enum Judged {
     // the refusal's number, and the first faulty line's
     Faulty(u64, u64),

@@ -1,4 +1,6 @@
 // The rehearsal's input: its lines judged section by section, in order, before anything is run.
+#![tactic(auto)]
+
 mod judging;
 
 pub use judging::{Judged, Shape, judge};

@@ -4,7 +4,7 @@ ghost use Rattle.ranges.specs.Lists.{from};
 ghost use Rattle.presence.specs.Presence.{of_present};
 
 // Up to nine parties, by their numbers, and the word of each.
-#[derive(Drop)]
+#[derive(Clone, Copy)]
 pub struct Gathered {
     pub count: usize,
     pub parties: [u64; 9],

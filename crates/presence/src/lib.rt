@@ -1,4 +1,6 @@
 // Who was present in a round: n marks, 1 for one who was and 0 for one who was not.
+#![tactic(auto)]
+
 ghost use Rattle.std.specs.Prelude.{◌≡◌, cond};
 ghost use Rattle.presence.specs.Presence.{are_marks, how_many};
 
@@ -7,7 +9,7 @@ mod gathering;
 pub use gathering::{Gathered, gather};
 
 // What the marks of a round come to.
-#[derive(Drop)]
+#[derive(Clone, Copy)]
 pub struct Tally {
     // whether each is 0 or 1
     pub marks: bool,

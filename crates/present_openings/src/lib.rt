@@ -1,4 +1,6 @@
 // Opening the shares of those who were present, in both fields.
+#![tactic(auto)]
+
 mod present;
 mod words;
 

@@ -17,7 +17,7 @@ use session::{Answer, answer};
 use total_rounds::open_totals;
 
 // How the auction went, and the record of party 1, whose session is over.
-#[derive(Drop)]
+#[derive(Clone, Copy)]
 pub struct Ended {
     pub course: Course,
     pub party: Party,

@@ -1,4 +1,6 @@
 // What words and numbers are judged by: their ranges and their order.
+#![tactic(auto)]
+
 mod lists;
 mod parties;
 mod steps;

@@ -1,4 +1,6 @@
 // A party's record: all that a session is, but for the words it is lent.
+#![tactic(auto)]
+
 ghost use Rattle.std.specs.Prelude.{◌≡◌, length};
 ghost use Rattle.record.specs.Record.{are_totals, round_sound, sound, ended, blank};
 
@@ -17,7 +19,7 @@ const TOTALS: u64 = 1 << 32;
 
 // Every number is wide enough to be wrong, and the roll is any 16 words; every call judges the record
 // whole.
-#[derive(Drop)]
+#[derive(Clone, Copy)]
 pub struct Party {
     pub n: u64,
     pub own: u64,
@@ -42,7 +44,7 @@ pub struct Party {
 }
 
 // How a call was judged, and the record afterwards: as it was, where the call is refused.
-#[derive(Drop)]
+#[derive(Clone, Copy)]
 pub struct Reply {
     pub judgement: Judgement,
     pub party: Party,

@@ -1,6 +1,8 @@
 // The calls on a record that is lent as its words, but for those of a round, with their replies as numbers. Where no record is lent,
 // what needs none is judged all the same: each call gives the lowest number that applies. The record is judged
 // where it stands before it is read: so no copy of it is made for that.
+#![tactic(auto)]
+
 ghost use Rattle.std.specs.Prelude.{◌≡◌};
 ghost use Rattle.record_calls.specs.Calls.{open_code, open_totals, open_record, add_code, add_totals, add_record, answer_code, answer_index, answer_probes, fill_code, fill_hours, fill_remainder};
 

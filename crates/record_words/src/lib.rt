@@ -1,6 +1,8 @@
 // A party's record as the host holds it: 64 words. Ten numbers, then the roll's 16, then which search
 // is on, what the first gave and its probes, then total demand and total supply, then the last round of
 // a probe and the 32 kept pair shares: what came later stands later, so that the others stay in their places.
+#![tactic(auto)]
+
 ghost use Rattle.std.specs.Prelude.{◌≡◌, cond, ◌++◌, length, take, drop};
 ghost use Rattle.refusal.specs.Refusal.{code_of};
 ghost use Rattle.ranges.specs.Sizes.{long};

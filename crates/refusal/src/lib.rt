@@ -1,9 +1,11 @@
 // Why a call is refused. The list is open at its end: a later refusal is one more case here, and
 // otherwise concerns only the calls that give it.
+#![tactic(auto)]
+
 ghost use Rattle.std.specs.Prelude.{◌≡◌};
 ghost use Rattle.refusal.specs.Refusal.{number_of, code_of};
 
-#[derive(Drop)]
+#[derive(Clone, Copy)]
 pub enum Refusal {
     OutOfRange,
     WrongLength,
@@ -27,7 +29,7 @@ pub enum Refusal {
 }
 
 // What judging a call finds, and the reply of a call that only writes to what it is lent.
-#[derive(Drop)]
+#[derive(Clone, Copy)]
 pub enum Judgement {
     Accepted,
     Refused(Refusal),

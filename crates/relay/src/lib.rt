@@ -1,4 +1,6 @@
 // The rehearsal or the settlement of what one descriptor gives, written to another.
+#![tactic(auto)]
+
 use listing::ROOM;
 use settling::PAGE;
 

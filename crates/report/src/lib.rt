@@ -1,4 +1,6 @@
 // A line of a test program: its title, the values after it, and its end.
+#![tactic(auto)]
+
 use libc::STDOUT_FILENO;
 
 pub fn title(text: &[u8]) {

@@ -1,10 +1,12 @@
 // Who is in: one mark for each bidder.
+#![tactic(auto)]
+
 ghost use Rattle.std.specs.Prelude.{◌≡◌, not, ◌≤◌, length};
 ghost use Rattle.ranges.specs.Lists.{from, every, count};
 ghost use Rattle.roll.specs.Marks.{is_bidder, is_set, marked, marks, proper, empty, mark};
 
 // Bidder b's mark is bit b % 64 of word b / 64.
-#[derive(Drop)]
+#[derive(Clone, Copy)]
 pub struct Roll {
     pub words: [u64; 16],
 }

@@ -1,10 +1,12 @@
 // A round's messages, and what those of the parties who were present open to.
+#![tactic(auto)]
+
 mod messages;
 
 pub use messages::{open_round, sum_outside, unopened, verdict_outside};
 
 // What the messages of a round open to.
-#[derive(Drop)]
+#[derive(Clone, Copy)]
 pub enum Heard {
     // round 1: T
     Sum(u64),

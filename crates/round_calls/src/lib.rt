@@ -1,5 +1,7 @@
 // The calls of a round on a record that is lent as its words, with their replies as numbers. Where no record is lent, what needs
 // none is judged all the same.
+#![tactic(auto)]
+
 ghost use Rattle.std.specs.Prelude.{◌≡◌};
 ghost use Rattle.round_calls.specs.Calls.{say_code, say_messages, hear_code, hear_record};
 

@@ -1,4 +1,6 @@
 // The auction of an accepted input, by the calls alone.
+#![tactic(auto)]
+
 ghost use Rattle.std.specs.Prelude.{◌≡◌, ◌*◌, ◌≤◌, length, drop};
 ghost use Rattle.search.specs.Limit.{most_probes};
 ghost use Rattle.auction.specs.Auction.{IsAuction};

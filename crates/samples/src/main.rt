@@ -1,5 +1,7 @@
 // Rehearses the samples that stand in its folder, and writes each one's name above its listing.
 // What it must write was worked out apart from this code.
+#![tactic(auto)]
+
 fn show(name: &[u8]) {
     io::write_all(1, name);
     io::write_all(1, b"\n");

@@ -1,4 +1,6 @@
 // Saying: the words of a party's round. It changes nothing but the slice that is lent for them.
+#![tactic(auto)]
+
 ghost use Rattle.std.specs.Prelude.{◌≡◌, true, false, ◌&&◌, ◌*◌, length};
 ghost use Rattle.refusal.specs.Judging.{kept};
 ghost use Rattle.ranges.specs.Sizes.{long};

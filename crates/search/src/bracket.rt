@@ -4,7 +4,7 @@ ghost use Rattle.search.specs.Bracket.{middle, over, raise, lower, step};
 ghost use Rattle.search.specs.Limit.{limit, most_probes};
 
 // What is sought lies between lo and hi.
-#[derive(Drop)]
+#[derive(Clone, Copy)]
 pub struct Bracket {
     pub lo: u64,
     pub hi: u64,

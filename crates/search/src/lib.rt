@@ -1,6 +1,7 @@
 // The price search. A bracket of indices is narrowed by each verdict until its ends are neighbours. Two
 // searches of this kind follow one another: the first for the highest price, the second for the lowest
 // price that is balanced with it.
+#![tactic(auto)]
 
 mod bracket;
 mod searches;

@@ -4,7 +4,7 @@ ghost use Rattle.search.specs.Searches.{side, moves_lo, turned, next, finished, 
 
 use crate::bracket::{Bracket, limit, middle, over, step};
 
-#[derive(Drop)]
+#[derive(Clone, Copy)]
 pub struct Search {
     // which one is on, 1 or 2
     pub which: u64,

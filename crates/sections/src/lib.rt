@@ -1,4 +1,6 @@
 // The sections of the rehearsal's input: seeds, prices and bids, each read whole and judged.
+#![tactic(auto)]
+
 mod reading;
 mod table;
 

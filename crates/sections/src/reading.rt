@@ -7,14 +7,14 @@ use crate::table::{Fault, rising, table_fault, xor_of};
 use lines::read_numbers;
 
 // What judging bids finds, and where the next line begins.
-#[derive(Drop)]
+#[derive(Clone, Copy)]
 pub struct BidsRead {
     pub fault: Fault,
     pub next: usize,
 }
 
 // How many seeds are numbers before the first line that is none, and their exclusive or.
-#[derive(Drop)]
+#[derive(Clone, Copy)]
 pub struct SeedsRead {
     pub formed: usize,
     pub xor: u64,
@@ -22,7 +22,7 @@ pub struct SeedsRead {
 }
 
 // How many prices are good before the first that is not.
-#[derive(Drop)]
+#[derive(Clone, Copy)]
 pub struct PricesRead {
     pub good: usize,
     pub next: usize,

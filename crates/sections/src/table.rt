@@ -7,7 +7,7 @@ use bid::MOST;
 use ranges::{HIGHEST_PRICE, first_bend};
 
 // A refusal's number, and the line that it names.
-#[derive(Drop)]
+#[derive(Clone, Copy)]
 pub enum Fault {
     None,
     At(u64, u64),

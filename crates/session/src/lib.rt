@@ -1,4 +1,6 @@
 // A session of a party (the paper's keeper): the calls that open it, add a bid and ask for its answer.
+#![tactic(auto)]
+
 mod adding;
 mod answering;
 mod opening;

@@ -2,7 +2,7 @@
 use refusal::Refusal;
 
 // The price index, 0 for no price, and how many probes were made.
-#[derive(Drop)]
+#[derive(Clone, Copy)]
 pub enum Answer {
     Cleared(u64, u64),
     Refused(Refusal),

@@ -1,5 +1,7 @@
 // The settlement page (the paper's week's result on a board): a line for each side of each bidder that
 // wants any hours, written from the entries and read back.
+#![tactic(auto)]
+
 mod entries;
 mod reading;
 mod writing;

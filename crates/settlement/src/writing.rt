@@ -9,7 +9,7 @@ use refusal::Refusal;
 use settlement_page::{LINE, put_line};
 
 // How many bytes the lines take, their newlines too.
-#[derive(Drop)]
+#[derive(Clone, Copy)]
 pub enum Written {
     Bytes(u64),
     Refused(Refusal),

@@ -1,4 +1,6 @@
 // The lines of the settlement page: one is written, or read again.
+#![tactic(auto)]
+
 mod columns;
 mod line;
 

@@ -93,7 +93,7 @@ fn begins(page: &[u8], pair: u64) -> bool
 
 // What the page goes on with at a pair: nothing of it, or the line of the amounts that it shows. A line
 // that is the pair's and shows other bytes does not fit.
-#[derive(Drop)]
+#[derive(Clone, Copy)]
 pub struct PairRead {
     pub fits: bool,
     pub wanted: u64,

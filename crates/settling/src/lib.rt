@@ -1,4 +1,6 @@
 // From the bytes of the input to its settlement page.
+#![tactic(auto)]
+
 ghost use Rattle.std.specs.Prelude.{◌≡◌, length, replicate};
 ghost use Rattle.refusal.specs.declared.Judgement.TheVariants.{Accepted};
 ghost use Rattle.settlement_page.specs.Page.{layout};

@@ -1,4 +1,6 @@
 // The calls that take no record, with their replies as numbers.
+#![tactic(auto)]
+
 ghost use Rattle.std.specs.Prelude.{◌≡◌};
 ghost use Rattle.bid.specs.Split.{split_left};
 ghost use Rattle.bid.specs.Entry.{split_entry_left};

@@ -1,4 +1,6 @@
 // What a heard round makes of the record.
+#![tactic(auto)]
+
 ghost use Rattle.std.specs.Prelude.{◌≡◌, true, cond, ◌+◌, ◌^◌, ◌<◌, ◌≤◌, ltb, eqb, length, drop};
 ghost use Rattle.ranges.specs.Lists.{every};
 ghost use Rattle.record.specs.Record.{sound};

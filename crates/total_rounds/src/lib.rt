@@ -1,4 +1,6 @@
 // Rounds 34 and 35 of all parties, in which total demand and total supply at the price are opened.
+#![tactic(auto)]
+
 ghost use Rattle.std.specs.Prelude.{◌≡◌, not, ◌*◌, ◌≤◌, length};
 ghost use Rattle.search.specs.Limit.{most_probes};
 ghost use Rattle.record.specs.Record.{ended};

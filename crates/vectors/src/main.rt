@@ -1,5 +1,7 @@
 // Runs worked examples and edge values through the crates and prints what they give, a line a
 // group. The expected output is in the file stdout: it was worked out apart from this code.
+#![tactic(auto)]
+
 mod line;
 mod of_hearing;
 mod of_presence;

@@ -1,4 +1,6 @@
 // The two ways to a verdict: by the last round of a probe, 33 or 7.
+#![tactic(auto)]
+
 ghost use Rattle.std.specs.Prelude.{◌≡◌, ◌*◌, ◌^◌, ◌≤◌, ◌<◌};
 ghost use Rattle.ways.specs.Way.{is_way, way_of, triples_of, sheet_size, drawn_size, width};
 

@@ -1,4 +1,6 @@
 // The weights of an opening: in each field a table with a row for each count of parties.
+#![tactic(auto)]
+
 mod amount;
 mod byte;
 

@@ -1,4 +1,6 @@
 // Lines of a party's calls, all but hearing.
+#![tactic(auto)]
+
 mod line;
 mod of_adding;
 mod of_bidders;

@@ -11,7 +11,7 @@ use record::Party;
 const SUMS: u64 = (1 << 59) + (1 << 33);
 
 // A party's record and its two totals.
-#[derive(Drop)]
+#[derive(Clone, Copy)]
 pub(crate) struct Book {
     pub(crate) party: Party,
     totals: [u64; 2],

@@ -1,4 +1,6 @@
 // Lines of whole sessions.
+#![tactic(auto)]
+
 mod of_sessions;
 
 pub use of_sessions::print;

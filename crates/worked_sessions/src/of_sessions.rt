@@ -22,14 +22,14 @@ use ways::{drawn_bytes, sheets_words, width};
 
 const MAX: u64 = 0xffff_ffff_ffff_ffff;
 
-#[derive(Drop)]
+#[derive(Clone, Copy)]
 struct Bid {
     bidder: u64,
     table: [u64; 8],
 }
 
 // The last round of a probe, and whether the last party is away in rounds 4 to 6.
-#[derive(Drop)]
+#[derive(Clone, Copy)]
 struct Kind {
     last: u64,
     away: bool,

@@ -1,4 +1,6 @@
 // Lines of worked shares: a bid's, whole and entry by entry, and a sheet's, with their limits.
+#![tactic(auto)]
+
 mod of_bid;
 mod of_dealer;
 mod of_entry;

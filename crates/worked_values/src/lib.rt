@@ -1,5 +1,7 @@
 // Lines of worked values: refusals' numbers, both fields, sharing, the price search, and what is counted
 // by the last round of a probe.
+#![tactic(auto)]
+
 mod of_fields;
 mod of_refusals;
 mod of_search;
