@@ -1,7 +1,8 @@
 // A line of a test program: its title, the values after it, and its end.
 #![tactic(auto)]
 
-use libc::STDOUT_FILENO;
+// Standard output's descriptor.
+const STDOUT_FILENO: i32 = 1;
 
 pub fn title(text: &[u8]) {
     io::write_all(STDOUT_FILENO, text);
