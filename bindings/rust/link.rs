@@ -1,5 +1,5 @@
 //! Links an archive of the verified library, for a build script. It is taken from the
-//! folder that CLOCKIVY_LIB_DIR names, or else from where `rt staticlib` writes it.
+//! folder that CLOCKIVY_LIB_DIR names, or else from where `tools/staticlib` writes it.
 
 use std::env;
 use std::path::{Path, PathBuf};
@@ -23,7 +23,7 @@ pub fn archive(names: &[&str], top: &str) {
     }
     let Some(name) = names.iter().find(|name| file(name).is_file()) else {
         println!(
-            "cargo:warning={} is not there: run `rt staticlib {name}` at the top of the \
+            "cargo:warning={} is not there: run `tools/staticlib {name}` at the top of the \
              repository, or set CLOCKIVY_LIB_DIR to the folder that holds the library",
             file(names[0]).display(),
             name = names[0],

@@ -59,7 +59,7 @@ module _ {A B : Type 0} (f : A → Option B) where
   -- what is read off an entry that is there
   pub read_there : (x : A) (y : B) → f x ≡ some y → (l : List A) → Memᴰ x l → Memᴰ y (collect f l)
   unfolding collect
-  read_there x y e [] m = absurd (Memᴰ.not_nil m)
+  read_there x y e [] m = absurd (Memᴰ.not-nil m)
   read_there x y e (z ∷ l) m = go (read_there x y e l) (Memᴰ.cases_cons m)
     where
       go : (Memᴰ x l → Memᴰ y (collect f l)) → (x ≡ z) ⊎ Memᴰ x l → Memᴰ y (with_read (f z) (collect f l))

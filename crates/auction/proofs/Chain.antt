@@ -338,7 +338,7 @@ module _ (a : Auction) (c : Coins) (marks : Marks) (att : Attendance) where
       pub chain_sayings : {σ τ : Stage} {rs : List Turn} → Chain a c σ rs τ → (round : ℕ) → Enoughs round (length rs)
           → (x : Saying) → Memᴰ x (collect saying_in (own j (calls round rs))) → (i : ℕ) × At (map (saying_of a c j) rs) i x
       unfolding calls collect select
-      chain_sayings done round E x m = absurd (Memᴰ.not_nil m)
+      chain_sayings done round E x m = absurd (Memᴰ.not-nil m)
       chain_sayings (round_on {σ} {w} {o} {rs} s r) round E x m =
           let this : Turn = record { stage = σ; words = w; opening = o } in
           found_at (saying_of a c j this) x _ (map (saying_of a c j) rs) (says_word marks att round j)

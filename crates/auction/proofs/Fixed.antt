@@ -49,8 +49,8 @@ record Chosen (present : List ℕ) (a m j : ℕ) : Type 0 where
 
 in_present : (present : List ℕ) (a m j : ℕ) → In j (choose (marked present) (from a m)) → Chosen present a m j
 unfolding from
-in_present [] a m j i = absurd (Memᴰ.not_nil i)
-in_present (p ∷ ps) a zero j i = absurd (Memᴰ.not_nil i)
+in_present [] a m j i = absurd (Memᴰ.not-nil i)
+in_present (p ∷ ps) a zero j i = absurd (Memᴰ.not-nil i)
 in_present (p ∷ ps) a (suc m) j i = go (eqb 1 p) refl (in_present ps (suc a) m j) i
   where
     later : Chosen ps (suc a) m j → Chosen (p ∷ ps) a (suc m) j

@@ -60,7 +60,7 @@ pub record Match (a b : Auction) (xs : List ℕ) (c : Coins) : Type 0 where
 
 -- a party's number is one of the field
 in_field : (xs : List ℕ) → Different xs → (j : ℕ) → In j xs → j < p
-in_field [] D j i = absurd (Memᴰ.not_nil i)
+in_field [] D j i = absurd (Memᴰ.not-nil i)
 in_field (x ∷ xs) D j i = go (in_field xs D.2 j) (Memᴰ.cases_cons i)
   where
     go : (In j xs → j < p) → (j ≡ x) ⊎ In j xs → j < p

@@ -42,7 +42,7 @@ canonical_run a c marks desk D att T =
       attends = T;
       parties = λ j. repeats_refl (own j (canonical a c marks desk att));
       others = shuffle_refl (services (canonical a c marks desk att));
-      fleets = λ q amount m. absurd (Memᴰ.not_nil (subst (Memᴰ (fill_call q amount)) (no_fills a c marks desk att) m));
+      fleets = λ q amount m. absurd (Memᴰ.not-nil (subst (Memᴰ (fill_call q amount)) (no_fills a c marks desk att) m));
     }
 
 -- each of its entries in turn, or in any order, on any slice: so is a bundle written in some run

@@ -121,7 +121,7 @@ few_more false = omega arith
 
 -- a pooled party is one of the n
 pooled : (n j : ℕ) (xs : List ℕ) → Distinct n xs → Memᴰ j xs → (1 ≤ j) × (j ≤ n)
-pooled n j [] P m = absurd (Memᴰ.not_nil m)
+pooled n j [] P m = absurd (Memᴰ.not-nil m)
 pooled n j (x ∷ xs) P m =
     ⊎_elim (λ e. (subst (λ (z : ℕ). 1 ≤ z) (sym e) P.0, subst (λ (z : ℕ). z ≤ n) (sym e) P.1)) (λ m'. pooled n j xs P.3 m') (Memᴰ.cases_cons m)
 
@@ -288,7 +288,7 @@ module _ (a : Auction) (c : Coins) (A : IsAuction a) (C : InRange a c) (marks : 
       ]
     where
       nobody : (1 ≤ j → j ≤ a.n → ⊥) → ⊥
-      nobody outside = Memᴰ.not_nil (subst (Memᴰ (answer_call q)) (none_told j a c marks run.desk run.attendance outside) asks)
+      nobody outside = Memᴰ.not-nil (subst (Memᴰ (answer_call q)) (none_told j a c marks run.desk run.attendance outside) asks)
 
   asked_with : Memᴰ q (askings j (told run))
   unfolding asking_in
@@ -300,8 +300,8 @@ module _ (a : Auction) (c : Coins) (A : IsAuction a) (C : InRange a c) (marks : 
       (subst (Memᴰ q) (canonical_askings a c A C marks M run.desk run.complete run.attendance j one_of_n.0 one_of_n.1) asked_with)
     where
       only : (b : Bool) → Memᴰ q (cond b (record_at a c (end a c) j ∷ []) []) → q ≡ record_at a c (end a c) j
-      only true m = ⊎_elim (λ e. e) (λ m'. absurd (Memᴰ.not_nil m')) (Memᴰ.cases_cons m)
-      only false m = absurd (Memᴰ.not_nil m)
+      only true m = ⊎_elim (λ e. e) (λ m'. absurd (Memᴰ.not-nil m')) (Memᴰ.cases_cons m)
+      only false m = absurd (Memᴰ.not-nil m)
 
   asked_by : FleetTold a q
   asked_by = subst (FleetTold a) (sym asked_last) (fleet_told a c A C j one_of_n.0 one_of_n.1)

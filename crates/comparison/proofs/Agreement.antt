@@ -40,7 +40,7 @@ module _ {A : Type 0} (f g : ℕ → A) where
       ap₂ (λ (z : A) (zs : List A). z ∷ zs) (h x (Memᴰ.head refl)) (map_same xs (λ y m. h y (Memᴰ.tail m)))
 
   pub same_map : (xs : List ℕ) → map f xs ≡ map g xs → (x : ℕ) → In x xs → f x ≡ g x
-  same_map [] e x m = absurd (Memᴰ.not_nil m)
+  same_map [] e x m = absurd (Memᴰ.not-nil m)
   same_map (y ∷ ys) e x m = go (same_map ys (tail-eq_of_cons-eq e) x) (Memᴰ.cases_cons m)
     where
       go : (In x ys → f x ≡ g x) → (x ≡ y) ⊎ In x ys → f x ≡ g x
@@ -48,7 +48,7 @@ module _ {A : Type 0} (f g : ℕ → A) where
       go h (inr i) = h i
 
 pub in_below : (xs : List ℕ) → Different xs → (x : ℕ) → In x xs → x < 10
-in_below [] D x m = absurd (Memᴰ.not_nil m)
+in_below [] D x m = absurd (Memᴰ.not-nil m)
 in_below (y ∷ ys) D x m = go (in_below ys D.2 x) (Memᴰ.cases_cons m)
   where
     go : (In x ys → x < 10) → (x ≡ y) ⊎ In x ys → x < 10
@@ -57,7 +57,7 @@ in_below (y ∷ ys) D x m = go (in_below ys D.2 x) (Memᴰ.cases_cons m)
 
 in_from : (a m x : ℕ) → In x (from a m) → (a ≤ x) × (x < a + m)
 unfolding from
-in_from a zero x i = absurd (Memᴰ.not_nil i)
+in_from a zero x i = absurd (Memᴰ.not-nil i)
 in_from a (suc m) x i = go (in_from (suc a) m x) (Memᴰ.cases_cons i)
   where
     go : (In x (from (suc a) m) → (suc a ≤ x) × (x < suc a + m)) → (x ≡ a) ⊎ In x (from (suc a) m) → (a ≤ x) × (x < a + suc m)
@@ -65,7 +65,7 @@ in_from a (suc m) x i = go (in_from (suc a) m x) (Memᴰ.cases_cons i)
     go h (inr i) = let r : (suc a ≤ x) × (x < suc a + m) = h i in (omega arith, omega arith)
 
 in_take : (m : ℕ) (xs : List ℕ) (x : ℕ) → In x (take m xs) → In x xs
-in_take zero xs x i = absurd (Memᴰ.not_nil i)
+in_take zero xs x i = absurd (Memᴰ.not-nil i)
 in_take (suc m) [] x i = i
 in_take (suc m) (y ∷ ys) x i = go (in_take m ys x) (Memᴰ.cases_cons i)
   where

@@ -2,78 +2,105 @@
 // What it must write was worked out apart from this code.
 #![tactic(auto)]
 
-fn show(name: &[u8]) {
-    io::write_all(1, name);
-    io::write_all(1, b"\n");
-    let file = os::open_read(name);
-    relay::rehearse_between(file, 1);
-    libc::close(file);
+ghost use Rattle.std.specs.Prelude.{◌≤◌, length, IfOk};
+
+use std::fs;
+use std::fs::File;
+use std::io::{Read, Result};
+
+use relay::INPUT;
+
+// Reads until the input is full or the file ends, and returns how many bytes were put at its start.
+fn read_full(file: &mut File, input: &mut [u8]) -> Result<usize>
+    ensures { IfOk result (λ n. n ≤ length input.new) }
+{
+    let mut got = 0;
+    for _ in 0..u64::MAX {
+        let n = file.read(&mut input[got..])?;
+        if n == 0 {
+            break;
+        }
+        got += n;
+    }
+    Ok(got)
 }
 
-fn main() {
-    show(b"paper.txt");
-    show(b"no_price.txt");
-    show(b"clears_at_k.txt");
-    show(b"no_bids.txt");
-    balanced();
-    show(b"largest.txt");
-    show(b"refused.txt");
-    edges();
+fn show(rt: &HostRuntime, name: &str) -> Result<()> {
+    io::write_all(1, name.as_bytes());
+    io::write_all(1, b"\n");
+    let mut file = fs::open(rt, name)?;
+    let mut input = [0u8; INPUT];
+    let got = read_full(&mut file, &mut input)?;
+    relay::rehearse_read(&input[..got], 1);
+    Ok(())
+}
+
+fn main(rt: HostRuntime) -> Result<()> {
+    show(&rt, "paper.txt")?;
+    show(&rt, "no_price.txt")?;
+    show(&rt, "clears_at_k.txt")?;
+    show(&rt, "no_bids.txt")?;
+    balanced(&rt)?;
+    show(&rt, "largest.txt")?;
+    show(&rt, "refused.txt")?;
+    edges(&rt)
 }
 
 // Demand equals supply at several neighbouring prices: an odd and an even number of them, and at either
 // end of the list.
-fn balanced() {
-    show(b"balanced_odd.txt");
-    show(b"balanced_even.txt");
-    show(b"balanced_from_first.txt");
-    show(b"balanced_to_last.txt");
+fn balanced(rt: &HostRuntime) -> Result<()> {
+    show(rt, "balanced_odd.txt")?;
+    show(rt, "balanced_even.txt")?;
+    show(rt, "balanced_from_first.txt")?;
+    show(rt, "balanced_to_last.txt")?;
+    Ok(())
 }
 
 // One fault or one limit each.
-fn edges() {
-    show(b"edges/amount_greatest.txt");
-    show(b"edges/amount_too_great.txt");
-    show(b"edges/count_1001.txt");
-    show(b"edges/count_missing.txt");
-    show(b"edges/count_three_missing.txt");
-    show(b"edges/count_too_huge.txt");
-    show(b"edges/count_zero_extra.txt");
-    show(b"edges/count_zero_torn.txt");
-    show(b"edges/cr_lf.txt");
-    show(b"edges/empty.txt");
-    show(b"edges/empty_line_inside.txt");
-    show(b"edges/extra_empty_line.txt");
-    show(b"edges/extra_line.txt");
-    show(b"edges/k_257.txt");
-    show(b"edges/k_zero.txt");
-    show(b"edges/last_no_newline.txt");
-    show(b"edges/leading_zero.txt");
-    show(b"edges/minus.txt");
-    show(b"edges/missing_before_six.txt");
-    show(b"edges/n_ten.txt");
-    show(b"edges/n_two.txt");
-    show(b"edges/one_price_equal_totals.txt");
-    show(b"edges/one_price_none.txt");
-    show(b"edges/only_n.txt");
-    show(b"edges/other_seeds.txt");
-    show(b"edges/price_above_million.txt");
-    show(b"edges/price_equal.txt");
-    show(b"edges/price_million.txt");
-    show(b"edges/price_zero.txt");
-    show(b"edges/seed_greatest.txt");
-    show(b"edges/seed_too_great.txt");
-    show(b"edges/seed_twenty_one_digits.txt");
-    show(b"edges/seeds_cancel.txt");
-    show(b"edges/seven_demand_before_supply.txt");
-    show(b"edges/seven_demand_later.txt");
-    show(b"edges/seven_first_bid_before_torn_second.txt");
-    show(b"edges/seven_supply_later.txt");
-    show(b"edges/six_before_seven.txt");
-    show(b"edges/six_first_bid_before_extra.txt");
-    show(b"edges/six_in_supply_before_seven.txt");
-    show(b"edges/space_after.txt");
-    show(b"edges/torn_before_six_and_seven.txt");
-    show(b"edges/two_zeros.txt");
-    show(b"edges/zero_seeds.txt");
+fn edges(rt: &HostRuntime) -> Result<()> {
+    show(rt, "edges/amount_greatest.txt")?;
+    show(rt, "edges/amount_too_great.txt")?;
+    show(rt, "edges/count_1001.txt")?;
+    show(rt, "edges/count_missing.txt")?;
+    show(rt, "edges/count_three_missing.txt")?;
+    show(rt, "edges/count_too_huge.txt")?;
+    show(rt, "edges/count_zero_extra.txt")?;
+    show(rt, "edges/count_zero_torn.txt")?;
+    show(rt, "edges/cr_lf.txt")?;
+    show(rt, "edges/empty.txt")?;
+    show(rt, "edges/empty_line_inside.txt")?;
+    show(rt, "edges/extra_empty_line.txt")?;
+    show(rt, "edges/extra_line.txt")?;
+    show(rt, "edges/k_257.txt")?;
+    show(rt, "edges/k_zero.txt")?;
+    show(rt, "edges/last_no_newline.txt")?;
+    show(rt, "edges/leading_zero.txt")?;
+    show(rt, "edges/minus.txt")?;
+    show(rt, "edges/missing_before_six.txt")?;
+    show(rt, "edges/n_ten.txt")?;
+    show(rt, "edges/n_two.txt")?;
+    show(rt, "edges/one_price_equal_totals.txt")?;
+    show(rt, "edges/one_price_none.txt")?;
+    show(rt, "edges/only_n.txt")?;
+    show(rt, "edges/other_seeds.txt")?;
+    show(rt, "edges/price_above_million.txt")?;
+    show(rt, "edges/price_equal.txt")?;
+    show(rt, "edges/price_million.txt")?;
+    show(rt, "edges/price_zero.txt")?;
+    show(rt, "edges/seed_greatest.txt")?;
+    show(rt, "edges/seed_too_great.txt")?;
+    show(rt, "edges/seed_twenty_one_digits.txt")?;
+    show(rt, "edges/seeds_cancel.txt")?;
+    show(rt, "edges/seven_demand_before_supply.txt")?;
+    show(rt, "edges/seven_demand_later.txt")?;
+    show(rt, "edges/seven_first_bid_before_torn_second.txt")?;
+    show(rt, "edges/seven_supply_later.txt")?;
+    show(rt, "edges/six_before_seven.txt")?;
+    show(rt, "edges/six_first_bid_before_extra.txt")?;
+    show(rt, "edges/six_in_supply_before_seven.txt")?;
+    show(rt, "edges/space_after.txt")?;
+    show(rt, "edges/torn_before_six_and_seven.txt")?;
+    show(rt, "edges/two_zeros.txt")?;
+    show(rt, "edges/zero_seeds.txt")?;
+    Ok(())
 }

@@ -1,5 +1,5 @@
 // Pages that are written.
-use libc::STDOUT_FILENO;
+const STDOUT_FILENO: i32 = 1;
 use report::{end, number, title};
 use settlement::{ENTRIES, Written, write};
 

@@ -1,0 +1,10 @@
+-- `read_roll` meets its contract: the words are copied from where they stand. Assumes nothing.
+use mathlib.Core.Path.{ap, ◌∙◌}
+use mathlib.Core.List.{List}
+use Prim.Native.Nat.{ℕ}
+use Rattle.record_words.proofs.Parts.{roll_part}
+use Rattle.record_words.proofs.read_roll.Goals as goal
+
+pub returns : goal.returns
+returns c =
+    ap (λ (ws : List ℕ). record { words = ws }) (c.copy.ensures ∙ roll_part c.args.words.now c.requires)
