@@ -1,5 +1,5 @@
 -- Numbers that differ. Assumes nothing.
-use Rattle.std.specs.Prelude.{◌≡◌, ℕ, ◌≤◌, List, [], ◌∷◌, ◌≢◌}
+use Rattle.std.specs.Prelude.{ℕ, ◌≤◌, List, [], ◌∷◌, ◌≢◌}
 
 -- x is none of these
 abbrev pub Apart : ℕ → List ℕ → Type 0

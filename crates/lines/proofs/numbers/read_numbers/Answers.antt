@@ -36,8 +36,8 @@ loop-i-preserved c =
       fill_more l.into (drop a.at a.input.now) l.i _ h l.invariant.2 (c.line_value.ensures ∙ ap line_value first),
       led_more a.input.now a.at l.i l.next l.invariant.3 _ r.ensures.1,
       elim c.if-formed-i.branch [
-        then-formed-i w ↦ w.formed-is ∙ formed_up (drop a.at a.input.now) l.i l.formed _ l.invariant.4 (c.shaped.ensures ∙ ap shaped first) w.if-formed-i.true
-      | else-formed-i w ↦ w.formed-is ∙ formed_stays (drop a.at a.input.now) l.i l.formed _ l.invariant.4 (c.shaped.ensures ∙ ap shaped first) w.if-formed-i.false
+        | then-formed-i w ↦ w.formed-is ∙ formed_up (drop a.at a.input.now) l.i l.formed _ l.invariant.4 (c.shaped.ensures ∙ ap shaped first) w.if-formed-i.true
+        | else-formed-i w ↦ w.formed-is ∙ formed_stays (drop a.at a.input.now) l.i l.formed _ l.invariant.4 (c.shaped.ensures ∙ ap shaped first) w.if-formed-i.false
       ],
     )
 

@@ -28,8 +28,8 @@ loop-i-preserved c =
     let number : l.i + 1 ≡ get_or all l.i 0 = add_comm l.i 1 ∙ sym (getD_from 1 (length marks) l.i h) in
     let next = chosen_next marks l.count l.i c.if-present-i-eq1.count h
     (elim c.if-present-i-eq1.branch [
-      then-present-i-eq1 w ↦ inl (eq-eqb 1 _ (sym w.if-present-i-eq1.true), w.count-is)
-    | else-present-i-eq1 w ↦ inr (ne_eqb 1 _ (λ e. w.if-present-i-eq1.false (sym e)), w.count-is)
+      | then-present-i-eq1 w ↦ inl (eq-eqb 1 _ (sym w.if-present-i-eq1.true), w.count-is)
+      | else-present-i-eq1 w ↦ inr (ne_eqb 1 _ (λ e. w.if-present-i-eq1.false (sym e)), w.count-is)
     ]) in (
       omega arith,
       elim c.if-present-i-eq1.branch [ then-present-i-eq1 w ↦ omega arith | else-present-i-eq1 w ↦ omega arith ],

@@ -1,5 +1,5 @@
 -- `all_below` meets its contract: the words before i are below size. Assumes nothing.
-use Rattle.std.proofs.Common.{◌-◌, sym, refl, ap, ◌∙◌, arith, drop_of_length-le, le-ltb, lt-ltb}
+use Rattle.std.proofs.Common.{sym, refl, ap, ◌∙◌, arith, drop_of_length-le, le-ltb, lt-ltb}
 use Rattle.ranges.specs.Lists.{every}
 use Rattle.ranges.proofs.Loops.{every_more, every_fails}
 use Rattle.ranges.proofs.lists.all_below.Goals as goal

@@ -1,5 +1,5 @@
 -- `all_bytes` meets its contract: what was joined is a byte where the words before `at` are bytes. Assumes nothing.
-use Rattle.std.proofs.Common.{◌-◌, ltb, sym, refl, ◌∙◌, arith}
+use Rattle.std.proofs.Common.{ltb, sym, refl, ◌∙◌, arith}
 use Rattle.ranges.proofs.Joined.{both_below}
 use Rattle.ranges.proofs.Loops.{every_joined, every_joined_end}
 use Rattle.ranges.proofs.lists.all_bytes.Goals as goal

@@ -22,8 +22,7 @@ loop-at-init c = (omega arith, refl)
 
 pub loop-at-preserved : goal.loop-at-preserved
 loop-at-preserved c =
-    let l = c.loop-at in
-    (
+    let l = c.loop-at in (
       omega arith,
       l.invariant.1 ∙ every_joined _ _ _ (ltb l.seen (2 ^ 63)) _ c.loop-at-test.true (one_more l.seen _ c.args.size c.requires),
     )

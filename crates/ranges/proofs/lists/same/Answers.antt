@@ -1,5 +1,5 @@
 -- `same` meets its contract: what was joined is 0 where the bytes before `at` are the same. Assumes nothing.
-use Rattle.std.proofs.Common.{◌-◌, ◌<◌, length, sym, refl, ap, ◌∙◌, arith}
+use Rattle.std.proofs.Common.{◌<◌, length, sym, refl, ap, ◌∙◌, arith}
 use Rattle.ranges.proofs.Compared.{same_differ, same_more, same_end}
 use Rattle.ranges.proofs.lists.same.Goals as goal
 

@@ -1,10 +1,9 @@
 -- `first_bend` meets its contract: each step passes, or each before i does. Assumes nothing.
-use Rattle.std.proofs.Common.{◌+◌, ◌-◌, get_or, sym, ◌∙◌, zero-add, arith}
+use Rattle.std.proofs.Common.{◌+◌, get_or, sym, ◌∙◌, zero-add, arith}
 use Rattle.ranges.proofs.Bends.{bend_more, bend_fails, bend_ends, steps_bend, broken, in_step}
 use Rattle.ranges.proofs.steps.first_bend.Goals as goal
 
 -- what the call was given
-
 
 pub returns-then-none_bends : goal.returns-then-none_bends
 returns-then-none_bends c = sym (steps_bend _ _ (c.none_bends.ensures c.if-none_bends.true))

@@ -1,5 +1,5 @@
 -- `none_bends` meets its contract: where what was seen is below 2^63, each step before i passes. Assumes nothing.
-use Rattle.std.proofs.Common.{◌≡◌, ℕ, ◌+◌, ◌-◌, ◌%◌, ◌^◌, ◌<◌, Bool, true, false, cond, ◌&&◌, get_or, sym, ap, ◌∙◌, ap₂, ⊎_elim, arith, ltb-true, le-leb}
+use Rattle.std.proofs.Common.{◌≡◌, ℕ, ◌+◌, ◌%◌, ◌^◌, ◌<◌, Bool, true, false, cond, ◌&&◌, get_or, sym, ap, ◌∙◌, ap₂, arith, ltb-true, le-leb}
 use lib.Bits.{bit_or}
 use Rattle.ranges.specs.Steps.{in_order}
 use Rattle.ranges.proofs.Bends.{steps_more, steps_end}
@@ -32,13 +32,13 @@ loop-i-preserved c =
     let y : ℕ = get_or words (c.loop-i.i + 1) 0 in
     let low : c.if-rising.low ≡ cond rising x y =
     elim c.if-rising.branch [
-      then-rising w ↦ w.low-is ∙ sym (ap (λ (b : Bool). cond b x y) w.if-rising.true)
-    | else-rising w ↦ w.low-is ∙ sym (ap (λ (b : Bool). cond b x y) w.if-rising.false)
+      | then-rising w ↦ w.low-is ∙ sym (ap (λ (b : Bool). cond b x y) w.if-rising.true)
+      | else-rising w ↦ w.low-is ∙ sym (ap (λ (b : Bool). cond b x y) w.if-rising.false)
     ] in
     let high : c.if-rising-2.high ≡ cond rising y x =
     elim c.if-rising-2.branch [
-      then-rising-2 w ↦ w.high-is ∙ sym (ap (λ (b : Bool). cond b y x) w.if-rising-2.true)
-    | else-rising-2 w ↦ w.high-is ∙ sym (ap (λ (b : Bool). cond b y x) w.if-rising-2.false)
+      | then-rising-2 w ↦ w.high-is ∙ sym (ap (λ (b : Bool). cond b y x) w.if-rising-2.true)
+      | else-rising-2 w ↦ w.high-is ∙ sym (ap (λ (b : Bool). cond b y x) w.if-rising-2.false)
     ] in (
       omega arith,
       λ h e.

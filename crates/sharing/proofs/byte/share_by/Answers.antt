@@ -57,8 +57,8 @@ loop-i-init c =
     let n = length a.coins.now in
     let one = last a.coins.now a.point (omega arith) in
     elim c.if-i-gt0.branch [
-        then-i-gt0 w ↦ rw (w.i-is, w.sum-is) (omega arith, more a.coins.now a.point a.row.now (n - 1) _ c.requires w.if-i-gt0.true (omega arith) (omega (arith, c.shared_slice_known-1.given (n - 1))) one)
-        | else-i-gt0 w ↦ rw (w.i-is, w.sum-is) (omega arith, one)
+      | then-i-gt0 w ↦ rw (w.i-is, w.sum-is) (omega arith, more a.coins.now a.point a.row.now (n - 1) _ c.requires w.if-i-gt0.true (omega arith) (omega (arith, c.shared_slice_known-1.given (n - 1))) one)
+      | else-i-gt0 w ↦ rw (w.i-is, w.sum-is) (omega arith, one)
     ]
 
 pub loop-i-preserved : goal.loop-i-preserved

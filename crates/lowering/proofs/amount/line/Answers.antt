@@ -1,0 +1,19 @@
+-- `line` of amounts meets its contract: the product of three factors is reduced once. Assumes nothing.
+use mathlib.Core.Path.{ap, ◌∙◌}
+use Prim.Native.Nat.{ℕ, ◌*◌}
+use native.Mathlib.Omega.{arith}
+use Rattle.fields.specs.Amount.{amounts}
+use Rattle.lowering.proofs.Crossing.{times_fits, amount_line}
+use Rattle.lowering.proofs.amount.line.Goals as goal
+
+pub overflow_mul-times : goal.overflow_mul-times
+overflow_mul-times c =
+    let f = times_fits c.sub.result.0 c.args.r (omega (arith, c.sub.ensures)) (omega (arith, c.requires)) in
+    omega (arith, f)
+
+pub returns : goal.returns
+returns c =
+    let a = c.args in
+    c.mul_add.ensures
+    ∙ ap (λ (g : ℕ). amounts.add a.y (amounts.mul (c.sub.result.0 * a.r) g)) c.inverse.ensures
+    ∙ amount_line a.r a.y a.x a.z c.sub.result.0 c.requires.0 c.sub.ensures

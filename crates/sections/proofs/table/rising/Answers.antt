@@ -1,0 +1,21 @@
+-- `rising` meets its contract: the prices before i rise to the last. Assumes nothing.
+use mathlib.Core.Path.{sym, ◌∙◌}
+use Prim.Native.Nat.{◌-◌}
+use native.Mathlib.Nat.{zero-add}
+use native.Mathlib.Omega.{arith}
+use borrow.Author.Tests.{not-true, not-false}
+use Rattle.sections.proofs.Counts.{rising_more, rising_fails, rising_ends}
+use Rattle.sections.proofs.table.rising.Goals as goal
+
+pub loop-i-init : goal.loop-i-init
+loop-i-init c = (omega arith, sym (zero-add _))
+
+pub returns-then-not-last-price : goal.returns-then-not-last-price
+returns-then-not-last-price c = sym (c.loop-i.invariant.1 ∙ rising_fails _ _ _ c.loop-i-test.true (not-true _ c.if-not-last-price.true-raw))
+
+pub loop-i-preserved : goal.loop-i-preserved
+loop-i-preserved c =
+    (omega arith, c.loop-i.invariant.1 ∙ rising_more _ _ _ c.loop-i-test.true (not-false _ c.if-not-last-price.false-raw))
+
+pub returns : goal.returns
+returns c = sym (c.loop-i.invariant.1 ∙ rising_ends _ _ _ c.loop-i-test.false)
