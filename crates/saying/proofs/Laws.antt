@@ -15,7 +15,6 @@ use Rattle.record.specs.Record.{sound, ended}
 use Rattle.ranges.proofs.Loops.{and-true}
 use Rattle.refusal.proofs.Judging.{passes, all_passed, passed, judged_append, then_accepted}
 use Rattle.record.proofs.Soundness.{Sound, sound_facts, sound_of}
-use Rattle.message.specs.Message.{in_field}
 use Rattle.saying.specs.Say.{sheets_long, current, turn_judgement, say_judgement, words_judgement}
 use Rattle.ways.specs.Way.{way_of, width}
 use Rattle.message.proofs.Sheets.{InField, in_field_facts, in_field_of}

@@ -1,0 +1,9 @@
+-- `settlement_read` meets its contract: the judgement of `settlement::read`, as its number. Assumes nothing.
+use mathlib.Core.Path.{ap, ◌∙◌}
+use Rattle.refusal.specs.Refusal.{code_of}
+use Rattle.stateless_calls.proofs.settlement_read.Goals as goal
+
+pub returns : goal.returns
+returns c =
+    let call = c.read.ensures in
+    (c.code.ensures ∙ ap code_of call.0, call.1)
