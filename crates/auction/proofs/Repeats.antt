@@ -18,6 +18,7 @@ data Doubled : List Call → List Call → Type 0 where
   after : {x : Call} {l m : List Call} → Doubled l m → Doubled (x ∷ l) (x ∷ m)
 
 repeats_doubled : {cs ds es : List Call} → Repeats cs ds → Doubled ds es → Repeats cs es
+repeats_doubled Repeats.end d = elim d [ ]
 repeats_doubled (Repeats.next h) said = Repeats.say_again (Repeats.next h)
 repeats_doubled (Repeats.next h) asked = Repeats.ask_again (Repeats.next h)
 repeats_doubled (Repeats.next h) (after d) = Repeats.next (repeats_doubled h d)

@@ -25,7 +25,6 @@ use Rattle.round.specs.declared.Heard.{Heard}
 use Rattle.round.specs.declared.Heard.TheVariants.{Sum, Factors, Verdict, Total, Unopened}
 use Rattle.message.specs.Message.{sheet_words, bit_share, triple_share, in_level}
 use Rattle.saying.specs.Say.{current}
-use Rattle.listening.specs.Listen.{opening}
 use Rattle.heard_round.specs.Next.{heard_next}
 use Rattle.round.specs.Round.{Possible}
 use Rattle.stepping.specs.After.{role, after, after_level}

@@ -12,7 +12,6 @@ use Rattle.refusal.specs.Judging.{judged}
 use Rattle.refusal.specs.declared.Judgement.TheVariants.{Accepted}
 use Rattle.roll.proofs.Laws.{Free}
 use Rattle.record.specs.declared.Party.{Party}
-use Rattle.record.specs.Record.{sound}
 use Rattle.ways.specs.Way.{is_way}
 use Rattle.session.specs.Open.{open_judgement}
 use Rattle.session.specs.Add.{add_judgement}

@@ -1,5 +1,6 @@
 // Pages that are written.
 const STDOUT_FILENO: i32 = 1;
+
 use report::{end, number, title};
 use settlement::{ENTRIES, Written, write};
 

@@ -1,6 +1,6 @@
 -- What holds at each turn of the loops of `xor_of`. Assumes nothing.
 use mathlib.Core.Path.{◌≡◌}
-use Prim.Native.Nat.{◌-◌, ◌≤◌}
+use Prim.Native.Nat.{◌≤◌}
 use lib.ListN.{length, drop}
 use Rattle.sections.specs.Sections.{xor_of}
 use Rattle.sections.proofs.table.xor_of.Given as goal
