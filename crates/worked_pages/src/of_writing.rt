@@ -1,8 +1,9 @@
 // Pages that are written.
-const STDOUT_FILENO: i32 = 1;
-
 use report::{end, number, title};
 use settlement::{ENTRIES, Written, write};
+
+// Standard output's descriptor.
+const STDOUT_FILENO: i32 = 1;
 
 // The largest amount.
 const MOST: u64 = 4_194_303;
