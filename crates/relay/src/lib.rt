@@ -7,7 +7,7 @@ use settling::PAGE;
 // Every input that is accepted fits. A longer one is refused for what does (`Cut.cut_listing` of
 // crate `rehearsal`, `Settled.cut_settlement` of crate `settling`). The room is made where it is read
 // into: returned by a function, it would stand on the stack three times in an unoptimised program.
-pub const INPUT: usize = 4194304;
+const INPUT: usize = 4194304;
 
 pub fn rehearse_between(from: i32, to: i32) {
     let mut input = [0u8; INPUT];

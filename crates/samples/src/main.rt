@@ -2,36 +2,14 @@
 // What it must write was worked out apart from this code.
 #![tactic(auto)]
 
-ghost use Rattle.std.specs.Prelude.{◌≤◌, length, IfOk};
-
 use std::fs;
-use std::fs::File;
-use std::io::{Read, Result};
-
-use relay::INPUT;
-
-// Reads until the input is full or the file ends, and returns how many bytes were put at its start.
-fn read_full(file: &mut File, input: &mut [u8]) -> Result<usize>
-    ensures { IfOk result (λ n. n ≤ length input.new) }
-{
-    let mut got = 0;
-    for _ in 0..u64::MAX {
-        let n = file.read(&mut input[got..])?;
-        if n == 0 {
-            break;
-        }
-        got += n;
-    }
-    Ok(got)
-}
+use std::io::Result;
 
 fn show(rt: &HostRuntime, name: &str) -> Result<()> {
     io::write_all(1, name.as_bytes());
     io::write_all(1, b"\n");
-    let mut file = fs::open(rt, name)?;
-    let mut input = [0u8; INPUT];
-    let got = read_full(&mut file, &mut input)?;
-    relay::rehearse_read(&input[..got], 1);
+    let input = fs::read(rt, name)?;
+    relay::rehearse_read(&input, 1);
     Ok(())
 }
 

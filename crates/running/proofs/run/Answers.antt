@@ -10,7 +10,7 @@ use borrow.Author.Rules.{rules}
 use Rattle.running.proofs.run.Goals as goal
 use Rattle.running.proofs.run.Goals.{After-most_probes, After-no_sheets-sheets, After-totals-1}
 
--- the input is an auction, within the rehearsal's sizes
+-- the sheets are few, and fit their room
 few_sheets : (c : After-most_probes) → c.most_probes.result ≤ 18
 few_sheets c = omega (arith, c.most_probes.ensures, sheets_eighteen c.args.shape.k (good_runs c.args.input.now c.args.shape c.requires).few_prices)
 
