@@ -5,8 +5,8 @@ use mathlib.Core.List.{List}
 use Prim.Native.Nat.{ℕ, suc, ◌-◌, ◌≤◌, min}
 use native.Mathlib.Omega.{arith}
 use lib.ListN.{length, replicate}
+use Rattle.session.specs.Answer.{the_answer}
 use Rattle.presence.specs.Presence.{is_present}
-use Rattle.session.specs.declared.reply.Answer.TheVariants.{Cleared}
 use Rattle.auction.specs.Auction.{Auction, IsAuction, price_answer, rounds}
 use Rattle.auction.specs.Coins.{Coins, InRange}
 use Rattle.auction.specs.Desk.{Desk, Complete}
@@ -50,13 +50,13 @@ module _ (a : Auction) (present : List ℕ) where
       its = (demand_2 a A c C always (λ round h. E)).outcome l run j j1 jn
 
       -- each of them is told the price
-      pub told_the_price : is_present present j ≡ true → (m : ℕ) × (answers j l ≡ replicate (suc m) (Cleared (price_answer a) (length (verdicts j l))))
+      pub told_the_price : is_present present j ≡ true → (m : ℕ) × (answers j l ≡ replicate (suc m) (the_answer (price_answer a) (length (verdicts j l))))
       told_the_price here =
           let all : length (hearings j l) ≡ rounds a = its.heard ∙ ap (λ b. min (cond b (rounds a) 0) (rounds a)) here ∙ omega arith in
           let some = its.once_over.0 (all, refl) in
           let m : ℕ = its.asked - 1 in
           let e : its.asked ≡ suc m = omega arith in
-          (m, its.cleared ∙ ap (λ (k : ℕ). replicate k (Cleared (price_answer a) (length (verdicts j l)))) e)
+          (m, its.cleared ∙ ap (λ (k : ℕ). replicate k (the_answer (price_answer a) (length (verdicts j l)))) e)
 
       -- and nobody else is needed
       pub hears_nothing : is_present present j ≡ false → length (hearings j l) ≡ 0

@@ -1,4 +1,5 @@
 -- Opening a session, splitting a bid and adding its shares, for parties that hold the polynomials of the totals between them. Assumes nothing.
+use Rattle.std.specs.Prelude.{Ok}
 use mathlib.Core.Path.{◌≡◌, refl, sym, ap, ap₂, ◌∙◌}
 use mathlib.Core.Bool.{true, ◌&&◌}
 use mathlib.Core.List.{List, [], ◌∷◌}
@@ -10,7 +11,6 @@ use lib.Seq.{take_at, drop_at}
 use Rattle.fields.specs.Amount.{p, amounts}
 use Rattle.ranges.specs.Below.{AllBelow}
 use Rattle.fields.proofs.Fields.{amount_field}
-use Rattle.refusal.specs.declared.Judgement.TheVariants.{Accepted}
 use Rattle.refusal.proofs.Judging.{kept_new}
 use Rattle.sharing.specs.Polynomial.{value, share_each}
 use Rattle.sharing.specs.Linear.{sums}
@@ -178,11 +178,11 @@ module _ {a : Auction} (A : IsAuction a) (j : ℕ) (h1 : 1 ≤ j) (hn : j ≤ a.
         prices_most = A.k_most;
       }
 
-  pub opening_accepted : (totals : List ℕ) → length totals ≡ 2 * a.k → open_judgement a.n j a.k a.last totals ≡ Accepted
+  pub opening_accepted : (totals : List ℕ) → length totals ≡ 2 * a.k → open_judgement a.n j a.k a.last totals ≡ Ok tt
   opening_accepted totals l = open_accepted a.n j a.k a.last totals (record { listed = member; way = A.way; totals_long = l })
 
 module _ {a : Auction} (A : IsAuction a) (j : ℕ) (h1 : 1 ≤ j) (hn : j ≤ a.n) where
-  pub opened : open_judgement a.n j a.k a.last (zeros a) ≡ Accepted
+  pub opened : open_judgement a.n j a.k a.last (zeros a) ≡ Ok tt
   opened = opening_accepted A j h1 hn (zeros a) (length-replicate (2 * a.k) 0)
 
   pub seated_holding : seated a j ≡ holding_seat a empty (no_totals a) j
@@ -228,7 +228,7 @@ module _ {a : Auction} (A : IsAuction a) (j : ℕ) (h1 : 1 ≤ j) (hn : j ≤ a.
 
     module _ (roll : Roll) (fs : List (List ℕ)) (F : Held a.k (threshold a.n) fs) where
       module _ (P : Proper roll) (free : Free roll b.0.bidder) where
-        pub adding_accepted : add_judgement (holding a.n a.k a.last roll j) (at_party j fs) b.0.bidder (at_party j (entries b.0.table b.1)) ≡ Accepted
+        pub adding_accepted : add_judgement (holding a.n a.k a.last roll j) (at_party j fs) b.0.bidder (at_party j (entries b.0.table b.1)) ≡ Ok tt
         unfolding holding
         adding_accepted =
             let E : Held a.k (threshold a.n) (entries b.0.table b.1) = entries_held a.k (threshold a.n) b B in

@@ -1,4 +1,5 @@
 -- Dealing a sheet: the words that are written are those of the polynomials that its coins make. Assumes nothing.
+use Rattle.std.specs.Prelude.{Ok}
 use mathlib.Core.Path.{◌≡◌, refl, ap, ap₂, ◌∙◌}
 use mathlib.Core.List.{List, [], ◌∷◌, ◌++◌, map, append_assoc}
 use Prim.Native.Nat.{ℕ, zero, suc, ◌+◌, ◌*◌}
@@ -10,7 +11,6 @@ use mathlib.Core.Bool.{true}
 use Rattle.ways.specs.Way.{Way, is_way, way_of, triples_of, sheet_size, drawn_size}
 use Rattle.fields.specs.Amount.{amounts}
 use Rattle.fields.specs.Byte.{product, bytes}
-use Rattle.refusal.specs.declared.Judgement.TheVariants.{Accepted}
 use Rattle.refusal.proofs.Judging.{kept_new}
 use Rattle.ranges.specs.Lists.{from}
 use Rattle.sharing.specs.Polynomial.{value, share_each}
@@ -99,7 +99,7 @@ sheet_written w t j s h =
     ∙ triples_written t j (triples_of w) s.triples h.triples_long h.triples)
 
 module _ (n j last : ℕ) (P : IsParty n j) (W : is_way last ≡ true) (s : SheetCoins) (h : SheetInRange (way_of last) (threshold n) s) (sheet : List ℕ) (l : length sheet ≡ sheet_size (way_of last)) where
-  pub deals_sheet : deal_judgement n j last (coin_words s) (coin_bytes s) sheet ≡ Accepted
+  pub deals_sheet : deal_judgement n j last (coin_words s) (coin_bytes s) sheet ≡ Ok tt
   deals_sheet =
       deal_accepted n j last (coin_words s) (coin_bytes s) sheet
       (record {

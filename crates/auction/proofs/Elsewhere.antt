@@ -1,4 +1,5 @@
 -- Every party's call of the canonical list is for one of the parties 1 to n. Assumes nothing.
+use Rattle.std.specs.Prelude.{Err, Ok}
 use mathlib.Core.Path.{◌≡◌, refl, sym, ap, ◌∙◌}
 use mathlib.Core.Bool.{Bool, true, false, not, ◌&&◌, true≢false, cond}
 use mathlib.Core.List.{List, [], ◌∷◌, ◌++◌, map, flatten, zip}
@@ -8,8 +9,7 @@ use lib.Dec.{ltb, eqb}
 use borrow.Author.Tests.{ne_eqb}
 use Rattle.refusal.specs.Judging.{kept}
 use Rattle.refusal.proofs.Judging.{refuses}
-use Rattle.refusal.specs.declared.Judgement.{Judgement}
-use Rattle.refusal.specs.declared.Judgement.TheVariants.{Accepted, Refused}
+use Rattle.refusal.specs.Refusal.{Judgement}
 use Rattle.ranges.specs.Lists.{from}
 use Rattle.ranges.proofs.Loops.{and_false}
 use Rattle.sharing.specs.Scheme.{points}
@@ -94,12 +94,12 @@ module _ (j : ℕ) where
   -- and a call leaves no such record
   left_away : (q next : Party) (J : Judgement) → (sound q ≡ false → is_accepted J ≡ false) → next.own ≡ q.own → Not q → Not (replied J next q).party
   unfolding replied kept is_accepted
-  left_away q next Accepted refused same e = split (sound q) refl
+  left_away q next (Ok tt) refused same e = split (sound q) refl
     where
       split : (s : Bool) → sound q ≡ s → Not next
       split true s = and_false (sound next) (eqb next.own j) (ap (λ (i : ℕ). eqb i j) same ∙ (rw s at e))
       split false s = absurd (true≢false (refused s))
-  left_away q next (Refused why) refused same e = e
+  left_away q next (Err why) refused same e = e
 
   none_nil : own j [] ≡ []
   unfolding select
@@ -134,8 +134,8 @@ module _ (j : ℕ) where
     away_seated i h = split (open_judgement a.n i a.k a.last (zeros a))
       where
         split : (J : Judgement) → Not (kept J (fresh a.n i a.k a.last) blank)
-        split Accepted = and_false (sound (fresh a.n i a.k a.last)) (eqb i j) h
-        split (Refused why) = rw blank_unsound
+        split (Ok tt) = and_false (sound (fresh a.n i a.k a.last)) (eqb i j) h
+        split (Err why) = rw blank_unsound
 
     away_added : (b : DrawnBid) (s : Seat) → Away s → Away (after_adding a desk b s)
     unfolding after_adding

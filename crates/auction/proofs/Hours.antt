@@ -2,14 +2,14 @@
 use mathlib.Core.Path.{◌≡◌, refl, ap, ap₂, ◌∙◌}
 use mathlib.Core.Bool.{false, cond}
 use Prim.Native.Nat.{ℕ, ◌≤◌, ◌<◌}
+use Rattle.std.proofs.Common.{Ok}
 use native.Mathlib.Omega.{arith}
 use borrow.Author.Tests.{eq-eqb, ne_eqb}
 use Rattle.search.proofs.Cleared.{covered_at_price}
 use Rattle.bid.specs.Table.{most}
 use Rattle.record.specs.declared.Party.{Party}
 use Rattle.record.proofs.Soundness.{Sound, sound_facts}
-use Rattle.filling.specs.declared.Filled.TheVariants.{Hours}
-use Rattle.filling.specs.Fill.{hours, remainder, fill_reply}
+use Rattle.filling.specs.Fill.{shared, fill_reply}
 use Rattle.filling.specs.Sums.{AllFills}
 use Rattle.filling.proofs.Laws.{fill_accepted, not_cleared}
 use Rattle.filling.proofs.Replies.{filled_accepted, filled_refused}
@@ -48,12 +48,12 @@ module _ (a : Auction) (c : Coins) (A : IsAuction a) (C : InRange a c) (j : ℕ)
   supply_is = (end_totals a c (price_found a c A C)).1
 
   told_hours : 0 < m → (amount : ℕ) → amount ≤ most
-      → fill_reply q amount ≡ Hours (hours (demand a m) (supply a m) amount) (remainder (demand a m) (supply a m) amount)
+      → fill_reply q amount ≡ Ok (shared (demand a m) (supply a m) amount)
   told_hours some amount small =
       let priced : no_price a c ≡ false = ne_eqb m 0 (λ e. omega arith) in
       let last : q.round ≡ 36 = round_is ∙ ap (λ b. cond b 1 36) priced in
       filled_accepted _ q amount (fill_accepted q amount (record { sound = sound; last_round = last; small = small }))
-      ∙ ap₂ (λ (D S : ℕ). Hours (hours D S amount) (remainder D S amount)) (demand_is ∙ ap (λ b. cond b 0 (demand a m)) priced)
+      ∙ ap₂ (λ (D S : ℕ). Ok (shared D S amount)) (demand_is ∙ ap (λ b. cond b 0 (demand a m)) priced)
       (supply_is ∙ ap (λ b. cond b 0 (supply a m)) priced)
 
   pub fleet_told : FleetTold a q

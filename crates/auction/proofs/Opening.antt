@@ -1,4 +1,5 @@
 -- The rounds after the last probe: total demand and total supply at the price are opened, and the session is over. Assumes nothing.
+use Rattle.std.specs.Prelude.{Some}
 use mathlib.Core.Path.{◌≡◌, refl, ap, ◌∙◌}
 use mathlib.Core.Bool.{true}
 use mathlib.Core.List.{List, [], ◌∷◌, map}
@@ -7,7 +8,6 @@ use native.Mathlib.Omega.{arith}
 use Rattle.fields.specs.Amount.{p, amounts}
 use Rattle.sharing.specs.Polynomial.{value}
 use Rattle.sharing.specs.Scheme.{threshold, points}
-use Rattle.openings.specs.declared.opening.Opening.TheVariants.{Secret}
 use Rattle.openings.proofs.Laws.{amount_fits}
 use Rattle.search.specs.declared.searches.Search.{Search}
 use Rattle.search.specs.Searches.{price, clears}
@@ -91,7 +91,7 @@ module _ (a : Auction) (c : Coins) (A : IsAuction a) (C : InRange a c) (here : S
   total_opens round cs total l h e present E =
       ap (λ (b : Bool). heard a.n (cond b 33 round) present (map (value amounts cs) (points a.n))) (ne_eqb round a.last (λ f. omega (arith, last_most a.last A.way)))
       ∙ total_heard a.n present (map (value amounts cs) (points a.n)) round total l
-      (shared_opens amount_fits a.n cs present A.n_least A.n_most h E ∙ ap Secret e)
+      (shared_opens amount_fits a.n cs present A.n_least A.n_most h E ∙ ap Some e)
 
   module _ (j : ℕ) where
     demand_said : message (record_at a c (total_stage here 34 0 0) j) (at_party j fs) [] ≡ demand_words a fs here j

@@ -26,8 +26,7 @@ use Rattle.ranges.proofs.Loops.{map_take}
 use Rattle.roll.specs.Marks.{marked}
 use Rattle.roll.proofs.Entry.{entered_marked}
 use Rattle.record.specs.declared.Party.{Party}
-use Rattle.session.specs.declared.reply.Answer.TheVariants.{Cleared}
-use Rattle.session.specs.Answer.{answer_reply}
+use Rattle.session.specs.Answer.{the_answer, answer_reply}
 use Rattle.auction.specs.Auction.{Auction, bidders, IsAuction, demand, supply, clearing_answer, balanced_answer, price_answer, probed, total_rounds, rounds}
 use Rattle.auction.specs.Coins.{Coins, InRange}
 use Rattle.auction.specs.Attendance.{Marks, EnoughPresent}
@@ -230,10 +229,10 @@ module _ (a : Auction) (c : Coins) (A : IsAuction a) (C : InRange a c) (marks : 
           never (rw e at f) (λ g v. omega (arith, heard_are))
 
   -- each answer that it is given
-  answers_are : answers j l ≡ replicate asks.times (Cleared (price_answer a) (length (probed a)))
+  answers_are : answers j l ≡ replicate asks.times (the_answer (price_answer a) (length (probed a)))
   answers_are =
       ap (map answer_reply) asks.asked_with ∙ map_replicate answer_reply asks.times (record_at a c (end a c) j)
-      ∙ ap (replicate asks.times) (end_answer a c A C j j1 jn ∙ ap (Cleared (price_answer a)) (probes_many a c A C))
+      ∙ ap (replicate asks.times) (end_answer a c A C j j1 jn ∙ ap (the_answer (price_answer a)) (probes_many a c A C))
 
   rolled_are : Each (λ h. (b : ℕ) → marked h.party.roll b ≡ member b (bidders a)) (hearings j l)
   unfolding record_at full_roll
@@ -257,7 +256,7 @@ module _ (a : Auction) (c : Coins) (A : IsAuction a) (C : InRange a c) (marks : 
         asked = asks.times;
         once_over = asks.once_over;
         cleared =
-            answers_are ∙ times_same asks.times (λ h. ap (Cleared (price_answer a)) (sym (many_all (all h))));
+            answers_are ∙ times_same asks.times (λ h. ap (the_answer (price_answer a)) (sym (many_all (all h))));
         found = rw asks.asked_with (each_times _ asks.times q (λ h. found_are (all h)));
         fleets = rw asks.asked_with (each_replicate _ asks.times q (fleet_told a c A C j j1 jn));
         few =
@@ -363,8 +362,8 @@ module _ (a b : Auction) (A : IsAuction a) (B : IsAuction b) (alike : Alike a b)
       ap (λ (k : ℕ). k * length (probed b) + total_rounds b) alike.way
       ∙ ap₂ (λ (ds : List Decision) (m : ℕ). a.last * length ds + cond (eqb m 0) 0 2) same_probes same_price
 
-  same_answer : Cleared (price_answer b) (length (probed b)) ≡ Cleared (price_answer a) (length (probed a))
-  same_answer = ap₂ Cleared same_price (ap length same_probes)
+  same_answer : the_answer (price_answer b) (length (probed b)) ≡ the_answer (price_answer a) (length (probed a))
+  same_answer = ap₂ the_answer same_price (ap length same_probes)
 
   -- the marks serve both
   both_enough : {marks : Marks} → EnoughPresent a marks → EnoughPresent b marks
@@ -422,7 +421,7 @@ module _ (a b : Auction) (A : IsAuction a) (B : IsAuction b) (alike : Alike a b)
           answered = λ j j1 jn.
               let asksL = asks a c A C marks M l runL j j1 jn in
               let asksM = asks b o B R marks (both_enough M) m run_m j j1 (jb j jn) in
-              as_often asksL.times asksM.times (Cleared (price_answer a) (length (probed a))) (answers_are a c A C marks M l runL j j1 jn)
+              as_often asksL.times asksM.times (the_answer (price_answer a) (length (probed a))) (answers_are a c A C marks M l runL j j1 jn)
               (answers_are b o B R marks (both_enough M) m run_m j j1 (jb j jn) ∙ ap (replicate asksM.times) same_answer);
           probes = same_probes;
         }

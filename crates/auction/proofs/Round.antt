@@ -1,4 +1,5 @@
 -- The rounds of a probe: the first, the levels and the last, each for all parties at once. Assumes nothing.
+use Rattle.std.specs.Prelude.{Some}
 use mathlib.Core.Path.{◌≡◌, refl, sym, ap, ap₂, subst, ◌∙◌}
 use mathlib.Core.Bool.{Bool, true, false, cond, not, ◌&&◌}
 use mathlib.Core.List.{List, [], ◌∷◌, map}
@@ -16,7 +17,6 @@ use Rattle.sharing.specs.Scheme.{threshold, points}
 use Rattle.ranges.specs.Lists.{from, every}
 use Rattle.ranges.proofs.Loops.{and_false}
 use Rattle.weights.specs.Rows.{Scheme, byte_scheme}
-use Rattle.openings.specs.declared.opening.Opening.TheVariants.{Secret}
 use Rattle.openings.proofs.Laws.{Fits, amount_fits, byte_fits}
 use Rattle.present_openings.specs.Present.{opened_by}
 use Rattle.present_openings.proofs.Laws.{opens_by}
@@ -72,7 +72,7 @@ use Rattle.auction.proofs.Placed.{probe_turn, InProbe, coins_ranged, probed_dema
 
 module _ {S : Scheme} {F : Field} (fits : Fits S F) where
   pub shared_opens : (n : ℕ) (cs present : List ℕ) → 3 ≤ n → n ≤ 9 → Shared F.size (threshold n) cs → Enough n present
-      → opened_by S n present (map (value F.ops cs) (points n)) ≡ Secret (secret cs)
+      → opened_by S n present (map (value F.ops cs) (points n)) ≡ Some (secret cs)
   shared_opens n [] present h3 h9 h E = absurd (omega arith)
   shared_opens n (s ∷ cs) present h3 h9 h E = opens_by fits n s cs present h3 h9 h.1.0 h.1.1 (omega arith) E.long E.many
 
@@ -370,7 +370,7 @@ module _ (a : Auction) (c : Coins) (A : IsAuction a) (C : InRange a c) (here : S
   -- a part of the words, which is what the parties have of cs
   part_opens : (w : ℕ → ℕ) (part : ℕ → ℕ) (cs : List ℕ) → ((j : ℕ) → 1 ≤ j → j ≤ a.n → part (w j) ≡ value bytes cs j) → Shared 256 t cs
       → (present : List ℕ) → Enough a.n present
-      → opened_by byte_scheme a.n present (map part (map w (points a.n))) ≡ Secret (secret cs)
+      → opened_by byte_scheme a.n present (map part (map w (points a.n))) ≡ Some (secret cs)
   part_opens w part cs is h present E =
       ap (opened_by byte_scheme a.n present) (map_through part w (value bytes cs) a.n is)
       ∙ shared_opens byte_fits a.n cs present A.n_least A.n_most h E

@@ -1,4 +1,5 @@
 -- All rounds of an auction, from the first word to the answer: every call is accepted, and what is read off them. Assumes nothing.
+use Rattle.std.specs.Prelude.{Ok}
 use mathlib.Core.Path.{◌≡◌, refl, sym, ap, ap₂, subst, ◌∙◌}
 use mathlib.Core.Bool.{Bool, true, cond}
 use mathlib.Core.List.{List, [], ◌∷◌, ◌++◌, map, map-map, flatten, Memᴰ}
@@ -9,7 +10,6 @@ use native.Mathlib.Omega.{arith}
 use lib.ListN.{length, take, get_or, length-take}
 use Rattle.ways.specs.Way.{way_of, last_round}
 use Rattle.refusal.specs.Judging.{judged}
-use Rattle.refusal.specs.declared.Judgement.TheVariants.{Accepted}
 use Rattle.ranges.proofs.Loops.{map_from, map_take}
 use Rattle.sharing.specs.Scheme.{points}
 use Rattle.presence.specs.Presence.{marked, choose, is_present}
@@ -17,9 +17,8 @@ use Rattle.search.specs.declared.searches.Search.{Search}
 use Rattle.search.specs.Searches.{first_search, price}
 use Rattle.comparison.specs.Probe.{Each}
 use Rattle.record.specs.declared.Party.{Party}
-use Rattle.session.specs.declared.reply.Answer.TheVariants.{Cleared}
 use Rattle.record.specs.Record.{sound, ended}
-use Rattle.session.specs.Answer.{answer_judgement, answered, answer_reply}
+use Rattle.session.specs.Answer.{the_answer, answer_judgement, answered, answer_reply}
 use Rattle.auction.specs.Auction.{Auction, IsAuction, price_answer, rounds}
 use Rattle.auction.specs.Coins.{Coins, InRange}
 use Rattle.auction.specs.Attendance.{Marks, EnoughPresent, Attendance}
@@ -47,11 +46,11 @@ present_of marks round (ws ∷ wss) = choose (marked (marks round)) ws ∷ prese
 
 -- ---- asking for the answer
 
-ask_accepted : (q : Party) → sound q ≡ true → ended q ≡ true → answer_judgement q ≡ Accepted
+ask_accepted : (q : Party) → sound q ≡ true → ended q ≡ true → answer_judgement q ≡ Ok tt
 unfolding answer_judgement judged
 ask_accepted q s o = rw (s, o)
 
-ask_cleared : (q : Party) → answer_judgement q ≡ Accepted → answer_reply q ≡ Cleared (price q.search) q.search.probes
+ask_cleared : (q : Party) → answer_judgement q ≡ Ok tt → answer_reply q ≡ the_answer (price q.search) q.search.probes
 unfolding answered
 ask_cleared q e = rw e
 
@@ -110,18 +109,18 @@ module _ (a : Auction) (c : Coins) (A : IsAuction a) (C : InRange a c) where
     end_sound : sound (record_at a c τ j) ≡ true
     end_sound = sound_at a c A τ (end_sane a c A C) j j1 jn
 
-    end_judged : answer_judgement (record_at a c τ j) ≡ Accepted
+    end_judged : answer_judgement (record_at a c τ j) ≡ Ok tt
     end_judged = ask_accepted (record_at a c τ j) end_sound (end_over a c A C j)
 
     asked : accepted (ask (seat a c τ j)) ≡ true
     unfolding ask seat judgement is_accepted
     asked = rw end_judged
 
-    pub end_answer : answer_reply (record_at a c τ j) ≡ Cleared (price_answer a) (length (probes a c))
+    pub end_answer : answer_reply (record_at a c τ j) ≡ the_answer (price_answer a) (length (probes a c))
     unfolding record_at
     end_answer =
         ask_cleared (record_at a c τ j) end_judged
-        ∙ ap₂ Cleared (ap price (end_search a c) ∙ price_found a c A C) (ap (λ (s : Search). s.probes) (end_search a c) ∙ probes_counted a c A C)
+        ∙ ap₂ the_answer (ap price (end_search a c) ∙ price_found a c A C) (ap (λ (s : Search). s.probes) (end_search a c) ∙ probes_counted a c A C)
 
     ask_own : Own j (ask (seat a c τ j))
     unfolding ask seat record_at whose of_party

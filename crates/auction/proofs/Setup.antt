@@ -1,12 +1,12 @@
 -- The calls before the first round: opening, splitting and adding each bid, dealing. All are accepted, and each party is left with its
 -- words of the totals' polynomials and of the dealt ones. Assumes nothing.
+use Rattle.std.specs.Prelude.{Ok}
 use mathlib.Core.Path.{◌≡◌, refl, sym, ap, ap₂, ◌∙◌}
 use mathlib.Core.Bool.{true}
 use mathlib.Core.List.{List, [], ◌∷◌, ◌++◌, map, flatten, zip, append_assoc, append-nil}
 use mathlib.Core.Option.{Option, none}
 use Prim.Native.Nat.{ℕ, ◌≤◌}
 use lib.ListN.{length, replicate, length-replicate}
-use Rattle.refusal.specs.declared.Judgement.TheVariants.{Accepted}
 use Rattle.ways.specs.Way.{way_of, sheet_size}
 use Rattle.kept_pairs.specs.Pairs as kept
 use Rattle.sharing.specs.Scheme.{threshold, points}
@@ -63,7 +63,7 @@ entering_all {a} A gss l =
 
 -- ---- the calls
 
-accepts : (c : Call) → judgement c ≡ Accepted → accepted c ≡ true
+accepts : (c : Call) → judgement c ≡ Ok tt → accepted c ≡ true
 unfolding is_accepted
 accepts c e = rw e
 

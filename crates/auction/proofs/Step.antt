@@ -1,4 +1,5 @@
 -- One round of all parties, whoever is present: when every call of it is accepted, and what every party then has. Assumes nothing.
+use Rattle.std.specs.Prelude.{Ok}
 use mathlib.Core.Path.{◌≡◌, refl, sym, ap, subst, ◌∙◌}
 use mathlib.Core.Bool.{true, false, cond}
 use lib.Dec.{eqb}
@@ -9,7 +10,6 @@ use lib.ListN.{length, get_or, length-map, length-replicate}
 use Rattle.ways.specs.Way.{way_of, sheet_size, width}
 use Rattle.kept_pairs.specs.Pairs.{small}
 use Rattle.refusal.specs.Judging.{kept}
-use Rattle.refusal.specs.declared.Judgement.TheVariants.{Accepted}
 use Rattle.fields.specs.Amount.{amounts}
 use Rattle.sharing.specs.Polynomial.{value}
 use Rattle.sharing.specs.Scheme.{threshold, points}
@@ -187,7 +187,7 @@ module _ (a : Auction) (c : Coins) (A : IsAuction a) (C : InRange a c) where
       abbrev lent : List ℕ
       lent = lent_for (record_at a c σ j)
 
-      say_ok : say_judgement (record_at a c σ j) totals (sheets_at a c j) lent ≡ Accepted
+      say_ok : say_judgement (record_at a c σ j) totals (sheets_at a c j) lent ≡ Ok tt
       say_ok =
           say_accepted _ _ _ _
           (record { turn = turn_at; said_long = length-replicate {A = ℕ} (width_of (record_at a c σ j)) 0; in_field = rw current_at (P.in_field j j1 jn) })
@@ -221,7 +221,7 @@ module _ (a : Auction) (c : Coins) (A : IsAuction a) (C : InRange a c) where
             (blocks_length (wide a σ) a.n messages ∙ sym (words_length w a.n)) H.said here
             ∙ map_from w [] 1 a.n (j - 1) (omega arith) ∙ ap w (omega arith)
 
-        hear_ok : hear_judgement (record_at a c σ j) totals (sheets_at a c j) messages present ≡ Accepted
+        hear_ok : hear_judgement (record_at a c σ j) totals (sheets_at a c j) messages present ≡ Ok tt
         unfolding record_at
         hear_ok =
             hear_accepted (record_at a c σ j) totals (sheets_at a c j) messages present

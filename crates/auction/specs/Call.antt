@@ -1,7 +1,6 @@
 -- The calls, each with what it was given, and whether it is accepted. Assumes nothing.
-use Rattle.std.specs.Prelude.{Bool, true, false, List, [], ℕ, eqb}
-use Rattle.refusal.specs.declared.Judgement.{Judgement}
-use Rattle.refusal.specs.declared.Judgement.TheVariants.{Accepted, Refused}
+use Rattle.std.specs.Prelude.{Bool, true, false, List, [], ℕ, eqb, Err, Ok}
+use Rattle.refusal.specs.Refusal.{Judgement}
 use Rattle.bid.specs.Split.{split_judgement}
 use Rattle.bid.specs.Entry.{split_entry_judgement}
 use Rattle.dealer.specs.Deal.{deal_judgement}
@@ -36,8 +35,8 @@ judgement (answer_call q) = answer_judgement q
 judgement (fill_call q amount) = fill_judgement q amount
 
 unfoldable pub is_accepted : Judgement → Bool
-is_accepted Accepted = true
-is_accepted (Refused why) = false
+is_accepted (Ok tt) = true
+is_accepted (Err why) = false
 
 abbrev pub accepted : Call → Bool
 accepted c = is_accepted (judgement c)

@@ -1,5 +1,6 @@
 -- Demands 2 and 3 of whole auctions, as statements about every run. Assumes nothing.
-use Rattle.std.specs.Prelude.{◌≡◌, ◌↔◌, Bool, true, cond, not, ◌&&◌, ℕ, ◌+◌, ◌-◌, ◌*◌, ◌/◌, ◌^◌, ◌≤◌, ◌<◌, min, leb, ltb, eqb, length, take, drop, replicate}
+use Rattle.session.specs.Answer.{the_answer}
+use Rattle.std.specs.Prelude.{◌≡◌, ◌↔◌, Bool, true, cond, not, ◌&&◌, ℕ, ◌+◌, ◌-◌, ◌*◌, ◌/◌, ◌^◌, ◌≤◌, ◌<◌, min, leb, ltb, eqb, length, take, drop, replicate, Ok, Err}
 use mathlib.Core.List.{List, [], ◌∷◌, map, zip, Memᴰ}
 use Rattle.ways.specs.Way.{way_of, sheet_size}
 use Rattle.kept_pairs.specs.Pairs.{none as no_pairs}
@@ -12,11 +13,9 @@ use Rattle.search.specs.Limit.{most_probes}
 use Rattle.search.specs.Search.{promise, Decision, made_in}
 use Rattle.comparison.specs.Probe.{SheetCoins, Each}
 use Rattle.record.specs.declared.Party.{Party}
-use Rattle.session.specs.declared.reply.Answer.TheVariants.{Cleared}
 use Rattle.refusal.specs.declared.Refusal.TheVariants.{NotCleared}
 use Rattle.bid.specs.Table.{most}
-use Rattle.filling.specs.declared.Filled.TheVariants.{Hours, Refused}
-use Rattle.filling.specs.Fill.{hours, remainder, fill_reply}
+use Rattle.filling.specs.Fill.{shared, fill_reply}
 use Rattle.filling.specs.Sums.{AllFills}
 use Rattle.auction.specs.Auction.{Auction, IsAuction, bidders, wanted, demand, supply, clearing_answer, balanced_answer, price_answer, left_side, right_side, probed, rounds}
 use Rattle.auction.specs.Coins.{Coins, InRange}
@@ -51,8 +50,8 @@ pub record Found (a : Auction) (ds : List Decision) (q : Party) : Type 0 where
 -- remainder"; "16 Not cleared, .. when m is 0".
 pub record FleetTold (a : Auction) (q : Party) : Type 0 where
   pub filled : 0 < price_answer a → (amount : ℕ) → amount ≤ most
-      → fill_reply q amount ≡ Hours (hours (demand a (price_answer a)) (supply a (price_answer a)) amount) (remainder (demand a (price_answer a)) (supply a (price_answer a)) amount)
-  pub not_cleared : price_answer a ≡ 0 → (amount : ℕ) → fill_reply q amount ≡ Refused NotCleared
+      → fill_reply q amount ≡ Ok (shared (demand a (price_answer a)) (supply a (price_answer a)) amount)
+  pub not_cleared : price_answer a ≡ 0 → (amount : ℕ) → fill_reply q amount ≡ Err NotCleared
 
 -- what party j sees of a run in which it hears so many rounds, if there are so many, and then asks or not
 pub record Outcome (a : Auction) (hears : ℕ) (asks : Bool) (l : List Call) (j : ℕ) : Type 0 where
@@ -66,7 +65,7 @@ pub record Outcome (a : Auction) (hears : ℕ) (asks : Bool) (l : List Call) (j 
   -- heard
   pub asked : ℕ
   pub once_over : ((length (hearings j l) ≡ rounds a) × (asks ≡ true)) ↔ (0 < asked)
-  pub cleared : answers j l ≡ replicate asked (Cleared (price_answer a) (length (verdicts j l)))
+  pub cleared : answers j l ≡ replicate asked (the_answer (price_answer a) (length (verdicts j l)))
   -- the record that it asks with has what the searches found, and gives each fleet its hours
   pub found : Each (Found a (decisions j l)) (askings j l)
   pub fleets : Each (FleetTold a) (askings j l)

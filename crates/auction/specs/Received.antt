@@ -8,9 +8,8 @@ use Rattle.search.specs.Search.{Decision, decision_at}
 use Rattle.record.specs.declared.Party.{Party}
 use Rattle.round.specs.declared.Heard as heard_as
 use Rattle.round.specs.declared.Heard.{Heard}
-use Rattle.session.specs.declared.reply.Answer.{Answer}
 use Rattle.listening.specs.Listen.{width_of, opening}
-use Rattle.session.specs.Answer.{answer_reply}
+use Rattle.session.specs.Answer.{Answered, answer_reply}
 use Rattle.auction.specs.Call.{Call, open_call, split_call, split_entry_call, deal_call, add_call, say_call, hear_call, answer_call, fill_call}
 use Rattle.auction.specs.Canonical.{words}
 use Rattle.auction.specs.Run.{own}
@@ -95,7 +94,7 @@ hearings j l = collect hearing_in (own j l)
 abbrev pub askings : ℕ → List Call → List Party
 askings j l = collect asking_in (own j l)
 
-abbrev pub answers : ℕ → List Call → List Answer
+abbrev pub answers : ℕ → List Call → List Answered
 answers j l = map answer_reply (askings j l)
 
 abbrev pub sayings : ℕ → List Call → List Saying

@@ -1,5 +1,6 @@
 -- Entry after entry: a call for one entry changes one place, and all 2k entries, in any order, leave what `split` writes from the same
 -- words. Assumes nothing.
+use Rattle.std.specs.Prelude.{Err, Ok}
 use mathlib.Core.Path.{◌≡◌, refl, sym, ap, ap₂, ◌∙◌}
 use mathlib.Core.Logic.{◌↔◌}
 use mathlib.Core.Bool.{Bool, true, false, ◌&&◌, ◌||◌}
@@ -13,7 +14,6 @@ use lib.Seq.{length-take-le, drop-drop, get_or-set_same, get_or-set_other, ext_g
 use borrow.Author.Tests.{leb-true, le-leb, eqb-true, eqb-false}
 use Rattle.fields.specs.Amount.{p, amounts}
 use Rattle.refusal.specs.declared.Refusal.{Refusal}
-use Rattle.refusal.specs.declared.Judgement.TheVariants.{Accepted, Refused}
 use Rattle.refusal.proofs.Judging.{kept_new, kept_old, kept_either}
 use Rattle.ranges.specs.Lists.{from, every, member}
 use Rattle.ranges.specs.Orders.{Shuffle}
@@ -31,12 +31,12 @@ use Rattle.bid.proofs.Laws.{length_shares, entry, Splits, split_accepted, splits
 
 module _ (n own k entry : ℕ) (table coins shares : List ℕ) where
   -- a refused one changes nothing
-  pub refused_same : (why : Refusal) → split_entry_judgement n own k entry table coins shares ≡ Refused why
+  pub refused_same : (why : Refusal) → split_entry_judgement n own k entry table coins shares ≡ Err why
       → split_entry_left n own k entry table coins shares ≡ shares
   refused_same why e = kept_old _ _ shares why e
 
   -- an accepted one writes its share at its place
-  pub its_place : split_entry_judgement n own k entry table coins shares ≡ Accepted
+  pub its_place : split_entry_judgement n own k entry table coins shares ≡ Ok tt
       → get_or (split_entry_left n own k entry table coins shares) (entry - 1) 0 ≡ value amounts (get_or table (entry - 1) 0 ∷ coins) own
   its_place e =
       let S = splits_entry n own k entry table coins shares e in
@@ -97,7 +97,7 @@ module _ {n own k : ℕ} {table coins lent : List ℕ} (S : Splits n own k table
               };
         }
 
-    pub entry_accepted : split_entry_judgement n own k e table (entry_coins t e coins) shares ≡ Accepted
+    pub entry_accepted : split_entry_judgement n own k e table (entry_coins t e coins) shares ≡ Ok tt
     entry_accepted = split_entry_accepted n own k e table (entry_coins t e coins) shares entry_facts
 
     -- the share that `split` writes there
@@ -157,7 +157,7 @@ module _ {n own k : ℕ} {table coins lent : List ℕ} (S : Splits n own k table
 -- ---- the promise
 
 -- with the words of a call that is accepted, on a slice that may hold anything
-module _ (n own k : ℕ) (table coins lent : List ℕ) (accepted : split_judgement n own k table coins lent ≡ Accepted)
+module _ (n own k : ℕ) (table coins lent : List ℕ) (accepted : split_judgement n own k table coins lent ≡ Ok tt)
     (shares : List ℕ) (l : length shares ≡ 2 * k) where
   -- every entry is written once or more
   pub all_written : (order : List ℕ) → every (is_entry k) order ≡ true → ((e : ℕ) → 1 ≤ e → e ≤ 2 * k → member e order ≡ true)
@@ -191,8 +191,8 @@ groups_pass test t (suc m) xs l h =
 
 -- every entry is accepted with its t words exactly where the whole table is with all of them
 pub judged_alike : (n own k : ℕ) (table coins shares : List ℕ) → 1 ≤ k → length coins ≡ 2 * k * threshold n
-    → ((e : ℕ) → 1 ≤ e → e ≤ 2 * k → split_entry_judgement n own k e table (entry_coins (threshold n) e coins) shares ≡ Accepted)
-    ↔ (split_judgement n own k table coins shares ≡ Accepted)
+    → ((e : ℕ) → 1 ≤ e → e ≤ 2 * k → split_entry_judgement n own k e table (entry_coins (threshold n) e coins) shares ≡ Ok tt)
+    ↔ (split_judgement n own k table coins shares ≡ Ok tt)
 judged_alike n own k table coins shares k1 l = (
   (λ each.
       let facts : (e : ℕ) → 1 ≤ e → e ≤ 2 * k → SplitsEntry n own k e table (entry_coins (threshold n) e coins) shares =

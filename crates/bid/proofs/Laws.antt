@@ -1,4 +1,5 @@
 -- Laws of splitting a bid. Assumes nothing.
+use Rattle.std.specs.Prelude.{Ok}
 use mathlib.Core.Path.{◌≡◌, refl, sym, ap, ap₂, ◌∙◌}
 use mathlib.Core.Bool.{Bool, true, false, not, ◌&&◌}
 use mathlib.Core.List.{List, [], ◌∷◌}
@@ -13,7 +14,6 @@ use Rattle.ranges.specs.Sizes.{long}
 use Rattle.ranges.proofs.Loops.{and_left, and-true}
 use Rattle.ranges.proofs.Ranges.{OnList, on_list, on_list_of, all_below, is_below}
 use Rattle.refusal.specs.Judging.{judged}
-use Rattle.refusal.specs.declared.Judgement.TheVariants.{Accepted}
 use Rattle.refusal.proofs.Judging.{passes, passed}
 use Rattle.sharing.specs.Polynomial.{value}
 use Rattle.sharing.specs.Scheme.{threshold}
@@ -51,7 +51,7 @@ pub record Faultless (k : ℕ) (table coins : List ℕ) : Type 0 where
   pub monotone : monotone k table ≡ true
 
 module _ (k : ℕ) (table coins : List ℕ) where
-  faultless : judged (faults k table coins) ≡ Accepted → Faultless k table coins
+  faultless : judged (faults k table coins) ≡ Ok tt → Faultless k table coins
   faultless e =
       let coin = passed _ _ _ e in
       let amount = passed _ _ _ coin.1 in
@@ -62,7 +62,7 @@ module _ (k : ℕ) (table coins : List ℕ) where
         monotone = not-false _ step.0;
       }
 
-  no_fault : Faultless k table coins → judged (faults k table coins) ≡ Accepted
+  no_fault : Faultless k table coins → judged (faults k table coins) ≡ Ok tt
   unfolding judged
   no_fault h = rw (is_below p coins h.coins_below, h.small, h.monotone)
 
@@ -74,7 +74,7 @@ pub record Splits (n own k : ℕ) (table coins shares : List ℕ) : Type 0 where
   pub faultless : Faultless k table coins
 
 module _ (n own k : ℕ) (table coins shares : List ℕ) where
-  pub splits : split_judgement n own k table coins shares ≡ Accepted → Splits n own k table coins shares
+  pub splits : split_judgement n own k table coins shares ≡ Ok tt → Splits n own k table coins shares
   unfolding split_judgement
   splits e =
       let range = passed _ _ _ e in
@@ -89,7 +89,7 @@ module _ (n own k : ℕ) (table coins shares : List ℕ) where
         faultless = faultless k table coins sizes.1;
       }
 
-  pub split_accepted : Splits n own k table coins shares → split_judgement n own k table coins shares ≡ Accepted
+  pub split_accepted : Splits n own k table coins shares → split_judgement n own k table coins shares ≡ Ok tt
   unfolding split_judgement
   split_accepted h =
       passes _ _ _ (ap not (on_list_of n own k h.listed))
@@ -107,7 +107,7 @@ pub record SplitsEntry (n own k entry : ℕ) (table coins shares : List ℕ) : T
   pub faultless : Faultless k table coins
 
 module _ (n own k entry : ℕ) (table coins shares : List ℕ) where
-  pub splits_entry : split_entry_judgement n own k entry table coins shares ≡ Accepted → SplitsEntry n own k entry table coins shares
+  pub splits_entry : split_entry_judgement n own k entry table coins shares ≡ Ok tt → SplitsEntry n own k entry table coins shares
   unfolding split_entry_judgement
   splits_entry e =
       let range = passed _ _ _ e in
@@ -126,7 +126,7 @@ module _ (n own k entry : ℕ) (table coins shares : List ℕ) where
         faultless = faultless k table coins sizes.1;
       }
 
-  pub split_entry_accepted : SplitsEntry n own k entry table coins shares → split_entry_judgement n own k entry table coins shares ≡ Accepted
+  pub split_entry_accepted : SplitsEntry n own k entry table coins shares → split_entry_judgement n own k entry table coins shares ≡ Ok tt
   unfolding split_entry_judgement
   split_entry_accepted h =
       passes _ _ _ (rw (on_list_of n own k h.listed, le-leb 1 entry h.entry_least, le-leb entry (2 * k) h.entry_most))

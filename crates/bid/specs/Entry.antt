@@ -3,7 +3,7 @@
 use Rattle.std.specs.Prelude.{Bool, not, ◌&&◌, List, [], ◌∷◌, ℕ, ◌-◌, ◌*◌, leb, take, drop, set, get_or}
 use Rattle.fields.specs.Amount.{amounts}
 use Rattle.refusal.specs.Judging.{◌⇒◌, judged, kept}
-use Rattle.refusal.specs.declared.Judgement.{Judgement}
+use Rattle.refusal.specs.Refusal.{Judgement}
 use Rattle.refusal.specs.declared.Refusal.TheVariants.{OutOfRange, WrongLength}
 use Rattle.sharing.specs.Polynomial.{value}
 use Rattle.sharing.specs.Scheme.{threshold}

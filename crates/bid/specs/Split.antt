@@ -2,7 +2,7 @@
 use Rattle.std.specs.Prelude.{not, ◌&&◌, List, [], ◌∷◌, ℕ, ◌*◌, leb, ltb}
 use Rattle.fields.specs.Amount.{p, amounts}
 use Rattle.refusal.specs.Judging.{Test, ◌⇒◌, judged, kept}
-use Rattle.refusal.specs.declared.Judgement.{Judgement}
+use Rattle.refusal.specs.Refusal.{Judgement}
 use Rattle.refusal.specs.declared.Refusal.TheVariants.{OutOfRange, WrongLength, CoinOutOfRange, AmountTooLarge, NotMonotone}
 use Rattle.ranges.specs.Lists.{every}
 use Rattle.sharing.specs.Polynomial.{share_each}

@@ -33,11 +33,9 @@ pub fn split(
     ensures { (result ≡ split_judgement n own k table.now coins.now shares.old)
         × (shares.new ≡ split_left n own k table.now coins.now shares.old) }
 {
-    let judgement = judge(n, own, k, table, coins, &shares[..]);
-    if let Judgement::Accepted = judgement {
-        write(threshold(n) as usize, own, table, coins, shares);
-    }
-    judgement
+    judge(n, own, k, table, coins, &shares[..])?;
+    write(threshold(n) as usize, own, table, coins, shares);
+    Ok(())
 }
 
 // Writes a party's share of one entry, made with t coins of its own, and no other place of the lent
@@ -54,12 +52,10 @@ pub fn split_entry(
     ensures { (result ≡ split_entry_judgement n own k entry table.now coins.now shares.old)
         × (shares.new ≡ split_entry_left n own k entry table.now coins.now shares.old) }
 {
-    let judgement = judge_entry(n, own, k, entry, table, coins, &shares[..]);
-    if let Judgement::Accepted = judgement {
-        let place = entry as usize - 1;
-        shares[place] = share(table[place], coins, own);
-    }
-    judgement
+    judge_entry(n, own, k, entry, table, coins, &shares[..])?;
+    let place = entry as usize - 1;
+    shares[place] = share(table[place], coins, own);
+    Ok(())
 }
 
 // The first refusal that applies. The lengths are computed only of an n and a k in their ranges.
@@ -67,12 +63,12 @@ fn judge(n: u64, own: u64, k: u64, table: &[u64], coins: &[u64], shares: &[u64])
     ensures { result ≡ split_judgement n own k table.now coins.now shares.now }
 {
     if !on_list(n, own, k) {
-        return Judgement::Refused(Refusal::OutOfRange);
+        return Err(Refusal::OutOfRange);
     }
     let entries = 2 * k as usize;
     let t = threshold(n) as usize;
     if !((table.len() == entries) & (coins.len() == entries * t) & (shares.len() == entries)) {
-        return Judgement::Refused(Refusal::WrongLength);
+        return Err(Refusal::WrongLength);
     }
     judge_lent(k as usize, table, coins)
 }
@@ -90,15 +86,15 @@ fn judge_entry(
     ensures { result ≡ split_entry_judgement n own k entry table.now coins.now shares.now }
 {
     if !on_list(n, own, k) {
-        return Judgement::Refused(Refusal::OutOfRange);
+        return Err(Refusal::OutOfRange);
     }
     if !((1 <= entry) & (entry <= 2 * k)) {
-        return Judgement::Refused(Refusal::OutOfRange);
+        return Err(Refusal::OutOfRange);
     }
     let entries = 2 * k as usize;
     let t = threshold(n) as usize;
     if !((table.len() == entries) & (coins.len() == t) & (shares.len() == entries)) {
-        return Judgement::Refused(Refusal::WrongLength);
+        return Err(Refusal::WrongLength);
     }
     judge_lent(k as usize, table, coins)
 }
@@ -109,17 +105,17 @@ fn judge_lent(half: usize, table: &[u64], coins: &[u64]) -> Judgement
     ensures { result ≡ judged (faults half table.now coins.now) }
 {
     if !all_below(coins, P) {
-        return Judgement::Refused(Refusal::CoinOutOfRange);
+        return Err(Refusal::CoinOutOfRange);
     }
     let in_order = (first_bend(&table[..half], false) == half)
         & (first_bend(&table[half..], true) == half);
     if !is_small(table, half, in_order) {
-        return Judgement::Refused(Refusal::AmountTooLarge);
+        return Err(Refusal::AmountTooLarge);
     }
     if !in_order {
-        return Judgement::Refused(Refusal::NotMonotone);
+        return Err(Refusal::NotMonotone);
     }
-    Judgement::Accepted
+    Ok(())
 }
 
 // Where both halves are in order, as `monotone` has it, the largest amounts stand at the table's two
@@ -141,14 +137,10 @@ fn write(t: usize, own: u64, table: &[u64], coins: &[u64], shares: &mut [u64])
         × (t ≤ 4) × (own ≤ 9) }
     ensures { shares.new ≡ bid_shares t own table.now coins.now }
 {
-    let mut at = 0;
-    let mut i = 0;
-    while i < table.len() {
-        let amount = table[i];
+    for (i, amount) in table.iter().enumerate() {
+        let at = i * t;
         let next = at + t;
-        shares[i] = share(amount, &coins[at..next], own);
-        at = next;
-        i += 1;
+        shares[i] = share(*amount, &coins[at..next], own);
     }
 }
 
@@ -160,12 +152,9 @@ fn share(amount: u64, coins: &[u64], own: u64) -> u64
 {
     let mut low: u64 = 0;
     let mut high: u64 = 0;
-    let mut i = coins.len();
-    while 0 < i {
-        i -= 1;
-        let coin = coins[i];
-        low = (low + coin % HALF) * own;
-        high = (high + coin / HALF) * own;
+    for coin in coins.iter().rev() {
+        low = (low + *coin % HALF) * own;
+        high = (high + *coin / HALF) * own;
     }
     AmountShare::joined(low + amount % HALF, high + amount / HALF).0
 }

@@ -2,8 +2,33 @@
 #![tactic(auto)]
 
 ghost use Rattle.std.specs.Prelude.{◌≡◌};
-ghost use Rattle.fields.specs.Byte.{xtimes};
+ghost use Rattle.fields.specs.Byte.{xtimes, bytes};
 ghost use Rattle.byte_rows.specs.Row.{multiples};
+
+// A byte and every product of it: a point with the row that products by it are read from.
+#[derive(Drop)]
+pub struct ByteRow {
+    pub byte: u8,
+    products: [u8; 256],
+    ghost are_multiples: { products ≡ multiples byte },
+}
+
+impl ByteRow {
+    pub fn new(byte: u8) -> ByteRow
+        ensures { result.byte ≡ byte }
+    {
+        ByteRow {
+            byte,
+            products: multiples(byte),
+        }
+    }
+
+    pub fn product(&self, by: u8) -> u8
+        ensures { result ≡ bytes.mul self.now.byte by }
+    {
+        self.products[by as usize]
+    }
+}
 
 // Every product of a byte. Those by 2^k and more are those by less, with the product by 2^k added.
 pub fn multiples(a: u8) -> [u8; 256]
@@ -12,11 +37,11 @@ pub fn multiples(a: u8) -> [u8; 256]
     let mut row = [0u8; 256];
     let mut doubled = a;
     let mut size = 1;
+    // The size doubles, so no range counts it.
     while size < 256 {
-        let mut i = 0;
-        while i < size {
+        // One half of the row is read and the other written, so by number.
+        for i in 0..size {
             row[size + i] = row[i] ^ doubled;
-            i += 1;
         }
         doubled = xtime(doubled);
         size = 2 * size;

@@ -85,14 +85,12 @@ pub(crate) fn add_bids(
         × Adds n k bids (drop at input.now) state parties totals.old result.parties totals.new }
 {
     let mut so_far = Added { parties, at, state };
-    let mut i = 0;
-    while i < bids {
+    for i in 0..bids {
         let place = so_far.at;
         let drawn = so_far.state;
         let records = so_far.parties;
         let next = add_next(n, k, i + 1, input, place, drawn, records, totals);
         so_far = next;
-        i += 1;
     }
     so_far
 }

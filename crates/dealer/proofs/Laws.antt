@@ -1,4 +1,5 @@
 -- Laws of dealing. Assumes nothing.
+use Rattle.std.specs.Prelude.{Ok}
 use mathlib.Core.Path.{◌≡◌, refl, ap₂, ◌∙◌}
 use mathlib.Core.Bool.{true}
 use mathlib.Core.List.{List, ◌∷◌}
@@ -11,7 +12,6 @@ use Rattle.ranges.specs.Lists.{from}
 use Rattle.ranges.proofs.Loops.{and-true, map_from}
 use Rattle.ranges.proofs.Ranges.{IsParty, a_party, is_party, all_below, is_below}
 use Rattle.refusal.specs.Judging.{judged}
-use Rattle.refusal.specs.declared.Judgement.TheVariants.{Accepted}
 use Rattle.refusal.proofs.Judging.{passed}
 use Rattle.fields.specs.Amount.{p}
 use Rattle.fields.specs.Bits.{bit}
@@ -66,7 +66,7 @@ pub record Deals (n own last : ℕ) (words drawn sheet : List ℕ) : Type 0 wher
   pub coins_below : AllBelow p (drop 1 words)
 
 module _ (n own last : ℕ) (words drawn sheet : List ℕ) where
-  pub deals : deal_judgement n own last words drawn sheet ≡ Accepted → Deals n own last words drawn sheet
+  pub deals : deal_judgement n own last words drawn sheet ≡ Ok tt → Deals n own last words drawn sheet
   unfolding deal_judgement
   deals e =
       let range = passed _ _ _ e in
@@ -86,7 +86,7 @@ module _ (n own last : ℕ) (words drawn sheet : List ℕ) where
         coins_below = all_below p (drop 1 words) m.1;
       }
 
-  pub deal_accepted : Deals n own last words drawn sheet → deal_judgement n own last words drawn sheet ≡ Accepted
+  pub deal_accepted : Deals n own last words drawn sheet → deal_judgement n own last words drawn sheet ≡ Ok tt
   unfolding deal_judgement judged
   deal_accepted h =
       simp (

@@ -63,11 +63,7 @@ pub fn deal_all(n: u64, k: u64, state: u64, sheets: &mut [u64])
     let most = most_probes(k) as usize;
     let width = 127 * most;
     let mut last = state;
-    let mut at = 0;
-    let mut i = 0;
-    while i < most {
-        last = deal_next(n, last, at, width, sheets);
-        at += 127;
-        i += 1;
+    for i in 0..most {
+        last = deal_next(n, last, 127 * i, width, sheets);
     }
 }

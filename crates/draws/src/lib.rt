@@ -41,26 +41,23 @@ pub fn draw_coins(state: u64, coins: &mut [u64]) -> u64
         × (result ≡ later next_coin (length coins.old) state) }
 {
     let mut last = state;
-    let mut i = 0;
-    while i < coins.len() {
+    for coin in coins.iter_mut() {
         last = next_coin(last);
-        coins[i] = last % (1 << 61);
-        i += 1;
+        *coin = last % (1 << 61);
     }
     last
 }
 
-// Fills a slice with bytes.
+// Fills a slice with bytes. One function for this and for coefficients would take the step and what is
+// read off a state as closures, and its clauses on them would be longer than both bodies.
 pub fn draw_bytes(state: u64, bytes: &mut [u8]) -> u64
     ensures { (bytes.new ≡ drawn_bytes (length bytes.old) state)
         × (result ≡ later next (length bytes.old) state) }
 {
     let mut last = state;
-    let mut i = 0;
-    while i < bytes.len() {
+    for byte in bytes.iter_mut() {
         last = next(last);
-        bytes[i] = (last % 256) as u8;
-        i += 1;
+        *byte = (last % 256) as u8;
     }
     last
 }

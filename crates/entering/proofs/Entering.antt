@@ -2,32 +2,15 @@
 use mathlib.Core.Path.{◌≡◌, refl, sym, ap, ◌∙◌}
 use mathlib.Core.List.{List, [], ◌∷◌, ◌++◌, append_assoc, append-nil}
 use Prim.Native.Nat.{ℕ, suc, ◌+◌, ◌-◌, ◌*◌, ◌≤◌, ◌<◌}
-use native.Mathlib.Numerals.{add-one}
 use native.Mathlib.Nat.{sub-zero}
 use native.Mathlib.Omega.{arith}
-use lib.ListN.{length, take, set, get_or, length-set}
-use lib.Seq.{take-suc-set, take_all}
+use lib.ListN.{length, take, get_or}
+use lib.Seq.{take_all}
+use borrow.Rule.Slice.PartMut.{put_mid}
+use Rattle.std.proofs.lemmas.Slice.{take-put_mid}
 use Rattle.lines.specs.Lines.{numbers, past}
 use Rattle.sections.specs.Sections.{tables}
 use Rattle.entering.specs.Entries.{entries}
-
-stored : (l : List ℕ) (i j a : ℕ) → i < length l → j ≡ i + 1 → take j (set l i a) ≡ take i l ++ (a ∷ [])
-stored l i j a h e = ap (λ (m : ℕ). take m (set l i a)) (e ∙ add-one i) ∙ take-suc-set l i a h
-
--- four entries, put one after another
-abbrev pub four : (l : List ℕ) (p a b c d : ℕ) → List ℕ
-four l p a b c d = set (set (set (set l p a) (p + 1) b) (p + 2) c) (p + 3) d
-
-pub length_four : (l : List ℕ) (p a b c d : ℕ) → length (four l p a b c d) ≡ length l
-length_four l p a b c d = simp length-set
-
-four_stored : (l : List ℕ) (p a b c d : ℕ) → p + 4 ≤ length l → take (p + 4) (four l p a b c d) ≡ take p l ++ (a ∷ b ∷ c ∷ d ∷ [])
-four_stored l p a b c d room =
-    stored (set (set (set l p a) (p + 1) b) (p + 2) c) (p + 3) (p + 4) d (simp length-set (omega arith)) (omega arith)
-    ∙ ap (λ (x : List ℕ). x ++ (d ∷ [])) (stored (set (set l p a) (p + 1) b) (p + 2) (p + 3) c (simp length-set (omega arith)) (omega arith))
-    ∙ ap (λ (x : List ℕ). (x ++ (c ∷ [])) ++ (d ∷ [])) (stored (set l p a) (p + 1) (p + 2) b (simp length-set (omega arith)) (omega arith))
-    ∙ ap (λ (x : List ℕ). ((x ++ (b ∷ [])) ++ (c ∷ [])) ++ (d ∷ [])) (stored l p (p + 1) a (omega arith) (omega arith))
-    ∙ simp append_assoc
 
 module _ (got : ℕ → ℕ) (k i bids : ℕ) (bytes : List ℕ) where
   -- so many bids are entered, and the others are still to be read
@@ -43,19 +26,19 @@ module _ (got : ℕ → ℕ) (k i bids : ℕ) (bytes : List ℕ) where
   unfolding tables entries
   next_entries rest left = refl
 
-  pub entered_more : (into rest later : List ℕ) (done a b c : ℕ) → done < bids → 4 * bids ≤ length into → Entered into done rest
-      → later ≡ past (2 * k) rest → a ≡ get_or (numbers (2 * k) rest) (i - 1) 0 → b ≡ got a → c ≡ get_or (numbers (2 * k) rest) (k + i - 1) 0
-      → Entered (four into (4 * done) a b c c) (done + 1) later
-  entered_more into rest later done a b c h room E el ea eb ec =
+  -- four entries were written
+  pub entered_more : (into rest later put : List ℕ) (done size a b c : ℕ) → done < bids → 4 * bids ≤ length into → Entered into done rest
+      → later ≡ past (2 * k) rest → put ≡ a ∷ b ∷ c ∷ c ∷ [] → a ≡ get_or (numbers (2 * k) rest) (i - 1) 0 → b ≡ got a
+      → c ≡ get_or (numbers (2 * k) rest) (k + i - 1) 0 → Entered (put_mid (4 * done) size into put) (done + 1) later
+  entered_more into rest later put done size a b c h room E el ep ea eb ec =
       let left = bids - (done + 1) in
       let one : suc left ≡ bids - done = omega arith in
-      let place : 4 * (done + 1) ≡ 4 * done + 4 = omega arith in
       let same : (a ∷ b ∷ c ∷ c ∷ []) ++ entries got k i (tables k left later) ≡ entries got k i (tables k (bids - done) rest) =
       rw (el, eb, ec, ea) (sym (next_entries rest left) ∙ ap (λ (m : ℕ). entries got k i (tables k m rest)) one) in
-      ap (λ (m : ℕ). take m (four into (4 * done) a b c c) ++ entries got k i (tables k left later)) place
-      ∙ ap (λ (x : List ℕ). x ++ entries got k i (tables k left later)) (four_stored into (4 * done) a b c c (omega arith))
-      ∙ append_assoc (take (4 * done) into) (a ∷ b ∷ c ∷ c ∷ []) (entries got k i (tables k left later))
-      ∙ ap (λ (x : List ℕ). take (4 * done) into ++ x) same
+      ap (λ (x : List ℕ). x ++ entries got k i (tables k left later))
+      (take-put_mid (4 * done) size into put (4 * (done + 1)) (omega (arith, ap length ep)) (omega arith))
+      ∙ append_assoc (take (4 * done) into) put (entries got k i (tables k left later))
+      ∙ ap (λ (x : List ℕ). take (4 * done) into ++ x) (ap (λ (x : List ℕ). x ++ entries got k i (tables k left later)) ep ∙ same)
       ∙ E
 
   pub entered_all : (into rest : List ℕ) (done : ℕ) → bids ≤ done → length into ≤ 4 * bids → Entered into done rest

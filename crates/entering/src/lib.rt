@@ -6,7 +6,7 @@ ghost use Rattle.std.specs.Prelude.{◌≡◌, ◌*◌, ◌≤◌, length, drop}
 ghost use Rattle.sections.specs.Sections.{tables};
 ghost use Rattle.entering.specs.Entries.{entries, hours_told};
 
-use filling::{Filled, fill};
+use filling::fill;
 use lines::read_table;
 use record::Party;
 
@@ -18,11 +18,7 @@ fn no_table() -> [u64; 512] {
 fn hours(party: Party, amount: u64) -> u64
     ensures { result ≡ hours_told party amount }
 {
-    let filled = fill(party, amount);
-    match filled {
-        Filled::Hours(got, _) => got,
-        Filled::Refused(_) => 0,
-    }
+    fill(party, amount).map_or(0, |hours| hours.got)
 }
 
 // Fills the entries from the bids that begin at `at`, at one of k listed prices, with the record of a
@@ -68,16 +64,11 @@ fn enter_all(
     ensures { into.new ≡ entries (hours_told party) k index (tables k bids (drop at input.now)) }
 {
     let mut next = at;
-    let mut done = 0;
-    while done < bids {
+    // by place, since the library promises nothing of what a slice lent as chunks (`chunks_mut`) ends as
+    for bid in 0..bids {
         next = read_table(input, next, table);
         let wanted = table[index - 1];
         let sold = table[k + index - 1];
-        let place = 4 * done;
-        into[place] = wanted;
-        into[place + 1] = hours(party, wanted);
-        into[place + 2] = sold;
-        into[place + 3] = sold;
-        done += 1;
+        into[4 * bid..4 * bid + 4].copy_from_slice(&[wanted, hours(party, wanted), sold, sold]);
     }
 }

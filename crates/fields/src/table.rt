@@ -1,9 +1,8 @@
 // Logarithms and powers on the generator 03h. A constant is written to the stack wherever it is named: so what
-// makes many products asks for each table once, and lends it to all that reads it.
+// makes many products asks for the tables once, and lends them to all that reads them.
 ghost use Rattle.std.specs.Prelude.{◌≡◌, slice_index};
-ghost use Rattle.fields.specs.Table.{logarithms, powers, added};
-
-use std::num::wrapping_add_u8;
+ghost use Rattle.fields.specs.Byte.{bytes};
+ghost use Rattle.fields.specs.Table.{logarithms, powers, Tables, added};
 
 // The exponent of each byte. 0 has none, and its place is not read.
 const LOGARITHMS: [u8; 256] = *b"\
@@ -43,38 +42,54 @@ const POWERS: [u8; 256] = *b"\
     \x12\x36\x5a\xee\x29\x7b\x8d\x8c\x8f\x8a\x85\x94\xa7\xf2\x0d\x17\
     \x39\x4b\xdd\x7c\x84\x97\xa2\xfd\x1c\x24\x6c\xb4\xc7\x52\xf6\x01";
 
-pub fn log_table() -> [u8; 256]
-    ensures { result ≡ logarithms }
-{
-    LOGARITHMS
+// Both tables. A ghost field says that they are those of the definition, so no function asks it of who lends them.
+#[derive(Drop)]
+pub struct ByteTables {
+    log_table: [u8; 256],
+    power_table: [u8; 256],
+    ghost are_tables: { Tables log_table power_table },
 }
 
-pub fn power_table() -> [u8; 256]
-    ensures { result ≡ powers }
-{
-    POWERS
-}
+impl ByteTables {
+    pub fn new() -> ByteTables {
+        ByteTables {
+            log_table: LOGARITHMS,
+            power_table: POWERS,
+        }
+    }
 
-// The exponent of a byte. 0 has none: who asks for it has looked for 0 first.
-pub fn log(table: &[u8; 256], a: u8) -> u8
-    requires { table.now ≡ logarithms }
-    ensures { result ≡ slice_index logarithms a }
-{
-    table[a as usize]
-}
+    // The exponent of a byte. 0 has none: who asks for it has looked for 0 first.
+    pub fn log(&self, a: u8) -> u8
+        ensures { result ≡ slice_index logarithms a }
+    {
+        self.log_table[a as usize]
+    }
 
-// 03h to the power of n.
-pub fn power(table: &[u8; 256], n: u8) -> u8
-    requires { table.now ≡ powers }
-    ensures { result ≡ slice_index powers n }
-{
-    table[n as usize]
+    // 03h to the power of n.
+    pub fn power(&self, n: u8) -> u8
+        ensures { result ≡ slice_index powers n }
+    {
+        self.power_table[n as usize]
+    }
+
+    // Of bytes that are no shares too. The exponents of the factors are added; 0 has none.
+    pub fn product(&self, a: u8, b: u8) -> u8
+        ensures { result ≡ bytes.mul a b }
+    {
+        if a == 0 {
+            return 0;
+        }
+        if b == 0 {
+            return 0;
+        }
+        self.power(exponent(self.log(a), self.log(b)))
+    }
 }
 
 // The exponent of a product: 03h to the power of 255 is 1, so what wraps is 1 too small.
 pub fn exponent(a: u8, b: u8) -> u8
     ensures { result ≡ added a b }
 {
-    let sum = wrapping_add_u8(a, b);
+    let sum = a.wrapping_add(b);
     if sum < a { sum + 1 } else { sum }
 }

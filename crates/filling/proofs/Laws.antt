@@ -1,4 +1,5 @@
 -- The judgement of a fill, in facts: the call is accepted exactly where they hold. Assumes nothing.
+use Rattle.std.specs.Prelude.{Err, Ok}
 use mathlib.Core.Path.{◌≡◌, refl, ap}
 use mathlib.Core.Bool.{Bool, true, false, not, ◌&&◌}
 use Prim.Native.Nat.{ℕ, ◌≤◌}
@@ -7,7 +8,6 @@ use lib.Dec.{eqb}
 use borrow.Author.Tests.{ltb-false, eqb-true, not-false, le-ltb, eq-eqb, ne_eqb}
 use Rattle.ranges.proofs.Loops.{and_right, and_false}
 use Rattle.refusal.specs.Judging.{judged}
-use Rattle.refusal.specs.declared.Judgement.TheVariants.{Accepted, Refused}
 use Rattle.refusal.specs.declared.Refusal.TheVariants.{NotCleared}
 use Rattle.refusal.proofs.Judging.{passed}
 use Rattle.search.specs.Searches.{clears}
@@ -39,7 +39,7 @@ pub record Fills (q : Party) (amount : ℕ) : Type 0 where
   pub small : amount ≤ most
 
 module _ (q : Party) (amount : ℕ) where
-  pub fills : fill_judgement q amount ≡ Accepted → Fills q amount
+  pub fills : fill_judgement q amount ≡ Ok tt → Fills q amount
   unfolding fill_judgement
   fills e =
       let whole = passed _ _ _ e in
@@ -51,11 +51,11 @@ module _ (q : Party) (amount : ℕ) where
         small = ltb-false most amount size.0;
       }
 
-  pub fill_accepted : Fills q amount → fill_judgement q amount ≡ Accepted
+  pub fill_accepted : Fills q amount → fill_judgement q amount ≡ Ok tt
   unfolding fill_judgement judged
   fill_accepted h = rw (sound_of q h.sound, opened q h.sound h.last_round, le-ltb most amount h.small)
 
   -- before the totals are open, and where there is no price
-  pub not_cleared : Sound q → (q.round ≡ 36 → ⊥) → fill_judgement q amount ≡ Refused NotCleared
+  pub not_cleared : Sound q → (q.round ≡ 36 → ⊥) → fill_judgement q amount ≡ Err NotCleared
   unfolding fill_judgement judged
   not_cleared h other = rw (sound_of q h, unopened q other)

@@ -4,7 +4,7 @@
 ghost use Rattle.std.specs.Prelude.{◌≡◌, ◌^◌, ◌≤◌, ◌<◌};
 ghost use Rattle.bid.specs.Table.{most};
 ghost use Rattle.record.specs.Record.{sound};
-ghost use Rattle.filling.specs.Fill.{hours, remainder, fill_reply};
+ghost use Rattle.filling.specs.Fill.{shared, fill_reply};
 
 use bid::MOST;
 use record::{Party, sound};
@@ -15,44 +15,49 @@ const OPEN: u64 = 36;
 
 // The tenths of an hour that the buyer gets, and the remainder of the division.
 #[derive(Clone, Copy)]
-pub enum Filled {
-    Hours(u64, u64),
-    Refused(Refusal),
+pub struct Hours {
+    pub got: u64,
+    pub remainder: u64,
 }
 
-pub fn fill(q: Party, amount: u64) -> Filled
+pub fn fill(q: Party, amount: u64) -> Result<Hours, Refusal>
     ensures { result ≡ fill_reply q amount }
 {
     fill_judged(q, sound(q), amount)
 }
 
-// The same, of a record that who calls has judged where it stands.
-pub fn fill_judged(q: Party, whole: bool, amount: u64) -> Filled
+// The same, of a record that who calls has judged where it stands. The two stay apart: a struct of them would be made for this one
+// call, and taken apart in it.
+pub fn fill_judged(q: Party, whole: bool, amount: u64) -> Result<Hours, Refusal>
     requires { whole ≡ sound q }
     ensures { result ≡ fill_reply q amount }
 {
     if !whole {
-        return Filled::Refused(Refusal::OutOfRange);
+        return Err(Refusal::OutOfRange);
     }
     // a sound record has this round only where the searches ended at a price
     if q.round != OPEN {
-        return Filled::Refused(Refusal::NotCleared);
+        return Err(Refusal::NotCleared);
     }
     if MOST < amount {
-        return Filled::Refused(Refusal::AmountTooLarge);
+        return Err(Refusal::AmountTooLarge);
     }
-    share_out(q.demand, q.supply, amount)
+    Ok(share_out(q.demand, q.supply, amount))
 }
 
-fn share_out(demand: u64, supply: u64, amount: u64) -> Filled
+fn share_out(demand: u64, supply: u64, amount: u64) -> Hours
     requires { (amount ≤ most) × (supply < 2 ^ 32) }
-    ensures { result ≡ Filled.Hours (hours demand supply amount) (remainder demand supply amount) }
+    ensures { result ≡ shared demand supply amount }
 {
     if demand == 0 {
-        return Filled::Hours(0, 0);
+        return Hours {
+            got: 0,
+            remainder: 0,
+        };
     }
     let product = amount * supply;
-    let got = product / demand;
-    let left = product % demand;
-    Filled::Hours(got, left)
+    Hours {
+        got: product / demand,
+        remainder: product % demand,
+    }
 }

@@ -10,6 +10,7 @@ ghost use Rattle.message.specs.Message.{in_level};
 ghost use Rattle.listening.specs.Listen.{width_of, opened_judgement};
 ghost use Rattle.heard_round.specs.Next.{heard_next, HasSheet};
 
+use level::Level;
 use level_round::hear_level;
 use listening::{judge, open_single};
 use record_words::{read, store_heard, store_level};
@@ -33,13 +34,15 @@ pub fn by_level(
     let q = read(&words[..]);
     let pairs = q.pairs;
     let kept = pairs.words;
-    let level = hear_level(q.n, q.round, q.sum, &kept, sheet, all, present, messages);
-    if !level.opened {
-        return Judgement::Refused(Refusal::Inconsistent);
-    }
-    let next = level.pairs;
+    let level = Level {
+        round: q.round,
+        sum: q.sum,
+        kept: &kept,
+        sheet,
+    };
+    let next = hear_level(q.n, &level, all, present, messages).ok_or(Refusal::Inconsistent)?;
     store_level(q.round + 1, next, words);
-    Judgement::Accepted
+    Ok(())
 }
 
 // A round in which each party says one word, heard.
@@ -57,12 +60,8 @@ pub fn by_one(
 {
     let q = read(&words[..]);
     let opened = open_single(q, all, present, messages);
-    match judge(q.round, q.demand, q.supply, opened) {
-        Judgement::Accepted => {
-            // After the last round of a probe, which gives the verdict, no pair is kept.
-            store_heard(after(q, sheet, opened), q.round == q.last, words);
-            Judgement::Accepted
-        }
-        Judgement::Refused(why) => Judgement::Refused(why),
-    }
+    judge(q.round, q.demand, q.supply, opened)?;
+    // After the last round of a probe, which gives the verdict, no pair is kept.
+    store_heard(after(q, sheet, opened), q.round == q.last, words);
+    Ok(())
 }

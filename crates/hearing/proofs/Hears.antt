@@ -1,6 +1,7 @@
 -- Hearing a round, in facts: when it is accepted. Assumes nothing.
+use Rattle.std.proofs.Common.{Ok, Err, Some, None, is_some}
 use mathlib.Core.Path.{◌≡◌, refl, sym, ap, ap₂, ◌∙◌}
-use mathlib.Core.Bool.{Bool, true, false, not, ◌&&◌}
+use mathlib.Core.Bool.{Bool, true, false, not, cond, ◌&&◌}
 use mathlib.Core.List.{List, [], ◌∷◌}
 use Prim.Native.Nat.{ℕ, ◌*◌, ◌<◌}
 use lib.ListN.{length}
@@ -8,8 +9,7 @@ use borrow.Author.Tests.{not-false, leb-false, eqb-true, lt-leb, eq-eqb}
 use Rattle.refusal.specs.Judging.{then}
 use Rattle.refusal.specs.declared.Refusal.{Refusal}
 use Rattle.refusal.specs.declared.Refusal.TheVariants.{OutOfRange}
-use Rattle.refusal.specs.declared.Judgement.{Judgement}
-use Rattle.refusal.specs.declared.Judgement.TheVariants.{Accepted, Refused}
+use Rattle.refusal.specs.Refusal.{Judgement}
 use Rattle.refusal.proofs.Judging.{refuses, passes, all_passed, passed, judged_append, then_accepted}
 use Rattle.ranges.specs.Lists.{same}
 use Rattle.ranges.specs.Sizes.{long}
@@ -27,6 +27,11 @@ use Rattle.listening.specs.Listen.{width_of, own_words, opening, of_messages, me
 use Rattle.listening.proofs.Laws.{Admitted, admitted, admitted_tests}
 use Rattle.hearing.specs.Hear.{hear_judgement}
 
+-- whether the marks have a count
+pub counted : (marks : Bool) (count : ℕ) → is_some (cond marks (Some count) None) ≡ marks
+counted true count = refl
+counted false count = refl
+
 -- ---- hearing is judged as a turn is, and then by the marks and the messages
 
 module _ (q : Party) (totals sheets messages present : List ℕ) where
@@ -38,10 +43,10 @@ module _ (q : Party) (totals sheets messages present : List ℕ) where
   unfolding hear_judgement turn_judgement messages_judgement
   as_turn = judged_append (_ ∷ _ ∷ _ ∷ []) (of_messages q totals (current q sheets) messages present)
 
-  pub no_turn : (why : Refusal) → turn_of ≡ Refused why → hear_judgement q totals sheets messages present ≡ Refused why
+  pub no_turn : (why : Refusal) → turn_of ≡ Err why → hear_judgement q totals sheets messages present ≡ Err why
   no_turn why e = as_turn ∙ ap (λ (j : Judgement). then j (messages_judgement q totals (current q sheets) messages present)) e
 
-  pub by_messages : turn_of ≡ Accepted → hear_judgement q totals sheets messages present ≡ messages_judgement q totals (current q sheets) messages present
+  pub by_messages : turn_of ≡ Ok tt → hear_judgement q totals sheets messages present ≡ messages_judgement q totals (current q sheets) messages present
   by_messages e = as_turn ∙ ap (λ (j : Judgement). then j (messages_judgement q totals (current q sheets) messages present)) e
 
 -- a length is judged only where the record is sound
@@ -51,7 +56,7 @@ unfolding turn_judgement
 turn_whole q true a b totals sheets h = ap (turn_judgement q true totals sheets) (h refl)
 turn_whole q false a b totals sheets h = shut a ∙ sym (shut b)
   where
-    shut : (x : Bool) → turn_judgement q false totals sheets x ≡ Refused OutOfRange
+    shut : (x : Bool) → turn_judgement q false totals sheets x ≡ Err OutOfRange
     shut x = refuses _ _ _ refl
 
 -- ---- an accepted hearing
@@ -77,7 +82,7 @@ not_asked true test h = ap not (h refl)
 not_asked false test h = refl
 
 module _ (q : Party) (totals sheets messages present : List ℕ) where
-  pub hears : hear_judgement q totals sheets messages present ≡ Accepted → Hears q totals sheets messages present
+  pub hears : hear_judgement q totals sheets messages present ≡ Ok tt → Hears q totals sheets messages present
   unfolding messages_judgement
   hears e =
       let both = then_accepted _ (messages_judgement q totals (current q sheets) messages present) (sym (as_turn q totals sheets messages present) ∙ e) in
@@ -100,7 +105,7 @@ module _ (q : Party) (totals sheets messages present : List ℕ) where
         opening = admitted q.round q.demand q.supply (opening q present messages) straight.0 tame.0 whole.0;
       }
 
-  pub hear_accepted : Hears q totals sheets messages present → hear_judgement q totals sheets messages present ≡ Accepted
+  pub hear_accepted : Hears q totals sheets messages present → hear_judgement q totals sheets messages present ≡ Ok tt
   unfolding messages_judgement
   hear_accepted h =
       let tests = admitted_tests q.round q.demand q.supply (opening q present messages) h.opening in

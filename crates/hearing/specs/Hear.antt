@@ -1,7 +1,7 @@
 -- Hearing a round: how it is judged, and what it makes of the record. Assumes nothing.
 use Rattle.std.specs.Prelude.{◌≡◌, true, false, not, ◌&&◌, List, ◌∷◌, ℕ, ◌*◌, length}
 use Rattle.refusal.specs.Judging.{◌⇒◌, judged}
-use Rattle.refusal.specs.declared.Judgement.{Judgement}
+use Rattle.refusal.specs.Refusal.{Judgement}
 use Rattle.refusal.specs.declared.Refusal.TheVariants.{OutOfRange, WrongLength, OutOfTurn}
 use Rattle.ranges.specs.Sizes.{long}
 use Rattle.presence.specs.Presence.{are_marks, how_many}

@@ -47,17 +47,14 @@ pub fn hear_words(
 {
     let whole = is_sound(&words[..]);
     let q = read(&words[..]);
-    let tally = count_marks(present);
+    let count = count_marks(present);
     let long = are_messages(q, messages, present);
-    match turn(q, whole & tally.marks, totals, sheets, long) {
-        Judgement::Accepted => {}
-        Judgement::Refused(why) => return Judgement::Refused(why),
-    }
+    turn(q, whole & count.is_some(), totals, sheets, long)?;
     hear_with(
         words,
         totals,
         current(q, sheets),
-        tally.count,
+        count.unwrap(),
         messages,
         present,
     )
@@ -78,10 +75,7 @@ pub fn hear_with(
         (words_of (heard_next (party_of words.old) sheet.now messages.now present.now)) words.old) }
 {
     let q = read(&words[..]);
-    match listens(q, totals, sheet, count, messages, present) {
-        Judgement::Accepted => {}
-        Judgement::Refused(why) => return Judgement::Refused(why),
-    }
+    listens(q, totals, sheet, count, messages, present)?;
     let all = count == q.n;
     if in_level(q) {
         return by_level(words, sheet, all, present, messages);

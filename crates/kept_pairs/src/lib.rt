@@ -4,7 +4,8 @@
 ghost use Rattle.std.specs.Prelude.{◌≡◌, ◌<◌, get_or};
 ghost use Rattle.kept_pairs.specs.Pairs.{none};
 
-// Of at most 16 pairs the top's share and the bottom's, in list order; 0 where there is none.
+// Of at most 16 pairs the top's share and the bottom's, in list order; 0 where there is none. They lie flat, as the
+// record's 32 words do, which `record_words::words_of` says.
 #[derive(Clone, Copy)]
 pub struct Pairs {
     pub words: [u64; 32],

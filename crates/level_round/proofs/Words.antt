@@ -1,4 +1,5 @@
 -- What the number of a product says of its opening. Assumes nothing.
+use Rattle.std.specs.Prelude.{None, Some}
 use mathlib.Core.Path.{◌≡◌, refl, sym, ap, ap₂, ◌∙◌}
 use mathlib.Core.Bool.{Bool, true, false, cond, not, ◌&&◌}
 use mathlib.Core.List.{List, [], ◌∷◌, ◌++◌, map}
@@ -16,8 +17,7 @@ use Rattle.sharing.specs.Scheme.{threshold, points}
 use Rattle.weights.specs.Rows.{byte_rows, byte_scheme}
 use Rattle.openings.specs.Opening.{moments}
 use Rattle.openings.specs.Packed.{packed}
-use Rattle.openings.specs.declared.opening.Opening.{Opening}
-use Rattle.openings.specs.declared.opening.Opening.TheVariants.{Secret, Inconsistent}
+use Rattle.openings.specs.Opening.{Opening}
 use Rattle.openings.proofs.Laws.{byte_fits}
 use Rattle.openings.proofs.Packed.{from_place}
 use Rattle.openings.proofs.Parts.{lows, highs}
@@ -40,15 +40,15 @@ pub opened_byte : (n : ℕ) (present words : List ℕ) → IsByte (opened_by byt
 opened_byte n present words = go (opened_by byte_scheme n present words) refl
   where
     go : (o : Opening) → opened_by byte_scheme n present words ≡ o → IsByte o
-    go (Secret v) e = opened_lt n v present words e
-    go Inconsistent e = tt
+    go (Some v) e = opened_lt n v present words e
+    go None e = tt
 
 -- ---- whether a product opens, and what to
 
 word_opens : (low high : Opening) → IsByte low → IsByte high → ltb (product_word low high) 65536 ≡ not (unopened (factors_of low high))
-word_opens (Secret d) (Secret e) hd he = lt-ltb (d + 256 * e) 65536 (omega arith)
-word_opens (Secret d) Inconsistent hd he = refl
-word_opens Inconsistent high hd he = refl
+word_opens (Some d) (Some e) hd he = lt-ltb (d + 256 * e) 65536 (omega arith)
+word_opens (Some d) None hd he = refl
+word_opens None high hd he = refl
 
 sided : (d e : ℕ) → d < 256 → word_sides (d + 256 * e) ≡ record { left = d; right = e }
 sided d e h =
@@ -57,9 +57,9 @@ sided d e h =
     ap₂ (λ (x y : ℕ). record { left = x; right = y }) l r
 
 word_sided : (low high : Opening) → IsByte low → ltb (product_word low high) 65536 ≡ true → word_sides (product_word low high) ≡ heard_sides (factors_of low high)
-word_sided (Secret d) (Secret e) hd t = sided d e hd
-word_sided (Secret d) Inconsistent hd t = let l = ltb-true 65536 65536 t in absurd (omega arith)
-word_sided Inconsistent high hd t = let l = ltb-true 65536 65536 t in absurd (omega arith)
+word_sided (Some d) (Some e) hd t = sided d e hd
+word_sided (Some d) None hd t = let l = ltb-true 65536 65536 t in absurd (omega arith)
+word_sided None high hd t = let l = ltb-true 65536 65536 t in absurd (omega arith)
 
 -- ---- all products of a level
 
@@ -147,7 +147,7 @@ whole_kept K w l h past = ap (λ (z : List ℕ). take w K ++ z) (sym rest) ∙ t
 -- ---- by rows
 
 product_read : (low high : ℕ) (a b c : Bool)
-    → product_word (cond b (Secret low) Inconsistent) (cond (a && c) (Secret high) Inconsistent) ≡ cond (a && b && c) (low + 256 * high) 65536
+    → product_word (cond b (Some low) None) (cond (a && c) (Some high) None) ≡ cond (a && b && c) (low + 256 * high) 65536
 product_read low high true true true = refl
 product_read low high true true false = refl
 product_read low high true false c = refl
@@ -235,5 +235,5 @@ module _ (n w j : ℕ) (messages : List ℕ) (least : 3 ≤ n) (most : n ≤ 9) 
   by_rows low high bits el eh es =
       ap₂ product_word (sym (by_everyone byte_fits n (lows words)) ∙ sym (low_read n words many low el))
       (sym (by_everyone byte_fits n (map (λ v. v / 256) words)) ∙ sym (high_read n words many high eh)
-      ∙ ap (λ (b : Bool). cond (b && ltb high 256) (Secret high) Inconsistent) (sym es))
+      ∙ ap (λ (b : Bool). cond (b && ltb high 256) (Some high) None) (sym es))
       ∙ product_read low high (ltb bits 65536) (ltb low 256) (ltb high 256)

@@ -1,4 +1,5 @@
 -- Lines one after another: the numbers, the bytes and the soundness of one line more, and lines after lines. Assumes nothing.
+use Rattle.std.specs.Prelude.{unwrap_or, is_some}
 use mathlib.Core.Path.{◌≡◌, refl, sym, ap, ap₂, ◌∙◌}
 use mathlib.Core.Bool.{Bool, true, false, cond, ◌&&◌}
 use mathlib.Core.List.{List, [], ◌∷◌, ◌++◌}
@@ -9,7 +10,7 @@ use native.Mathlib.Omega.{arith}
 use lib.Dec.{eqb, eqb-suc-suc, eqb-zero-suc}
 use lib.ListN.{length, take, drop, set, get_or}
 use lib.Seq.{drop-drop, take-suc-set}
-use Rattle.lines.specs.Lines.{first_line, line_length, rest, line_value, shaped, numbers, bytes_of, formed, past}
+use Rattle.lines.specs.Lines.{first_line, line_length, rest, numbers, bytes_of, formed, past}
 
 -- lines after lines
 pub bytes_add : (a b : ℕ) (bytes : List ℕ) → bytes_of (a + b) bytes ≡ bytes_of a bytes + bytes_of b (past a bytes)
@@ -48,22 +49,22 @@ bytes_more i bytes = bytes_add i 1 bytes ∙ ap (λ (m : ℕ). bytes_of i bytes 
 pub line_more : (bytes : List ℕ) (at m : ℕ) → at ≡ bytes_of m bytes → at + line_length (drop at bytes) ≡ bytes_of (m + 1) bytes
 line_more bytes at m e = ap (λ (j : ℕ). j + line_length (drop j bytes)) e ∙ sym (bytes_more m bytes)
 
-pub numbers_more : (i : ℕ) (bytes : List ℕ) → numbers (suc i) bytes ≡ numbers i bytes ++ (line_value (first_line (past i bytes)) ∷ [])
+pub numbers_more : (i : ℕ) (bytes : List ℕ) → numbers (suc i) bytes ≡ numbers i bytes ++ (unwrap_or (first_line (past i bytes)) 0 ∷ [])
 unfolding numbers bytes_of
 numbers_more zero bytes = refl
 numbers_more (suc i) bytes =
-    ap (λ (l : List ℕ). line_value (first_line bytes) ∷ l)
-    (numbers_more i (rest bytes) ∙ ap (λ (l : List ℕ). numbers i (rest bytes) ++ (line_value (first_line l) ∷ [])) (after_rest i bytes))
+    ap (λ (l : List ℕ). unwrap_or (first_line bytes) 0 ∷ l)
+    (numbers_more i (rest bytes) ∙ ap (λ (l : List ℕ). numbers i (rest bytes) ++ (unwrap_or (first_line l) 0 ∷ [])) (after_rest i bytes))
 
 pub formed_more : (i : ℕ) (bytes : List ℕ)
-    → formed (suc i) bytes ≡ cond (eqb (formed i bytes) i && shaped (first_line (past i bytes))) (suc i) (formed i bytes)
+    → formed (suc i) bytes ≡ cond (eqb (formed i bytes) i && is_some (first_line (past i bytes))) (suc i) (formed i bytes)
 unfolding formed bytes_of
 formed_more zero bytes = refl
 formed_more (suc i) bytes =
-    ap (λ (s : ℕ). cond (shaped (first_line bytes)) (suc s) 0)
+    ap (λ (s : ℕ). cond (is_some (first_line bytes)) (suc s) 0)
     (formed_more i (rest bytes)
-    ∙ ap (λ (l : List ℕ). cond (eqb (formed i (rest bytes)) i && shaped (first_line l)) (suc i) (formed i (rest bytes))) (after_rest i bytes))
-    ∙ cases (shaped (first_line bytes)) (shaped (first_line (past (suc i) bytes))) (formed i (rest bytes))
+    ∙ ap (λ (l : List ℕ). cond (eqb (formed i (rest bytes)) i && is_some (first_line l)) (suc i) (formed i (rest bytes))) (after_rest i bytes))
+    ∙ cases (is_some (first_line bytes)) (is_some (first_line (past (suc i) bytes))) (formed i (rest bytes))
   where
     cases : (a b : Bool) (s : ℕ)
         → cond a (suc (cond (eqb s i && b) (suc i) s)) 0 ≡ cond (eqb (cond a (suc s) 0) (suc i) && b) (suc (suc i)) (cond a (suc s) 0)
@@ -82,7 +83,7 @@ counted_most false h = omega arith
 pub formed_most : (m : ℕ) (bytes : List ℕ) → formed m bytes ≤ m
 unfolding formed
 formed_most zero bytes = omega arith
-formed_most (suc m) bytes = counted_most (shaped (first_line bytes)) (formed_most m (rest bytes))
+formed_most (suc m) bytes = counted_most (is_some (first_line bytes)) (formed_most m (rest bytes))
 
 pub length_numbers : (m : ℕ) (bytes : List ℕ) → length (numbers m bytes) ≡ m
 unfolding numbers
@@ -90,11 +91,11 @@ length_numbers zero bytes = refl
 length_numbers (suc m) bytes = ap suc (length_numbers m (rest bytes))
 
 -- the number of a line, out of those of several
-pub number_at : (m i : ℕ) (bytes : List ℕ) → i < m → get_or (numbers m bytes) i 0 ≡ line_value (first_line (past i bytes))
+pub number_at : (m i : ℕ) (bytes : List ℕ) → i < m → get_or (numbers m bytes) i 0 ≡ unwrap_or (first_line (past i bytes)) 0
 unfolding numbers bytes_of
 number_at zero i bytes h = absurd (omega arith)
 number_at (suc m) zero bytes h = refl
-number_at (suc m) (suc i) bytes h = number_at m i (rest bytes) (omega arith) ∙ ap (λ (l : List ℕ). line_value (first_line l)) (after_rest i bytes)
+number_at (suc m) (suc i) bytes h = number_at m i (rest bytes) (omega arith) ∙ ap (λ (l : List ℕ). unwrap_or (first_line l) 0) (after_rest i bytes)
 
 -- a place of the input that lines have led to
 module _ (input : List ℕ) (at i next : ℕ) (led : next ≡ at + bytes_of i (drop at input)) where
@@ -110,7 +111,7 @@ module _ (input : List ℕ) (at i next : ℕ) (led : next ≡ at + bytes_of i (d
   first_here = ap first_line here
 
 -- one line more of a slice that is to be filled
-pub fill_more : (into bytes : List ℕ) (i v : ℕ) → i < length into → take i into ≡ numbers i bytes → v ≡ line_value (first_line (past i bytes))
+pub fill_more : (into bytes : List ℕ) (i v : ℕ) → i < length into → take i into ≡ numbers i bytes → v ≡ unwrap_or (first_line (past i bytes)) 0
     → take (i + 1) (set into i v) ≡ numbers (i + 1) bytes
 fill_more into bytes i v h e f =
     ap (λ (k : ℕ). take k (set into i v)) (add-one i)
@@ -119,7 +120,7 @@ fill_more into bytes i v h e f =
     ∙ sym (numbers_more i bytes)
     ∙ ap (λ (k : ℕ). numbers k bytes) (sym (add-one i))
 
-module _ (bytes : List ℕ) (i s : ℕ) (shape : Bool) (so_far : s ≡ formed i bytes) (same : shape ≡ shaped (first_line (past i bytes))) where
+module _ (bytes : List ℕ) (i s : ℕ) (shape : Bool) (so_far : s ≡ formed i bytes) (same : shape ≡ is_some (first_line (past i bytes))) where
   now : formed (i + 1) bytes ≡ cond (eqb s i && shape) (i + 1) s
   now = rw (add-one i, formed_more i bytes, so_far, same)
 

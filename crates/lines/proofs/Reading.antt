@@ -9,7 +9,7 @@ use native.Mathlib.Omega.{arith}
 use lib.ListN.{length, drop, get_or, drop_of_length-le}
 use lib.Seq.{drop-cons}
 use borrow.Author.Tests.{eq-eqb, ne_eqb, lt-ltb, le-ltb}
-use Rattle.lines.specs.declared.line.Line.TheVariants.{Misshapen}
+use Rattle.std.specs.Prelude.{None}
 use Rattle.lines.specs.declared.line.Part.{Part}
 use Rattle.lines.specs.declared.line.Part.TheVariants.{Digits, Bad}
 use Rattle.lines.specs.Lines.{with_digit, grown, ended, line_after, line_length}
@@ -49,7 +49,7 @@ module _ (input : List ℕ) (part : Part) (i : ℕ) (inside : i < length input) 
   unfolding line_length
   length_goes_on e = rw (first, ne_eqb _ 10 e) (omega arith)
 
-pub line_ends : (input : List ℕ) (part : Part) (i : ℕ) → length input ≤ i → line_after part (drop i input) ≡ Misshapen
+pub line_ends : (input : List ℕ) (part : Part) (i : ℕ) → length input ≤ i → line_after part (drop i input) ≡ None
 unfolding line_after
 line_ends input part i h = rw (drop_of_length-le input h)
 

@@ -1,8 +1,6 @@
 -- The lines of the input: "whole numbers, one a line ending in a newline, no leading zeros, at most 2^64 - 1". Assumes nothing.
-use Rattle.std.specs.Prelude.{Bool, true, false, cond, List, [], ◌∷◌, ℕ, zero, suc, ◌+◌, ◌-◌, ◌*◌, ◌^◌, ltb, eqb, drop}
+use Rattle.std.specs.Prelude.{cond, List, [], ◌∷◌, ℕ, zero, suc, ◌+◌, ◌-◌, ◌*◌, ◌^◌, ltb, eqb, drop, Option, Some, None, unwrap_or, is_some}
 use Rattle.decimal.specs.Decimal.{digit}
-use Rattle.lines.specs.declared.line.Line.{Line}
-use Rattle.lines.specs.declared.line.Line.TheVariants.{Number, Misshapen}
 use Rattle.lines.specs.declared.line.Part.{Part}
 use Rattle.lines.specs.declared.line.Part.TheVariants.{Empty, Digits, Bad}
 
@@ -18,17 +16,21 @@ with_digit Bad d = Bad
 unfoldable pub grown : Part → ℕ → Part
 grown part b = cond (digit b) (with_digit part (b - 48)) Bad
 
+-- a line: its number, or none where it is misshapen
+abbrev pub Line : Type 0
+Line = Option ℕ
+
 -- the line, once its newline is read
 abbrev pub ended : Part → Line
-ended Empty = Misshapen
-ended (Digits v) = Number v
-ended Bad = Misshapen
+ended Empty = None
+ended (Digits v) = Some v
+ended Bad = None
 
 -- The lines of the bytes that follow a part of a line. What no newline ends is a line too, and misshapen.
 unfoldable pub lines_after : Part → List ℕ → List Line
 lines_after Empty [] = []
-lines_after (Digits v) [] = Misshapen ∷ []
-lines_after Bad [] = Misshapen ∷ []
+lines_after (Digits v) [] = None ∷ []
+lines_after Bad [] = None ∷ []
 lines_after part (b ∷ bytes) = cond (eqb b newline) (ended part ∷ lines_after Empty bytes) (lines_after (grown part b) bytes)
 
 abbrev pub lines : List ℕ → List Line
@@ -38,7 +40,7 @@ lines bytes = lines_after Empty bytes
 
 -- the line that a part and the bytes after it make; no bytes are no number
 unfoldable pub line_after : Part → List ℕ → Line
-line_after part [] = Misshapen
+line_after part [] = None
 line_after part (b ∷ bytes) = cond (eqb b newline) (ended part) (line_after (grown part b) bytes)
 
 abbrev pub first_line : List ℕ → Line
@@ -52,19 +54,10 @@ line_length (b ∷ bytes) = suc (cond (eqb b newline) 0 (line_length bytes))
 abbrev pub rest : List ℕ → List ℕ
 rest bytes = drop (line_length bytes) bytes
 
--- the number of a line, 0 for a misshapen one, and whether it has one
-abbrev pub line_value : Line → ℕ
-line_value (Number v) = v
-line_value Misshapen = 0
-
-abbrev pub shaped : Line → Bool
-shaped (Number v) = true
-shaped Misshapen = false
-
--- the numbers of the first m lines, how many bytes these take, and how many of them are numbers before the first that is not
+-- the numbers of the first m lines, 0 for a misshapen one, how many bytes these take, and how many of them are numbers before the first that is not
 unfoldable pub numbers : ℕ → List ℕ → List ℕ
 numbers zero bytes = []
-numbers (suc m) bytes = line_value (first_line bytes) ∷ numbers m (rest bytes)
+numbers (suc m) bytes = unwrap_or (first_line bytes) 0 ∷ numbers m (rest bytes)
 
 unfoldable pub bytes_of : ℕ → List ℕ → ℕ
 bytes_of zero bytes = 0
@@ -72,7 +65,7 @@ bytes_of (suc m) bytes = line_length bytes + bytes_of m (rest bytes)
 
 unfoldable pub formed : ℕ → List ℕ → ℕ
 formed zero bytes = 0
-formed (suc m) bytes = cond (shaped (first_line bytes)) (suc (formed m (rest bytes))) 0
+formed (suc m) bytes = cond (is_some (first_line bytes)) (suc (formed m (rest bytes))) 0
 
 -- what follows the first m lines
 abbrev pub past : ℕ → List ℕ → List ℕ
@@ -80,4 +73,4 @@ past m bytes = drop (bytes_of m bytes) bytes
 
 -- the price of an index, counted from 1, in the bytes where the prices begin
 abbrev pub price_of : (index : ℕ) → List ℕ → ℕ
-price_of index bytes = line_value (first_line (past (index - 1) bytes))
+price_of index bytes = unwrap_or (first_line (past (index - 1) bytes)) 0

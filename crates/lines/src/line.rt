@@ -2,17 +2,11 @@
 ghost use Rattle.std.specs.Prelude.{◌≡◌, ◌+◌, ◌<◌, drop};
 ghost use Rattle.lines.specs.Lines.{grown, with_digit, ended, first_line, line_length};
 
-const LARGEST: u64 = 18_446_744_073_709_551_615;
-
 const NEWLINE: u8 = 10;
 
-// A line of the input. Where the input has ended there is no number either, so that reads as a
-// misshapen line.
-#[derive(Clone, Copy)]
-pub enum Line {
-    Number(u64),
-    Misshapen,
-}
+// A line of the input: its number, or none where it is misshapen. Where the input has ended there is no
+// number either.
+pub type Line = Option<u64>;
 
 // What has been read of a line.
 #[derive(Clone, Copy)]
@@ -29,26 +23,24 @@ pub struct LineRead {
     pub next: usize,
 }
 
-// The line that begins at `at`.
+// The line that begins at `at`. It is read by index, since the answer tells a place, and `at` may lie past the end.
 pub fn read_line(input: &[u8], at: usize) -> LineRead
     ensures { (result.line ≡ first_line (drop at input.now)) × (result.next ≡ at + line_length (drop at input.now)) }
 {
     let mut part = Part::Empty;
-    let mut i = at;
-    while i < input.len() {
+    for i in at..input.len() {
         let b = input[i];
-        i += 1;
         if b == NEWLINE {
             return LineRead {
                 line: ended(part),
-                next: i,
+                next: i + 1,
             };
         }
         part = grown(part, b);
     }
     LineRead {
-        line: Line::Misshapen,
-        next: i,
+        line: None,
+        next: at.max(input.len()),
     }
 }
 
@@ -56,12 +48,10 @@ pub fn read_line(input: &[u8], at: usize) -> LineRead
 fn grown(part: Part, b: u8) -> Part
     ensures { result ≡ grown part b }
 {
-    if b < 48 {
-        Part::Bad
-    } else if 57 < b {
-        Part::Bad
-    } else {
+    if b.is_ascii_digit() {
         with_digit(part, (b - 48) as u64)
+    } else {
+        Part::Bad
     }
 }
 
@@ -74,7 +64,7 @@ fn with_digit(part: Part, d: u64) -> Part
         Part::Digits(v) => {
             if v == 0 {
                 Part::Bad
-            } else if (LARGEST - d) / 10 < v {
+            } else if (u64::MAX - d) / 10 < v {
                 Part::Bad
             } else {
                 Part::Digits(10 * v + d)
@@ -89,8 +79,7 @@ fn ended(part: Part) -> Line
     ensures { result ≡ ended part }
 {
     match part {
-        Part::Empty => Line::Misshapen,
-        Part::Digits(v) => Line::Number(v),
-        Part::Bad => Line::Misshapen,
+        Part::Digits(v) => Some(v),
+        Part::Empty | Part::Bad => None,
     }
 }

@@ -1,8 +1,8 @@
 // Several lines at once: their numbers, and where the next line begins.
-ghost use Rattle.std.specs.Prelude.{◌≡◌, ◌+◌, length, drop};
-ghost use Rattle.lines.specs.Lines.{line_value, shaped, past, first_line, numbers, bytes_of, formed};
+ghost use Rattle.std.specs.Prelude.{◌≡◌, ◌+◌, length, drop, unwrap_or};
+ghost use Rattle.lines.specs.Lines.{past, first_line, numbers, bytes_of, formed};
 
-use crate::line::{Line, read_line};
+use crate::line::read_line;
 
 // How many lines were numbers before the first that was not, and where the next line begins.
 #[derive(Clone, Copy)]
@@ -19,16 +19,13 @@ pub fn read_numbers(input: &[u8], at: usize, into: &mut [u64]) -> Numbers
 {
     let mut formed = 0;
     let mut next = at;
-    let mut i = 0;
-    while i < into.len() {
+    for (i, number) in into.iter_mut().enumerate() {
         let read = read_line(input, next);
-        let line = read.line;
-        into[i] = line_value(line);
-        if (formed == i) & shaped(line) {
+        *number = read.line.unwrap_or(0);
+        if (formed == i) & read.line.is_some() {
             formed = i + 1;
         }
         next = read.next;
-        i += 1;
     }
     Numbers { formed, next }
 }
@@ -38,40 +35,16 @@ pub fn read_table(input: &[u8], at: usize, table: &mut [u64]) -> usize
     ensures { (table.new ≡ numbers (length table.old) (drop at input.now))
         × (result ≡ at + bytes_of (length table.old) (drop at input.now)) }
 {
-    let read = read_numbers(input, at, table);
-    read.next
+    read_numbers(input, at, table).next
 }
 
 // The number on the line that stands i lines after the one at `at`.
 pub fn price_at(input: &[u8], at: usize, i: u64) -> u64
-    ensures { result ≡ line_value (first_line (past i (drop at input.now))) }
+    ensures { result ≡ unwrap_or (first_line (past i (drop at input.now))) 0 }
 {
     let mut next = at;
-    let mut passed = 0;
-    while passed < i {
-        let read = read_line(input, next);
-        next = read.next;
-        passed += 1;
+    for _ in 0..i {
+        next = read_line(input, next).next;
     }
-    let last = read_line(input, next);
-    let line = last.line;
-    line_value(line)
-}
-
-fn line_value(line: Line) -> u64
-    ensures { result ≡ line_value line }
-{
-    match line {
-        Line::Number(v) => v,
-        Line::Misshapen => 0,
-    }
-}
-
-fn shaped(line: Line) -> bool
-    ensures { result ≡ shaped line }
-{
-    match line {
-        Line::Number(_) => true,
-        Line::Misshapen => false,
-    }
+    read_line(input, next).line.unwrap_or(0)
 }

@@ -1,4 +1,5 @@
 -- What is judged of a round's messages, in parts and in facts. Assumes nothing.
+use Rattle.std.specs.Prelude.{Err, Ok}
 use mathlib.Core.Path.{◌≡◌, refl, sym, ap, ◌∙◌}
 use mathlib.Core.Bool.{Bool, true, false, cond, not, ◌||◌, or-false as or-false-is}
 use mathlib.Core.List.{List}
@@ -9,7 +10,6 @@ use lib.ListN.{drop}
 use borrow.Author.Tests.{not-false, leb-true, ltb-false, le-leb, le-ltb}
 use Rattle.refusal.specs.Judging.{then}
 use Rattle.refusal.specs.declared.Refusal.TheVariants.{Inconsistent}
-use Rattle.refusal.specs.declared.Judgement.TheVariants.{Accepted, Refused}
 use Rattle.refusal.proofs.Judging.{refuses, passes, all_passed, passed, judged_append}
 use Rattle.ranges.specs.Lists.{every}
 use Rattle.ranges.proofs.Loops.{and-true}
@@ -44,7 +44,7 @@ listened q totals sheet messages present =
     judged_append (of_listening q totals sheet messages present) (of_opening q.round q.demand q.supply (opening q present messages))
 
 -- where it goes on, the sheet has bytes
-pub listened_bytes : (q : Party) (totals sheet messages present : List ℕ) → listening_judgement q totals sheet messages present ≡ Accepted
+pub listened_bytes : (q : Party) (totals sheet messages present : List ℕ) → listening_judgement q totals sheet messages present ≡ Ok tt
     → every (λ w. ltb w 256) (drop 1 sheet) ≡ true
 unfolding listening_judgement
 listened_bytes q totals sheet messages present e =
@@ -62,10 +62,10 @@ module _ (q : Party) (messages present : List ℕ) where
   one_opening e = rw e
 
 -- a level that opens is accepted, and one that does not is 10
-pub level_accepted : (round demand supply : ℕ) → opening_judgement round demand supply (Factors 0 0) ≡ Accepted
+pub level_accepted : (round demand supply : ℕ) → opening_judgement round demand supply (Factors 0 0) ≡ Ok tt
 level_accepted round demand supply = passes _ _ _ refl ∙ passes _ _ _ refl ∙ passes _ _ _ refl ∙ all_passed
 
-pub level_refused : (round demand supply : ℕ) → opening_judgement round demand supply Unopened ≡ Refused Inconsistent
+pub level_refused : (round demand supply : ℕ) → opening_judgement round demand supply Unopened ≡ Err Inconsistent
 level_refused round demand supply = refuses _ _ _ refl
 
 -- ---- what the messages of an accepted round open to

@@ -2,7 +2,7 @@
 -- present. What is judged of them, of a party that has the turn and is given the sheet. Assumes nothing.
 use Rattle.std.specs.Prelude.{Bool, false, cond, not, ◌&&◌, ◌||◌, List, [], ◌∷◌, ◌++◌, ℕ, ◌-◌, ◌*◌, leb, eqb, take, drop}
 use Rattle.refusal.specs.Judging.{Test, ◌⇒◌, judged}
-use Rattle.refusal.specs.declared.Judgement.{Judgement}
+use Rattle.refusal.specs.Refusal.{Judgement}
 use Rattle.refusal.specs.declared.Refusal.TheVariants as refusal
 use Rattle.ranges.specs.Lists.{same}
 use Rattle.ways.specs.Way.{way_of, width}

@@ -8,14 +8,14 @@ ghost use Rattle.ranges.specs.Sizes.{long};
 ghost use Rattle.ways.specs.Way.{tree, width};
 ghost use Rattle.presence.specs.Presence.{how_many, all_or};
 ghost use Rattle.record.specs.Record.{sound, ended};
-ghost use Rattle.level.specs.Level.{level_words, Ready};
+ghost use Rattle.level.specs.Level.{level_words};
 ghost use Rattle.round.specs.Round.{heard};
 ghost use Rattle.message.specs.Message.{sheet_words, message};
 ghost use Rattle.stepping.specs.After.{role};
 ghost use Rattle.listening.specs.Listen.{width_of, own_words, listening_judgement, total_outside, opening_judgement};
 
-use level::write_words;
-use message::{are_shares, demand_share, in_level, single, supply_share};
+use level::Level;
+use message::{are_shares, in_level, single, totals_at};
 use record::{Party, are_totals};
 use refusal::{Judgement, Refusal};
 use round::{Heard, open_round, sum_outside, unopened, verdict_outside};
@@ -48,19 +48,17 @@ pub fn listens(
     ensures { result ≡ listening_judgement q totals.now sheet.now messages.now present.now }
 {
     if count <= threshold(q.n) {
-        return Judgement::Refused(Refusal::TooFewPresent);
+        return Err(Refusal::TooFewPresent);
     }
     let own = q.own as usize - 1;
     let here = present[own] == 1;
-    let demand = demand_share(q, totals);
-    let supply = supply_share(q, totals);
-    if !are_shares(q.round, q.last, here, demand, supply, sheet) {
-        return Judgement::Refused(Refusal::ShareOutOfRange);
+    if !are_shares(q.round, q.last, here, totals_at(q, totals), sheet) {
+        return Err(Refusal::ShareOutOfRange);
     }
     if here && !says(q, totals, sheet, messages) {
-        return Judgement::Refused(Refusal::OwnMessageDiffers);
+        return Err(Refusal::OwnMessageDiffers);
     }
-    Judgement::Accepted
+    Ok(())
 }
 
 // Whether the own words among those heard are what the party says.
@@ -72,27 +70,34 @@ fn says(q: Party, totals: &[u64], sheet: &[u64], messages: &[u64]) -> bool
     if in_level(q) {
         let pairs = q.pairs;
         let kept = pairs.words;
-        return says_level(q.own, q.round, q.sum, &kept, sheet, messages);
+        let level = Level {
+            round: q.round,
+            sum: q.sum,
+            kept: &kept,
+            sheet,
+        };
+        return says_level(q.own, &level, messages);
     }
     let own = q.own as usize - 1;
     messages[own] == single(q, totals, sheet)
 }
 
 // The same of a level's words.
-fn says_level(own: u64, round: u64, sum: u64, kept: &[u64], sheet: &[u64], messages: &[u64]) -> bool
-    requires { Ready round kept.now sheet.now × (1 ≤ own) × (own ≤ 9) × (own * width tree round ≤ length messages.now) }
-    ensures { result ≡ same (take (width tree round) (drop ((own - 1) * width tree round) messages.now))
-        (level_words round sum kept.now sheet.now) }
+fn says_level(own: u64, level: &Level<'_>, messages: &[u64]) -> bool
+    requires { (1 ≤ own) × (own ≤ 9) × (own * width tree level.now.round ≤ length messages.now) }
+    ensures { result ≡ same (take (width tree level.now.round) (drop ((own - 1) * width tree level.now.round) messages.now))
+        (level_words level.now.round level.now.sum level.now.kept.now level.now.sheet.now) }
 {
-    let w = width(7, round);
+    let w = level.width();
     let from = (own as usize - 1) * w;
     let to = from + w;
     let mut said = [0; 32];
-    write_words(round, sum, kept, sheet, &mut said[..w]);
+    level.write_words(&mut said[..w]);
     same_words(&messages[from..to], &said[..w])
 }
 
-// Whether two slices hold the same words.
+// Whether two slices hold the same words. `ranges::same` does this for bytes: one function of both would ask of its type
+// parameter what `^`, `|` and 0 are and their laws, which is no plainer.
 fn same_words(left: &[u64], right: &[u64]) -> bool
     ensures { result ≡ same left.now right.now }
 {
@@ -100,10 +105,8 @@ fn same_words(left: &[u64], right: &[u64]) -> bool
         return false;
     }
     let mut differ: u64 = 0;
-    let mut at = 0;
-    while at < left.len() {
-        differ = differ | (left[at] ^ right[at]);
-        at += 1;
+    for (x, y) in left.iter().zip(right) {
+        differ |= *x ^ *y;
     }
     differ == 0
 }
@@ -128,15 +131,15 @@ pub fn judge(round: u64, demand: u64, supply: u64, opened: Heard) -> Judgement
     ensures { result ≡ opening_judgement round demand supply opened }
 {
     if unopened(opened) {
-        return Judgement::Refused(Refusal::Inconsistent);
+        return Err(Refusal::Inconsistent);
     }
     if sum_outside(opened) | total_outside(round, demand, supply, opened) {
-        return Judgement::Refused(Refusal::SumOutOfRange);
+        return Err(Refusal::SumOutOfRange);
     }
     if verdict_outside(opened) {
-        return Judgement::Refused(Refusal::VerdictNotBit);
+        return Err(Refusal::VerdictNotBit);
     }
-    Judgement::Accepted
+    Ok(())
 }
 
 // Whether a total is opened that cannot stand beside the other one: round 34 opens demand, round 35 supply.

@@ -1,11 +1,14 @@
 -- The lines of the listing. Assumes nothing.
 use mathlib.Core.Path.{◌≡◌, refl, sym, ap, ◌∙◌}
-use mathlib.Core.List.{List, [], ◌∷◌, ◌++◌, append_assoc, append-nil}
-use Prim.Native.Nat.{ℕ, zero, suc, ◌+◌}
+use mathlib.Core.List.{List, [], ◌∷◌, ◌++◌, map, append_assoc, append-nil}
+use Prim.Native.Nat.{ℕ, zero, suc, ◌+◌, ◌≤◌, ◌<◌}
 use native.Mathlib.Nat.{add-zero}
 use native.Mathlib.Omega.{arith}
-use lib.ListN.{length, get_or, length-append}
+use lib.ListN.{length, take, get_or}
+use Rattle.std.proofs.Math.Seq.{take-length}
+use Rattle.std.proofs.lemmas.List.{length-map, length-take-le, map-append, take_more}
 use Rattle.decimal.specs.Decimal.{decimal}
+use Rattle.listing.specs.declared.course.Probe.{Probe}
 use Rattle.listing.specs.Lines.{probe_line, probe_lines, no_price_line, clears_line, totals_line, course_trail}
 
 pub clears_none : (answer price : ℕ) → answer ≡ 0 → clears_line answer price ≡ no_price_line
@@ -30,10 +33,9 @@ unfolding totals_line
 totals_some zero demand supply h = absurd (h refl)
 totals_some (suc i) demand supply h = refl
 
-pub length_course : (index verdict : List ℕ) (m : ℕ) → length (course_trail index verdict m) ≡ m
+pub length_course : (trail : List Probe) (m : ℕ) → m ≤ length trail → length (course_trail trail m) ≡ m
 unfolding course_trail
-length_course index verdict zero = refl
-length_course index verdict (suc m) = length-append (course_trail index verdict m) _ ∙ omega (arith, length_course index verdict m)
+length_course trail m h = length-map (take m trail) _ ∙ length-take-le m trail h
 
 -- the line of one probe more
 pub probes_more : (probe : ℕ) (ps : List (ℕ × ℕ)) (p : ℕ × ℕ) → probe_lines probe (ps ++ (p ∷ [])) ≡ probe_lines probe ps ++ probe_line (probe + length ps) p
@@ -46,12 +48,18 @@ probes_more probe (q ∷ ps) p =
     shift : (a b : ℕ) → suc a + b ≡ a + suc b
     shift a b = omega arith
 
-pub course_more : (index verdict : List ℕ) (i : ℕ)
-    → probe_lines 1 (course_trail index verdict (i + 1)) ≡ probe_lines 1 (course_trail index verdict i) ++ probe_line (i + 1) (get_or index i 0, get_or verdict i 0)
+pub course_more : (trail : List Probe) (i : ℕ) (p : Probe) → i < length trail
+    → probe_lines 1 (course_trail trail (i + 1)) ≡ probe_lines 1 (course_trail trail i) ++ probe_line (i + 1) ((get_or trail i p).index, (get_or trail i p).verdict)
 unfolding course_trail
-course_more index verdict i =
-    let e : i + 1 ≡ suc i = omega arith in
-    let f : 1 + length (course_trail index verdict i) ≡ i + 1 = omega (arith, length_course index verdict i) in
-    ap (λ (j : ℕ). probe_lines 1 (course_trail index verdict j)) e
-    ∙ probes_more 1 (course_trail index verdict i) (get_or index i 0, get_or verdict i 0)
-    ∙ ap (λ (j : ℕ). probe_lines 1 (course_trail index verdict i) ++ probe_line j (get_or index i 0, get_or verdict i 0)) f
+course_more trail i p h =
+    let entry : Probe → ℕ × ℕ = λ q. (q.index, q.verdict) in
+    let f : 1 + length (course_trail trail i) ≡ i + 1 = omega (arith, length_course trail i (omega arith)) in
+    ap (λ (ps : List Probe). probe_lines 1 (map entry ps)) (take_more trail i p h)
+    ∙ ap (probe_lines 1) (map-append entry (take i trail) (get_or trail i p ∷ []))
+    ∙ probes_more 1 (course_trail trail i) (entry (get_or trail i p))
+    ∙ ap (λ (j : ℕ). probe_lines 1 (course_trail trail i) ++ probe_line j (entry (get_or trail i p))) f
+
+-- at the end of the probes that are listed, all are
+pub course_whole : (trail : List Probe) (m i : ℕ) → i ≡ length (take m trail) → course_trail (take m trail) i ≡ course_trail trail m
+unfolding course_trail
+course_whole trail m i e = ap (map _) (ap (λ (j : ℕ). take j (take m trail)) e ∙ take-length (take m trail))

@@ -1,6 +1,7 @@
 -- The lines of a listing, as bytes. Assumes nothing.
-use Rattle.std.specs.Prelude.{cond, List, [], ◌∷◌, ◌++◌, ℕ, zero, suc, ◌+◌, ◌*◌, eqb, length, get_or}
+use Rattle.std.specs.Prelude.{cond, List, [], ◌∷◌, ◌++◌, map, ℕ, zero, suc, ◌+◌, ◌*◌, eqb, length, take}
 use Rattle.decimal.specs.Decimal.{decimal}
+use Rattle.listing.specs.declared.course.Probe.{Probe}
 
 abbrev newline : List ℕ
 newline = 10 ∷ []
@@ -63,9 +64,8 @@ course_lines probes answer price demand supply =
     probe_lines 1 probes
     ++ (clears_line answer price ++ (totals_line answer demand supply ++ rounds_line (rounds_of (length probes) answer)))
 
--- ---- the probes of both searches, kept in two lists
+-- ---- the probes of both searches, as they are noted
 
 -- the first m probes
-unfoldable pub course_trail : (index verdict : List ℕ) → ℕ → List (ℕ × ℕ)
-course_trail index verdict zero = []
-course_trail index verdict (suc m) = course_trail index verdict m ++ ((get_or index m 0, get_or verdict m 0) ∷ [])
+unfoldable pub course_trail : List Probe → ℕ → List (ℕ × ℕ)
+course_trail trail m = map (λ p. (p.index, p.verdict)) (take m trail)

@@ -14,13 +14,20 @@ pub const PROBES: usize = 18;
 // What is lent for a listing, which is at most 1,627 bytes long.
 pub const ROOM: usize = 2048;
 
-// How the auction went: so many probes of both searches, each with its index and its verdict, the
-// index that clears, and total demand and total supply there.
+// A probe: the index that was probed, and the verdict on it.
+#[derive(Clone, Copy)]
+pub struct Probe {
+    pub index: u64,
+    pub verdict: u64,
+}
+
+// How the auction went: so many probes of both searches, which are the first of the trail, the index
+// that clears, and total demand and total supply there. As in `price_answer`, an index of 0 tells that
+// there is no price; `Follows` of crate `probing` states it so.
 #[derive(Clone, Copy)]
 pub struct Course {
     pub probes: u64,
-    pub index: [u64; PROBES],
-    pub verdict: [u64; PROBES],
+    pub trail: [Probe; PROBES],
     pub answer: u64,
     pub demand: u64,
     pub supply: u64,
@@ -62,7 +69,7 @@ fn put_no_price(out: &mut [u8], at: usize) -> usize
 // The listing of an accepted input. Of more probes than a course holds nothing is written.
 pub fn write_course(input: &[u8], prices: usize, course: Course, out: &mut [u8; ROOM]) -> usize
     ensures { (course.probes ≤ most_listed → Wrote out.old 0
-        (course_lines (course_trail course.index course.verdict course.probes) course.answer
+        (course_lines (course_trail course.trail course.probes) course.answer
         (price_of course.answer (drop prices input.now)) course.demand course.supply)
         out.new result)
         × (most_listed < course.probes → (result ≡ 0) × (out.new ≡ out.old)) }
@@ -84,28 +91,24 @@ pub fn write_course(input: &[u8], prices: usize, course: Course, out: &mut [u8; 
 // The lines of the probes. Those of the second search have further numbers.
 fn write_probes(course: Course, out: &mut [u8]) -> usize
     requires { (course.probes ≤ most_listed) × (83 * most_listed ≤ length out.old) }
-    ensures { Wrote out.old 0 (probe_lines 1 (course_trail course.index course.verdict course.probes)) out.new result
+    ensures { Wrote out.old 0 (probe_lines 1 (course_trail course.trail course.probes)) out.new result
         × (result ≤ 83 * most_listed) }
 {
-    let index = course.index;
-    let verdict = course.verdict;
     let probes = course.probes as usize;
     let mut at = 0;
-    let mut i = 0;
-    while i < probes {
-        at = write_probe(i as u64 + 1, index[i], verdict[i], out, at);
-        i += 1;
+    for (i, probe) in course.trail[..probes].iter().enumerate() {
+        at = write_probe(i as u64 + 1, *probe, out, at);
     }
     at
 }
 
-fn write_probe(probe: u64, index: u64, verdict: u64, out: &mut [u8], at: usize) -> usize
+fn write_probe(number: u64, probe: Probe, out: &mut [u8], at: usize) -> usize
     requires { at + 83 ≤ length out.old }
-    ensures { Wrote out.old at (probe_line probe (index, verdict)) out.new result × (result ≤ at + 83) }
+    ensures { Wrote out.old at (probe_line number (probe.index, probe.verdict)) out.new result × (result ≤ at + 83) }
 {
-    let made = append_field(out, at, b"probe ", probe);
-    let probed = append_field(out, made, b" index ", index);
-    append_last(out, probed, b" verdict ", verdict)
+    let made = append_field(out, at, b"probe ", number);
+    let probed = append_field(out, made, b" index ", probe.index);
+    append_last(out, probed, b" verdict ", probe.verdict)
 }
 
 // The index that clears and its price. The price of index 1 is the first.

@@ -4,4 +4,4 @@
 mod course;
 mod text;
 
-pub use course::{Course, PROBES, ROOM, write_course, write_no_price, write_refused};
+pub use course::{Course, PROBES, Probe, ROOM, write_course, write_no_price, write_refused};

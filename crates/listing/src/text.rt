@@ -8,13 +8,8 @@ pub(crate) fn append(out: &mut [u8], at: usize, text: &[u8]) -> usize
     requires { at + length text.now ≤ length out.old }
     ensures { Wrote out.old at text.now out.new result }
 {
-    let mut next = at;
-    let mut i = 0;
-    while i < text.len() {
-        out[next] = text[i];
-        next += 1;
-        i += 1;
-    }
+    let next = at + text.len();
+    out[at..next].copy_from_slice(text);
     next
 }
 

@@ -1,8 +1,8 @@
 -- A line's value at 0, as the code has it. Assumes nothing.
 use mathlib.Core.Path.{◌≡◌, refl, sym, ap, ap₂, ◌∙◌}
 use mathlib.Core.Bool.{Bool, cond}
-use Prim.Native.Nat.{ℕ, zero, suc, ◌-◌, ◌*◌, ◌%◌, ◌^◌, ◌≤◌, ◌<◌}
-use native.Mathlib.Nat.{mul_assoc, mul-le-mul_left}
+use Prim.Native.Nat.{ℕ, zero, suc, ◌-◌, ◌*◌, ◌%◌, ◌≤◌, ◌<◌}
+use native.Mathlib.Nat.{mul_assoc}
 use native.Mathlib.Omega.{arith}
 use lib.Bits.{xor_lt}
 use lib.Dec.{T, eqb, eqb→eq}
@@ -21,10 +21,6 @@ use Rattle.fields.proofs.Xor as xors
 use Rattle.lowering.specs.Lines.{step, along, line}
 
 -- ---- amounts
-
--- a residue times a point is one word
-pub times_fits : (a r : ℕ) → a < p → r ≤ 8 → a * r < 2 ^ 64
-times_fits a r h k = let l : a * r ≤ a * 8 = mul-le-mul_left a k in omega (arith, l, h)
 
 inverse_after : (r x : ℕ) → r < x → amount_gap x r ≡ get_or amount_inverses (x - r) 0
 unfolding amount_gap

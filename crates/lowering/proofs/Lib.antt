@@ -3,4 +3,5 @@ pub mod Descent
 pub mod Lowering
 mod Arms
 mod Crossing
-mod Parts
+mod Steps
+pub mod Parts

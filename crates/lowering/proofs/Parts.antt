@@ -1,45 +1,71 @@
--- A part of each of the words that are lowered one by one: its low byte, or its high one. Assumes nothing.
-use mathlib.Core.Path.{◌≡◌, refl, sym, ap, subst, ◌∙◌}
+-- Words of two bytes that are lowered: their low bytes are lowered, and their high ones. Assumes nothing.
+use mathlib.Core.Path.{◌≡◌, refl, ap, ap₂, ◌∙◌}
 use mathlib.Core.List.{List, [], ◌∷◌, map}
-use Prim.Native.Nat.{ℕ, zero, suc, ◌+◌, ◌≤◌, ◌<◌}
+use Prim.Native.Nat.{ℕ, zero, suc, ◌+◌, ◌*◌, ◌/◌, ◌%◌, ◌≤◌, ◌<◌}
+use native.Mathlib.Nat.{mod-lt}
 use native.Mathlib.Omega.{arith}
-use lib.ListN.{length, take, drop, set, get_or, length-map, get_or-map}
-use lib.Seq.{take_all}
-use Rattle.ranges.proofs.Loops.{fill, same_at}
+use lib.Dec.{lit<}
 use Rattle.fields.specs.Byte.{bytes}
 use Rattle.fields.specs.Gap.{byte_gap}
-use Rattle.lowering.specs.Lines.{line, lowered}
-use Rattle.lowering.proofs.Descent.{length_lowered}
-use Rattle.lowering.proofs.Lowering.{getD_lowered}
+use Rattle.fields.proofs.Fields.{byte_field}
+use Rattle.lowering.specs.Lines.{line, lowered, descended, lowered_by, descended_by, pair_line, Rising}
+use Rattle.lowering.proofs.Lowering.{rising_less}
 
-map_set : (f : ℕ → ℕ) (zs : List ℕ) (i v : ℕ) → map f (set zs i v) ≡ set (map f zs) i (f v)
-map_set f [] i v = refl
-map_set f (z ∷ zs) zero v = refl
-map_set f (z ∷ zs) (suc i) v = ap (λ (l : List ℕ). f z ∷ l) (map_set f zs i v)
+abbrev pub low : ℕ → ℕ
+low w = w % 256
 
-module _ (f : ℕ → ℕ) (f_zero : f 0 ≡ 0) (r y : ℕ) (xs old : List ℕ) (many : length old ≡ length xs) where
-  abbrev target : List ℕ
-  target = lowered bytes byte_gap r y xs (map f old)
+abbrev pub high : ℕ → ℕ
+high w = w / 256 % 256
 
-  long : length target ≡ length old
-  long = length_lowered bytes byte_gap r y xs (map f old) (length-map old f ∙ many) ∙ sym many
+-- what a line comes to is a byte
+line_lt : (r y x z : ℕ) → r ≤ 9 → x ≤ 9 → y < 256 → z < 256 → line bytes byte_gap r y x z < 256
+line_lt r y x z hr hx hy hz =
+    let R = byte_field.ring in
+    R.add_lt y _ hy
+    (R.mul_lt _ _ (R.add_lt y _ hy (R.neg_lt z hz)) (R.mul_lt r _ (omega arith) (byte_field.gap_lt x r hx hr)))
 
-  part : (i : ℕ) → get_or (map f old) i 0 ≡ f (get_or old i 0)
-  part i = subst (λ (d : ℕ). get_or (map f old) i d ≡ f (get_or old i 0)) f_zero (get_or-map f old i 0)
+low_of : (a b : ℕ) → a < 256 → low (a + 256 * b) ≡ a
+low_of a b h = omega arith
 
-  -- one word more
-  pub more : (zs : List ℕ) (i v : ℕ) → length zs ≡ length old → i < length old → drop i zs ≡ drop i old
-      → f v ≡ line bytes byte_gap r y (get_or xs i 0) (f (get_or zs i 0)) → take i (map f zs) ≡ take i target
-      → take (i + 1) (map f (set zs i v)) ≡ take (i + 1) target
-  more zs i v l h past value done =
-      let there : f v ≡ get_or target i 0 =
-      value ∙ ap (λ (w : ℕ). line bytes byte_gap r y (get_or xs i 0) (f w)) (same_at zs old i past)
-      ∙ ap (line bytes byte_gap r y (get_or xs i 0)) (sym (part i))
-      ∙ sym (getD_lowered bytes byte_gap r y xs (map f old) i (omega (arith, many, h)) (omega (arith, length-map old f, h))) in
-      ap (take (i + 1)) (map_set f zs i v)
-      ∙ fill (map f zs) target i (f v) (omega (arith, length-map zs f, l, h)) (omega (arith, long, h)) there done
+high_of : (a b : ℕ) → a < 256 → b < 256 → high (a + 256 * b) ≡ b
+high_of a b h k = omega arith
 
-  -- and all of them
-  pub whole : (zs : List ℕ) (i : ℕ) → length zs ≡ length old → length old ≤ i → take i (map f zs) ≡ take i target → map f zs ≡ target
-  whole zs i l h done =
-      sym (take_all i (map f zs) (omega (arith, length-map zs f, l, h))) ∙ done ∙ take_all i target (omega (arith, long, h))
+module _ (r y x z : ℕ) (hr : r ≤ 9) (hx : x ≤ 9) where
+  low_lt : line bytes byte_gap r (low y) x (low z) < 256
+  low_lt = line_lt r (low y) x (low z) hr hx (mod-lt y (lit< tt)) (mod-lt z (lit< tt))
+
+  high_lt : line bytes byte_gap r (high y) x (high z) < 256
+  high_lt = line_lt r (high y) x (high z) hr hx (mod-lt (y / 256) (lit< tt)) (mod-lt (z / 256) (lit< tt))
+
+  low_line : low (pair_line r y x z) ≡ line bytes byte_gap r (low y) x (low z)
+  low_line = low_of _ _ low_lt
+
+  high_line : high (pair_line r y x z) ≡ line bytes byte_gap r (high y) x (high z)
+  high_line = high_of _ _ low_lt high_lt
+
+module _ (part : ℕ → ℕ) (parts : (r y x z : ℕ) → r ≤ 9 → x ≤ 9 → part (pair_line r y x z) ≡ line bytes byte_gap r (part y) x (part z)) where
+  part_lowered : (r y : ℕ) (xs zs : List ℕ) → Rising r xs
+      → map part (lowered_by pair_line r y xs zs) ≡ lowered bytes byte_gap r (part y) xs (map part zs)
+  unfolding lowered lowered_by
+  part_lowered r y [] zs h = refl
+  part_lowered r y (x ∷ xs) [] h = refl
+  part_lowered r y (x ∷ xs) (z ∷ zs) h =
+      ap₂ (λ (a : ℕ) (l : List ℕ). a ∷ l) (parts r y x z (omega (arith, h.0, h.1)) h.1)
+      (part_lowered r y xs zs (rising_less x r xs (omega (arith, h.0)) h.2))
+
+  part_descended : (t : ℕ) (xs ys : List ℕ) → Rising 0 xs
+      → map part (descended_by pair_line t xs ys) ≡ descended bytes byte_gap t xs (map part ys)
+  unfolding descended descended_by
+  part_descended zero xs ys h = refl
+  part_descended (suc t) [] ys h = refl
+  part_descended (suc t) (x ∷ xs) [] h = refl
+  part_descended (suc t) (x ∷ xs) (y ∷ ys) h =
+      part_descended t xs (lowered_by pair_line x y xs ys) (rising_less x 0 xs (omega arith) h.2)
+      ∙ ap (descended bytes byte_gap t xs) (part_lowered x y xs ys h.2)
+
+-- of both
+pub low_descended : (t : ℕ) (xs ys : List ℕ) → Rising 0 xs → map low (descended_by pair_line t xs ys) ≡ descended bytes byte_gap t xs (map low ys)
+low_descended = part_descended low low_line
+
+pub high_descended : (t : ℕ) (xs ys : List ℕ) → Rising 0 xs → map high (descended_by pair_line t xs ys) ≡ descended bytes byte_gap t xs (map high ys)
+high_descended = part_descended high high_line

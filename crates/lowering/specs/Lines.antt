@@ -1,6 +1,9 @@
 -- Lowering the degree of a polynomial by lines through its words. Assumes nothing.
-use Rattle.std.specs.Prelude.{List, [], ◌∷◌, ℕ, zero, suc, ◌≤◌, ◌<◌}
+use Rattle.std.specs.Prelude.{List, [], ◌∷◌, ℕ, zero, suc, ◌+◌, ◌*◌, ◌/◌, ◌%◌, ◌≤◌, ◌<◌}
 use Rattle.fields.specs.Ring.{Ops, sub}
+use Rattle.fields.specs.Amount.{amounts}
+use Rattle.fields.specs.Byte.{bytes}
+use Rattle.fields.specs.Gap.{amount_gap, byte_gap}
 
 -- the value at 0 of the line through y at r and z at x, where s is r / (x - r)
 abbrev pub along : {A : Type 0} → Ops A → A → A → A → A
@@ -29,6 +32,28 @@ module _ {A : Type 0} (O : Ops A) (gap : A → A → A) where
   descended (suc t) [] ys = []
   descended (suc t) (x ∷ xs) [] = []
   descended (suc t) (x ∷ xs) (y ∷ ys) = descended t xs (lowered x y xs ys)
+
+-- the same of numbers, by any lines: `draw r y x z` is the value at 0 of the line through y at r and z at x
+module _ (draw : ℕ → ℕ → ℕ → ℕ → ℕ) where
+  unfoldable pub lowered_by : ℕ → ℕ → List ℕ → List ℕ → List ℕ
+  lowered_by r y [] zs = []
+  lowered_by r y (x ∷ xs) [] = []
+  lowered_by r y (x ∷ xs) (z ∷ zs) = draw r y x z ∷ lowered_by r y xs zs
+
+  unfoldable pub descended_by : ℕ → List ℕ → List ℕ → List ℕ
+  descended_by zero xs ys = ys
+  descended_by (suc t) [] ys = []
+  descended_by (suc t) (x ∷ xs) [] = []
+  descended_by (suc t) (x ∷ xs) (y ∷ ys) = descended_by t xs (lowered_by x y xs ys)
+
+-- amounts
+abbrev pub amount_line : ℕ → ℕ → ℕ → ℕ → ℕ
+amount_line = line amounts amount_gap
+
+-- words of two bytes: the line through the low ones, and that through the high ones
+abbrev pub pair_line : ℕ → ℕ → ℕ → ℕ → ℕ
+pair_line r y x z =
+    line bytes byte_gap r (y % 256) x (z % 256) + 256 * line bytes byte_gap r (y / 256 % 256) x (z / 256 % 256)
 
 -- points after r and at most 9, each after the one before it
 abbrev pub Rising : ℕ → List ℕ → Type 0

@@ -1,35 +1,27 @@
 // Lines through amounts.
-ghost use Rattle.std.specs.Prelude.{◌≡◌, ◌≤◌, ◌<◌, length, get_or};
-ghost use Rattle.fields.specs.Amount.{amounts};
-ghost use Rattle.fields.specs.Gap.{amount_inverses, amount_gap};
-ghost use Rattle.lowering.specs.Lines.{line, lowered, Rising};
+ghost use Rattle.std.specs.Prelude.{◌≡◌, ◌≤◌, ◌<◌, get_or};
+ghost use Rattle.fields.specs.Gap.{amount_inverses};
+ghost use Rattle.lowering.specs.Lines.{amount_line};
 
+use crate::words::Lines;
 use fields::AmountShare;
 
-// Of each word, the value at 0 of the line through it and the word that is given.
-pub fn lower_amounts(point: u64, word: u64, points: &[u64], words: &mut [u64])
-    requires { Rising point points.now × (length words.old ≡ length points.now) }
-    ensures { words.new ≡ lowered amounts amount_gap point word points.now words.old }
-{
-    let mut i = 0;
-    while i < words.len() {
-        let x = points[i];
-        let z = words[i];
-        words[i] = line(point, word, x, z);
-        i += 1;
-    }
-}
+// Words as amounts.
+pub struct Amounts;
 
-// The value at 0 of the line through y at r and z at x.
-fn line(r: u64, y: u64, x: u64, z: u64) -> u64
-    requires { (r < x) × (x ≤ 9) }
-    ensures { result ≡ line amounts amount_gap r y x z }
-{
-    let own = AmountShare(y);
-    let times = own.sub(AmountShare(z)).0 * r;
-    AmountShare(times)
-        .mul_add(AmountShare(inverse(x - r)), own)
-        .0
+impl Lines for Amounts {
+    ghost line = { amount_line };
+
+    fn at_zero(&self, r: u64, y: u64, x: u64, z: u64) -> u64
+        requires { (r < x) × (x ≤ 9) }
+        ensures { result ≡ amount_line r y x z }
+    {
+        let own = AmountShare(y);
+        let times = own.sub(AmountShare(z)).0 * r;
+        AmountShare(times)
+            .mul_add(AmountShare(inverse(x - r)), own)
+            .0
+    }
 }
 
 // The inverse of a difference of points.

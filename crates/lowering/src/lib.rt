@@ -3,6 +3,7 @@
 
 mod amount;
 mod byte;
+mod words;
 
-pub use amount::lower_amounts;
-pub use byte::lower_pairs;
+pub use amount::Amounts;
+pub use words::{Lines, descend};

@@ -4,5 +4,5 @@
 mod sheet;
 mod word;
 
-pub use sheet::{byte_share, triple_share};
-pub use word::{are_shares, demand_share, in_level, single, supply_share};
+pub use sheet::Sheet;
+pub use word::{Totals, are_shares, in_level, single, totals_at};

@@ -3,9 +3,9 @@
 #![tactic(auto)]
 
 ghost use Rattle.std.specs.Prelude.{◌≡◌, ◌*◌, ◌≤◌, ◌<◌, length};
-ghost use Rattle.fields.specs.Table.{Tables};
 ghost use Rattle.opening_rows.specs.Rows.{Brings, RowTo, RowsOf, Doubled, Spread};
 
+use fields::ByteTables;
 use openings::terms;
 use sharing::threshold;
 use weights::byte_row;
@@ -21,43 +21,31 @@ pub fn brought(rows: &[u64], i: usize, byte: u64) -> u64
 }
 
 // The rows of n parties, whose number was judged before, by tables that many openings have in common.
-pub fn fill_rows(n: u64, rows: &mut [u64], logs: &[u8; 256], powers: &[u8; 256])
-    requires { (3 ≤ n) × (n ≤ 9) × (length rows.old ≡ 288) × Tables logs.now powers.now }
+pub fn fill_rows(n: u64, rows: &mut [u64], tables: &ByteTables)
+    requires { (3 ≤ n) × (n ≤ 9) × (length rows.old ≡ 288) }
     ensures { RowsOf n rows.new }
 {
     let row = byte_row(n);
     let count = n - threshold(n);
-    let mut i = 0;
-    while i < n as usize {
+    for (i, weight) in row[..n as usize].iter().enumerate() {
         let from = 32 * i;
         let to = from + 16;
         let end = to + 16;
-        let weight = row[i];
         let point = i as u8 + 1;
-        fill_row(weight, 1, point, count, &mut rows[from..to], logs, powers);
-        fill_row(weight, 16, point, count, &mut rows[to..end], logs, powers);
-        i += 1;
+        fill_row(*weight, 1, point, count, &mut rows[from..to], tables);
+        fill_row(*weight, 16, point, count, &mut rows[to..end], tables);
     }
 }
 
 // One row: what 0, unit, 2 unit, .. 15 unit bring.
-fn fill_row(
-    weight: u8,
-    unit: u8,
-    point: u8,
-    count: u64,
-    row: &mut [u64],
-    logs: &[u8; 256],
-    powers: &[u8; 256],
-)
-    requires { (0 < weight) × (0 < point) × (count ≤ 5) × (unit ≤ 16) × (length row.old ≡ 16) × Spread unit
-        × Tables logs.now powers.now }
+fn fill_row(weight: u8, unit: u8, point: u8, count: u64, row: &mut [u64], tables: &ByteTables)
+    requires { (0 < weight) × (0 < point) × (count ≤ 5) × (unit ≤ 16) × (length row.old ≡ 16) × Spread unit }
     ensures { RowTo 16 weight unit point count row.new }
 {
-    let one = terms(weight, unit, point, count, logs, powers);
-    let two = terms(weight, 2 * unit, point, count, logs, powers);
-    let four = terms(weight, 4 * unit, point, count, logs, powers);
-    let eight = terms(weight, 8 * unit, point, count, logs, powers);
+    let one = terms(weight, unit, point, count, tables);
+    let two = terms(weight, 2 * unit, point, count, tables);
+    let four = terms(weight, 4 * unit, point, count, tables);
+    let eight = terms(weight, 8 * unit, point, count, tables);
     row[0] = 0;
     double(1, one, row);
     double(2, two, row);
@@ -70,9 +58,8 @@ fn double(size: usize, term: u64, row: &mut [u64])
     requires { 2 * size ≤ length row.old }
     ensures { Doubled size term row.old row.new }
 {
-    let mut k = 0;
-    while k < size {
+    // By index: of two parts of the slice, lent by `split_at_mut`, nothing would be known of what is written.
+    for k in 0..size {
         row[size + k] = row[k] ^ term;
-        k += 1;
     }
 }

@@ -1,4 +1,5 @@
 -- The laws of opening, of numbers in any field with unit points. Assumes nothing.
+use Rattle.std.specs.Prelude.{Some}
 use mathlib.Core.Path.{◌≡◌, refl, sym, ap, ap₂, subst, ◌∙◌}
 use mathlib.Core.Logic.{◌↔◌}
 use mathlib.Core.Bool.{true}
@@ -17,7 +18,6 @@ use Rattle.sharing.specs.Scheme.{threshold, points}
 use Rattle.weights.specs.Products.{products}
 use Rattle.openings.specs.Opening.{moments, readable, settled, opened}
 use Rattle.openings.specs.Law.{Passes, OnPolynomial}
-use Rattle.openings.specs.declared.opening.Opening.TheVariants.{Secret}
 use Rattle.sharing.proofs.Points.{Different, points_below, different_points}
 use Rattle.sharing.proofs.Laws.{shares_lt, shares_elements}
 use Rattle.openings.proofs.Weighing as weighing
@@ -136,7 +136,7 @@ module _ {S : Scheme} {F : Field} (fits : Fits S F) where
 
   -- what is shared opens
   pub opens : (n s : ℕ) (cs : List ℕ) → 3 ≤ n → n ≤ 9 → s < F.size → AllBelow F.size cs → length cs ≡ threshold n
-      → opened S n (shares F.ops (s ∷ cs) (points n)) ≡ Secret s
+      → opened S n (shares F.ops (s ∷ cs) (points n)) ≡ Some s
   unfolding opened
   opens n s cs h3 h9 hs hc l =
       let words : List ℕ = shares F.ops (s ∷ cs) (points n) in
@@ -157,11 +157,11 @@ module _ {S : Scheme} {F : Field} (fits : Fits S F) where
       ∙ secret_first s (n - suc (threshold n)))
       ∙ settled_zeros s (n - suc (threshold n))
 
-  only_shares : (n s : ℕ) (words : List ℕ) → opened S n words ≡ Secret s → OnPolynomial F n s words
+  only_shares : (n s : ℕ) (words : List ℕ) → opened S n words ≡ Some s → OnPolynomial F n s words
   unfolding opened
   only_shares n s words e =
       let c : (readable S.size n words ≡ true)
-      × (settled (moments S.ops (n - threshold n) (points n) (products S.ops (weights S n) words)) ≡ Secret s) =
+      × (settled (moments S.ops (n - threshold n) (points n) (products S.ops (weights S n) words)) ≡ Some s) =
       cond_secret (readable S.size n words) _ s e in
       let r : Readable S.size n words = read S.size n words c.0 in
       let many : length (points n) ≡ n = length_from 1 n in
@@ -176,7 +176,7 @@ module _ {S : Scheme} {F : Field} (fits : Fits S F) where
       }
 
   -- n words open exactly when a polynomial of degree at most t passes through them, and then to its value at 0
-  pub exactly : (n s : ℕ) (words : List ℕ) → (opened S n words ≡ Secret s) ↔ OnPolynomial F n s words
+  pub exactly : (n s : ℕ) (words : List ℕ) → (opened S n words ≡ Some s) ↔ OnPolynomial F n s words
   exactly n s words = (
     only_shares n s words,
     λ p.

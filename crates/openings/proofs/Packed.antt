@@ -1,4 +1,5 @@
 -- All sums of an opening of bytes in one word. Assumes nothing.
+use Rattle.std.specs.Prelude.{None, Some}
 use mathlib.Core.Path.{◌≡◌, refl, sym, ap, ap₂, ◌∙◌}
 use mathlib.Core.Bool.{Bool, true, false, cond, ◌&&◌}
 use mathlib.Core.List.{List, [], ◌∷◌}
@@ -22,7 +23,6 @@ use Rattle.ranges.proofs.Loops.{and_left, and_right}
 use Rattle.ranges.proofs.Ranges.{below_drop, below_at}
 use Rattle.weights.specs.Products.{products}
 use Rattle.openings.specs.Opening.{total, moments, settled}
-use Rattle.openings.specs.declared.opening.Opening.TheVariants.{Secret, Inconsistent}
 
 -- ---- one word more
 
@@ -60,7 +60,7 @@ unfolding moments packed total products
 no_words zero = refl
 no_words (suc m) = ap (λ (k : ℕ). 0 + 256 * k) (no_words m)
 
--- a loop over the words, from the last on, has the sums of those from place i on
+-- the sums of the words from place i on
 module _ (m : ℕ) (xs ys : List ℕ) where
   abbrev pub from_place : ℕ → ℕ
   from_place i = packed (moments bytes m (drop i xs) (drop i ys))
@@ -73,16 +73,20 @@ module _ (m : ℕ) (xs ys : List ℕ) where
         ∙ no_words m)
 
     module _ (hxs : AllBelow 256 xs) (hys : AllBelow 256 ys) where
+      pub one_on : (i v : ℕ) → i < length ys → v ≡ packed (moments bytes m (get_or xs i 0 ∷ []) (get_or ys i 0 ∷ []))
+          → xor v (from_place (i + 1)) ≡ from_place i
+      one_on i v h ev =
+          let e : i + 1 ≡ suc i = omega arith in
+          ap₂ (λ (z k : ℕ). xor z (from_place k)) ev e
+          ∙ one_more m (get_or xs i 0) (get_or ys i 0) (drop (suc i) xs) (drop (suc i) ys) (below_at 256 xs i hxs (lit< tt))
+          (below_at 256 ys i hys (lit< tt)) (below_drop 256 (suc i) xs hxs) (below_drop 256 (suc i) ys hys)
+          ∙ sym (ap₂ (λ (us vs : List ℕ). packed (moments bytes m us vs)) (drop-cons xs i 0 (omega (arith, same))) (drop-cons ys i 0 h))
+
       pub one_back : (i v : ℕ) → 0 < i → i ≤ length ys → v ≡ packed (moments bytes m (get_or xs (i - 1) 0 ∷ []) (get_or ys (i - 1) 0 ∷ []))
           → xor (from_place i) v ≡ from_place (i - 1)
       one_back i v h l ev =
-          let j = suc (i - 1) in
-          let e : i ≡ j = omega arith in
-          ap₂ (λ (k z : ℕ). xor (from_place k) z) e ev ∙ xors.comm _ _
-          ∙ one_more m (get_or xs (i - 1) 0) (get_or ys (i - 1) 0) (drop j xs) (drop j ys) (below_at 256 xs (i - 1) hxs (lit< tt))
-          (below_at 256 ys (i - 1) hys (lit< tt)) (below_drop 256 j xs hxs) (below_drop 256 j ys hys)
-          ∙ sym
-          (ap₂ (λ (us vs : List ℕ). packed (moments bytes m us vs)) (drop-cons xs (i - 1) 0 (omega (arith, same))) (drop-cons ys (i - 1) 0 (omega arith)))
+          let e : i ≡ i - 1 + 1 = omega arith in
+          ap (λ (k : ℕ). xor (from_place k) v) e ∙ xors.comm _ _ ∙ one_on (i - 1) v (omega arith) ev
 
 -- ---- the sums of one word
 
@@ -165,22 +169,22 @@ others (v ∷ vs) e =
     let r : packed vs ≡ 0 = others vs (and_right (eqb 0 v) (every (eqb 0) vs) e) in
     omega (arith, z, r)
 
-settled_first : (v : ℕ) (vs : List ℕ) → v < 256 → settled (v ∷ vs) ≡ cond (ltb (packed (v ∷ vs)) 256) (Secret (packed (v ∷ vs))) Inconsistent
+settled_first : (v : ℕ) (vs : List ℕ) → v < 256 → settled (v ∷ vs) ≡ cond (ltb (packed (v ∷ vs)) 256) (Some (packed (v ∷ vs))) None
 unfolding packed settled
 settled_first v vs h = go (every (eqb 0) vs) refl
   where
-    go : (b : Bool) → every (eqb 0) vs ≡ b → cond b (Secret v) Inconsistent ≡ cond (ltb (v + 256 * packed vs) 256) (Secret (v + 256 * packed vs)) Inconsistent
+    go : (b : Bool) → every (eqb 0) vs ≡ b → cond b (Some v) None ≡ cond (ltb (v + 256 * packed vs) 256) (Some (v + 256 * packed vs)) None
     go true e =
         let z : v + 256 * packed vs ≡ v = omega (arith, others vs e) in
         sym
-        (ap (λ (k : ℕ). cond (ltb k 256) (Secret k) Inconsistent) z
-        ∙ ap (λ (b : Bool). cond b (Secret v) Inconsistent) (lt-ltb v 256 h))
+        (ap (λ (k : ℕ). cond (ltb k 256) (Some k) None) z
+        ∙ ap (λ (b : Bool). cond b (Some v) None) (lt-ltb v 256 h))
     go false e =
         let d : packed vs ≡ 0 → ⊥ = λ z. let f : true ≡ false = sym (no_others vs z) ∙ e in let w : ◌≡◌ {A = ℕ} 0 1 = cc f in omega arith in
         let l : 256 ≤ v + 256 * packed vs = omega (arith, d) in
-        sym (ap (λ (b : Bool). cond b (Secret (v + 256 * packed vs)) Inconsistent) (le-ltb (v + 256 * packed vs) 256 l))
+        sym (ap (λ (b : Bool). cond b (Some (v + 256 * packed vs)) None) (le-ltb (v + 256 * packed vs) 256 l))
 
 pub settled_packed : (m : ℕ) (xs ys : List ℕ) → AllBelow 256 ys
-    → settled (moments bytes (suc m) xs ys) ≡ cond (ltb (packed (moments bytes (suc m) xs ys)) 256) (Secret (packed (moments bytes (suc m) xs ys))) Inconsistent
+    → settled (moments bytes (suc m) xs ys) ≡ cond (ltb (packed (moments bytes (suc m) xs ys)) 256) (Some (packed (moments bytes (suc m) xs ys))) None
 unfolding moments
 settled_packed m xs ys h = settled_first (total bytes ys) (moments bytes m xs (products bytes xs ys)) (total_lt ys h)

@@ -1,7 +1,7 @@
 -- The sums of an opening of amounts, made of plain numbers and reduced once. Assumes nothing.
 use mathlib.Core.Path.{◌≡◌, refl, sym, ap, ap₂, ◌∙◌}
 use mathlib.Core.List.{List, [], ◌∷◌}
-use Prim.Native.Nat.{ℕ, zero, suc, ◌+◌, ◌-◌, ◌*◌, ◌/◌, ◌%◌, ◌^◌, ◌≤◌, ◌<◌}
+use Prim.Native.Nat.{ℕ, zero, suc, ◌+◌, ◌*◌, ◌/◌, ◌%◌, ◌^◌, ◌≤◌, ◌<◌}
 use native.Mathlib.Nat.{pow-zero, pow-suc, mul_assoc, one-mul, add-mod-mod, div-add-mod, mul-le-mul_left}
 use native.Mathlib.Numerals.{add-one}
 use native.Mathlib.Omega.{arith}
@@ -31,25 +31,26 @@ unfolding powered
 none_left j ys = ap (powered j (1 + length ys)) (drop-length ys)
 
 -- one number more
-pub one_more : (j : ℕ) (ys : List ℕ) (i t : ℕ) → 0 < i → i ≤ length ys → t ≡ (i - 1 + 1) ^ j
-    → t * get_or ys (i - 1) 0 + from_place j ys i ≡ from_place j ys (i - 1)
+pub one_more : (j : ℕ) (ys : List ℕ) (i t : ℕ) → i < length ys → t ≡ (i + 1) ^ j
+    → from_place j ys i ≡ t * get_or ys i 0 + from_place j ys (i + 1)
 unfolding powered
-one_more j ys i t h l e =
-    let y = get_or ys (i - 1) 0 in
-    let a : i - 1 + 1 ≡ 1 + (i - 1) = omega arith in
-    let b : 1 + i ≡ suc (1 + (i - 1)) = omega arith in
-    let d : i ≡ suc (i - 1) = omega arith in
-    ap (λ (n : ℕ). n * y + from_place j ys i) (e ∙ ap (λ (n : ℕ). n ^ j) a)
-    ∙ ap₂ (λ (m k : ℕ). (1 + (i - 1)) ^ j * y + powered j m (drop k ys)) b d
-    ∙ ap (powered j (1 + (i - 1))) (sym (drop-cons ys (i - 1) 0 (omega arith)))
+one_more j ys i t h e =
+    let y = get_or ys i 0 in
+    let a : i + 1 ≡ 1 + i = omega arith in
+    let b : 1 + (i + 1) ≡ suc (1 + i) = omega arith in
+    let d : i + 1 ≡ suc i = omega arith in
+    ap (powered j (1 + i)) (drop-cons ys i 0 h)
+    ∙ sym
+    (ap (λ (n : ℕ). n * y + from_place j ys (i + 1)) (e ∙ ap (λ (n : ℕ). n ^ j) a)
+    ∙ ap₂ (λ (m k : ℕ). (1 + i) ^ j * y + powered j m (drop k ys)) b d)
 
 -- its halves, times its power
-pub halves_more : (low high v x t : ℕ) → low + 2 ^ 32 * high ≡ v → low + x % 2 ^ 32 * t + 2 ^ 32 * (high + x / 2 ^ 32 * t) ≡ t * x + v
-halves_more low high v x t e =
+pub halves_more : (low high left v x t : ℕ) → low + 2 ^ 32 * high + (t * x + left) ≡ v → low + x % 2 ^ 32 * t + 2 ^ 32 * (high + x / 2 ^ 32 * t) + left ≡ v
+halves_more low high left v x t e =
     let w : t * (2 ^ 32 * (x / 2 ^ 32) + x % 2 ^ 32) ≡ t * x = ap (λ (n : ℕ). t * n) (div-add-mod x (2 ^ 32)) in
     split (x / 2 ^ 32) (x % 2 ^ 32) w
   where
-    split : (q r : ℕ) → t * (2 ^ 32 * q + r) ≡ t * x → low + r * t + 2 ^ 32 * (high + q * t) ≡ t * x + v
+    split : (q r : ℕ) → t * (2 ^ 32 * q + r) ≡ t * x → low + r * t + 2 ^ 32 * (high + q * t) + left ≡ v
     split q r w = omega arith
 
 -- and what these are at most

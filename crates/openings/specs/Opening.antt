@@ -1,12 +1,10 @@
 -- "Opening n words gives the value at 0 of the polynomial of degree at most t through all of them." Assumes nothing.
-use Rattle.std.specs.Prelude.{Bool, cond, ◌&&◌, List, [], ◌∷◌, ℕ, zero, suc, ◌-◌, leb, ltb, eqb, length}
+use Rattle.std.specs.Prelude.{Bool, cond, ◌&&◌, List, [], ◌∷◌, ℕ, zero, suc, ◌-◌, leb, ltb, eqb, length, Option, Some, None}
 use Rattle.fields.specs.Ring.{Ops}
 use Rattle.ranges.specs.Lists.{every}
 use Rattle.weights.specs.Rows.{Scheme, weights}
 use Rattle.weights.specs.Products.{products}
 use Rattle.sharing.specs.Scheme.{threshold, points}
-use Rattle.openings.specs.declared.opening.Opening.{Opening}
-use Rattle.openings.specs.declared.opening.Opening.TheVariants.{Secret, Inconsistent}
 
 module _ {A : Type 0} (O : Ops A) where
   unfoldable pub total : List A → A
@@ -22,10 +20,14 @@ module _ {A : Type 0} (O : Ops A) where
 unfoldable pub readable : ℕ → ℕ → List ℕ → Bool
 readable size n words = leb 3 n && leb n 9 && eqb (length words) n && every (λ w. ltb w size) words
 
+-- the value at 0 of a polynomial, or that there is none
+abbrev pub Opening : Type 0
+Opening = Option ℕ
+
 -- the first sum is the value at 0, where all the others are 0
 unfoldable pub settled : List ℕ → Opening
-settled [] = Inconsistent
-settled (v ∷ vs) = cond (every (eqb 0) vs) (Secret v) Inconsistent
+settled [] = None
+settled (v ∷ vs) = cond (every (eqb 0) vs) (Some v) None
 
 -- Weighted, the words of a polynomial f of degree below n add up to its value at 0. The words of x f, x^2 f, .. do so too, as long as
 -- these have degree below n. So n - t - 1 further sums are 0 where f has degree at most t, and only there.
@@ -33,4 +35,4 @@ unfoldable pub opened : Scheme → ℕ → List ℕ → Opening
 opened S n words =
     cond (readable S.size n words)
     (settled (moments S.ops (n - threshold n) (points n) (products S.ops (weights S n) words)))
-    Inconsistent
+    None

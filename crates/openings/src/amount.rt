@@ -16,35 +16,24 @@ pub fn open_amount(n: u64, words: &[u64]) -> Opening
     ensures { result ≡ opened amount_scheme n words.now }
 {
     if !readable(n, words, P) {
-        return Opening::Inconsistent;
+        return None;
     }
-    let count = n as usize;
-    let terms = weighted(count, words);
-    let secret = moment(&terms[..count], 0);
-    let most = n - 1 - threshold(n);
-    let mut j = 0;
-    while j < most {
-        j += 1;
-        if moment(&terms[..count], j) != 0 {
-            return Opening::Inconsistent;
-        }
-    }
-    Opening::Secret(secret)
+    let weighted = weighted(n as usize, words);
+    let terms = &weighted[..n as usize];
+    let count = n - threshold(n);
+    let silent = (1..count).all(|j| moment(terms, j) == 0);
+    silent.then_some(moment(terms, 0))
 }
 
-// The first n terms are the words with their weights.
+// The first n terms are the words with their weights. They stand in an array of nine, as the library has no heap.
 fn weighted(n: usize, words: &[u64]) -> [u64; 9]
     requires { (3 ≤ n) × (n ≤ 9) × (length words.now ≡ n) }
     ensures { take n result ≡ products amounts (weights amount_scheme n) words.now }
 {
     let row = amount_row(n as u64);
     let mut terms = [0u64; 9];
-    let mut i = 0;
-    while i < n {
-        let weight = row[i];
-        let word = words[i];
-        terms[i] = AmountShare(weight).mul(AmountShare(word)).0;
-        i += 1;
+    for (i, word) in words.iter().enumerate() {
+        terms[i] = AmountShare(row[i]).mul(AmountShare(*word)).0;
     }
     terms
 }
@@ -57,10 +46,7 @@ fn moment(terms: &[u64], j: u64) -> u64
 {
     let mut low: u64 = 0;
     let mut high: u64 = 0;
-    let mut i = terms.len();
-    while 0 < i {
-        i -= 1;
-        let term = terms[i];
+    for (i, term) in terms.iter().enumerate() {
         let times = power(i as u64 + 1, j);
         low += term % HALF * times;
         high += term / HALF * times;

@@ -6,11 +6,7 @@ use ranges::all_below;
 
 // The value at 0 of the polynomial through the words, or that no polynomial of degree at most t
 // passes through them all.
-#[derive(Clone, Copy)]
-pub enum Opening {
-    Secret(u64),
-    Inconsistent,
-}
+pub type Opening = Option<u64>;
 
 // Whether there are as many words as parties, 3 to 9.
 pub(crate) fn counted(n: u64, words: &[u64]) -> bool

@@ -2,5 +2,4 @@
 pub mod Laws
 mod Descended
 pub mod Opened
-mod Steps
 mod Pairs

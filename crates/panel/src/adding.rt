@@ -34,7 +34,7 @@ fn add_one(
 {
     let width = 2 * k as usize;
     let mut shares = zeros();
-    split(n, own, k, table, coins, &mut shares[..width]);
+    let _ = split(n, own, k, table, coins, &mut shares[..width]);
     let reply = add(q, totals, bidder, &shares[..width]);
     returned(reply)
 }
@@ -54,11 +54,10 @@ pub fn add_all(
         × (part (2 * k) i totals.new ≡ totals_added n k bidder table.now coins.now parties totals.old i)) }
 {
     let width = 2 * k as usize;
-    let last = n as usize;
+    let count = n as usize;
     let mut after = parties;
-    let mut at = 0;
-    let mut i = 0;
-    while i < last {
+    for i in 0..count {
+        let at = i * width;
         let next = at + width;
         let q = parties[i];
         after[i] = add_one(
@@ -71,8 +70,6 @@ pub fn add_all(
             q,
             &mut totals[at..next],
         );
-        at = next;
-        i += 1;
     }
     after
 }

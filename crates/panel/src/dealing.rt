@@ -12,7 +12,7 @@ fn deal_one(n: u64, own: u64, last: u64, words: &[u64], bytes: &[u8], at: usize,
     ensures { sheets.new ≡ sheet_dealt n own last words.now bytes.now at sheets.old }
 {
     let to = at + sheet_words(last);
-    deal(n, own, last, words, bytes, &mut sheets[at..to]);
+    let _ = deal(n, own, last, words, bytes, &mut sheets[at..to]);
 }
 
 // The same for all parties, whose sheets are `width` words each.
@@ -29,9 +29,8 @@ pub fn deal_each(
     ensures { All n (λ i. part width i sheets.new ≡ sheet_dealt n (i + 1) last words.now bytes.now at (part width i sheets.old)) }
 {
     let count = n as usize;
-    let mut from = 0;
-    let mut i = 0;
-    while i < count {
+    for i in 0..count {
+        let from = i * width;
         let to = from + width;
         deal_one(
             n,
@@ -42,7 +41,5 @@ pub fn deal_each(
             at,
             &mut sheets[from..to],
         );
-        from = to;
-        i += 1;
     }
 }

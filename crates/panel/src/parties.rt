@@ -25,14 +25,11 @@ pub fn open_all(n: u64, k: u64, last: u64, totals: &mut [u64]) -> [Party; 9]
     let count = n as usize;
     let nobody = blank();
     let mut parties = [nobody; 9];
-    let mut at = 0;
-    let mut i = 0;
-    while i < count {
+    for i in 0..count {
+        let at = i * width;
         let next = at + width;
         let reply = open(n, i as u64 + 1, k, last, &mut totals[at..next]);
         parties[i] = returned(reply);
-        at = next;
-        i += 1;
     }
     parties
 }

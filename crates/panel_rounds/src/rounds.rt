@@ -26,14 +26,11 @@ pub fn say_all(
     ensures { All n (λ i. part width i messages.new ≡ said_by k lent parties totals.now sheets.now i (part width i messages.old)) }
 {
     let count = n as usize;
-    let mut at = 0;
-    let mut i = 0;
-    while i < count {
+    for i in 0..count {
+        let at = i * width;
         let next = at + width;
         let q = parties[i];
         say_one(q, k, lent, i, totals, sheets, &mut messages[at..next]);
-        at = next;
-        i += 1;
     }
 }
 
@@ -53,11 +50,9 @@ pub fn hear_all(
 {
     let count = n as usize;
     let mut after = parties;
-    let mut i = 0;
-    while i < count {
+    for i in 0..count {
         let q = parties[i];
         after[i] = hear_one(q, k, lent, i, totals, sheets, messages, present);
-        i += 1;
     }
     after
 }

@@ -27,7 +27,7 @@ pub(crate) fn say_one(
     let from = i * lent;
     let next = at + width;
     let to = from + lent;
-    say(q, &totals[at..next], &sheets[from..to], said);
+    let _ = say(q, &totals[at..next], &sheets[from..to], said);
 }
 
 // Its record once it has heard the words of those who were present.

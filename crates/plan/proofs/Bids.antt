@@ -1,4 +1,5 @@
 -- The bids of the input, from the bytes that they are read from. Assumes nothing.
+use Rattle.std.specs.Prelude.{Option, None, Some}
 use mathlib.Core.Path.{◌≡◌, refl, sym, ap, ◌∙◌}
 use mathlib.Core.Logic.{⊎_elim}
 use mathlib.Core.List.{List, [], ◌∷◌}
@@ -7,10 +8,8 @@ use native.Mathlib.Nat.{zero-mul}
 use native.Mathlib.Omega.{arith}
 use lib.Dec.{eqb}
 use borrow.Author.Tests.{eqb-true, eqb-false}
-use Rattle.lines.specs.declared.line.Line.{Line}
 use Rattle.sections.specs.declared.table.Fault.{Fault}
-use Rattle.sections.specs.declared.table.Fault.TheVariants.{None, At}
-use Rattle.lines.specs.Lines.{lines, numbers, bytes_of, formed, past}
+use Rattle.lines.specs.Lines.{Line, lines, numbers, bytes_of, formed, past}
 use Rattle.plan.specs.Plan.{Reading, many, or_fault, bids}
 use Rattle.sections.specs.Sections.{table_fault, tables, bid_fault, bids_fault, or_else}
 use Rattle.lines.proofs.Again.{after_add, formed_most}
@@ -31,10 +30,10 @@ module _ (k line : ℕ) (bytes : List ℕ) where
       ⊎_elim
       (λ e. let h = eqb-true (formed (2 * k) bytes) (2 * k) e in
       many_all (2 * k) line bytes next h
-      ∙ ap (λ (f : Fault). or_fault f (go (numbers (2 * k) bytes) (lines (past (2 * k) bytes)))) (sym (whole k line bytes h)))
+      ∙ ap (λ (f : Option Fault). or_fault f (go (numbers (2 * k) bytes) (lines (past (2 * k) bytes)))) (sym (whole k line bytes h)))
       (λ e. let h : formed (2 * k) bytes < 2 * k = omega (arith, formed_most (2 * k) bytes, eqb-false (formed (2 * k) bytes) (2 * k) e) in
       many_torn (2 * k) line bytes next h
-      ∙ ap (λ (f : Fault). or_fault f (go (numbers (2 * k) bytes) (lines (past (2 * k) bytes)))) (sym (torn k line bytes h)))
+      ∙ ap (λ (f : Option Fault). or_fault f (go (numbers (2 * k) bytes) (lines (past (2 * k) bytes)))) (sym (torn k line bytes h)))
       (either (eqb (formed (2 * k) bytes) (2 * k)))
 
 -- ---- the bids
@@ -52,6 +51,6 @@ all_bids k (suc m) line bytes go =
     (after_add (2 * k) (m * (2 * k)) bytes ∙ ap (λ (j : ℕ). past j bytes) e))
     ∙ sym (both (bid_fault k line bytes) (bids_fault k m (line + 2 * k) (past (2 * k) bytes)) (go (tables k (suc m) bytes) (lines (past (suc m * (2 * k)) bytes))))
   where
-    both : (f g : Fault) (r : Reading) → or_fault (or_else f g) r ≡ or_fault f (or_fault g r)
+    both : (f g : Option Fault) (r : Reading) → or_fault (or_else f g) r ≡ or_fault f (or_fault g r)
     both None g r = refl
-    both (At number at) g r = refl
+    both (Some fault) g r = refl

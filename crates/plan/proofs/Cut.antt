@@ -1,4 +1,5 @@
 -- The end of a long input does not matter: its first 4,194,304 bytes say all that it says. Assumes nothing.
+use Rattle.std.specs.Prelude.{Option, None, Some}
 use mathlib.Core.Path.{◌≡◌, refl, sym, ap, ◌∙◌}
 use mathlib.Core.Bool.{Bool, true, false, cond, ◌&&◌}
 use mathlib.Core.Logic.{◌⊎◌, inl, inr, ⊎_elim}
@@ -12,14 +13,13 @@ use borrow.Author.Tests.{ltb-false, leb-true, eqb-false}
 use Rattle.ranges.specs.Lists.{every}
 use Rattle.ranges.proofs.Loops.{and_left, and_right}
 use Rattle.bid.specs.Table.{most}
-use Rattle.lines.specs.declared.line.Line.{Line}
-use Rattle.lines.specs.declared.line.Line.TheVariants.{Number, Misshapen}
+use Rattle.refusal.specs.declared.Refusal.{Refusal}
+use Rattle.refusal.specs.declared.Refusal.TheVariants.{OutOfRange, TooManyBids, Malformed}
 use Rattle.lines.specs.declared.line.Part.{Part}
 use Rattle.lines.specs.declared.line.Part.TheVariants.{Empty, Digits, Bad}
 use Rattle.sections.specs.declared.table.Fault.{Fault}
-use Rattle.sections.specs.declared.table.Fault.TheVariants.{None, At}
 use Rattle.decimal.specs.Decimal.{digit}
-use Rattle.lines.specs.Lines.{with_digit, grown, ended, lines, line_after, first_line, line_length, rest}
+use Rattle.lines.specs.Lines.{Line, with_digit, grown, ended, lines, line_after, first_line, line_length, rest}
 use Rattle.plan.specs.Plan.{Reading, check, needed, many, prices, or_fault, bids, ending, read, read_prices, read_bids}
 use Rattle.sections.specs.Sections.{next_price, table_fault}
 use Rattle.plan.proofs.Sections.{line_of, needed_number, needed_misshapen, ending_extra}
@@ -28,14 +28,14 @@ use Rattle.sections.proofs.Tables.{faultless}
 -- ---- a line, cut
 
 -- what is misshapen stays so
-misshapen_cut : (part : Part) (bytes : List ℕ) (room : ℕ) → line_after part bytes ≡ Misshapen → line_after part (take room bytes) ≡ Misshapen
+misshapen_cut : (part : Part) (bytes : List ℕ) (room : ℕ) → line_after part bytes ≡ None → line_after part (take room bytes) ≡ None
 unfolding line_after
 misshapen_cut part bytes zero e = refl
 misshapen_cut part [] (suc room) e = refl
 misshapen_cut part (b ∷ bytes) (suc room) e = cases (eqb b 10) (λ h. misshapen_cut (grown part b) bytes room h) e
   where
-    cases : (t : Bool) → (line_after (grown part b) bytes ≡ Misshapen → line_after (grown part b) (take room bytes) ≡ Misshapen)
-        → cond t (ended part) (line_after (grown part b) bytes) ≡ Misshapen → cond t (ended part) (line_after (grown part b) (take room bytes)) ≡ Misshapen
+    cases : (t : Bool) → (line_after (grown part b) bytes ≡ None → line_after (grown part b) (take room bytes) ≡ None)
+        → cond t (ended part) (line_after (grown part b) bytes) ≡ None → cond t (ended part) (line_after (grown part b) (take room bytes)) ≡ None
     cases true go e = e
     cases false go e = go e
 
@@ -99,32 +99,32 @@ zeros_grow zero a b h = h
 zeros_grow (suc j) a b h = zeros_grow j (10 * a) (10 * b) (omega arith)
 
 -- a number's line ends at its first byte, or goes on
-step : (part : Part) (b : ℕ) (bytes : List ℕ) (w : ℕ) → line_after part (b ∷ bytes) ≡ Number w
-    → ((ended part ≡ Number w) × (line_length (b ∷ bytes) ≡ 1))
-    ⊎ ((line_after (grown part b) bytes ≡ Number w) × (line_length (b ∷ bytes) ≡ suc (line_length bytes)))
+step : (part : Part) (b : ℕ) (bytes : List ℕ) (w : ℕ) → line_after part (b ∷ bytes) ≡ Some w
+    → ((ended part ≡ Some w) × (line_length (b ∷ bytes) ≡ 1))
+    ⊎ ((line_after (grown part b) bytes ≡ Some w) × (line_length (b ∷ bytes) ≡ suc (line_length bytes)))
 unfolding line_after line_length
 step part b bytes w e = cases (eqb b 10) e
   where
-    cases : (t : Bool) → cond t (ended part) (line_after (grown part b) bytes) ≡ Number w
-        → ((ended part ≡ Number w) × (suc (cond t 0 (line_length bytes)) ≡ 1))
-        ⊎ ((line_after (grown part b) bytes ≡ Number w) × (suc (cond t 0 (line_length bytes)) ≡ suc (line_length bytes)))
+    cases : (t : Bool) → cond t (ended part) (line_after (grown part b) bytes) ≡ Some w
+        → ((ended part ≡ Some w) × (suc (cond t 0 (line_length bytes)) ≡ 1))
+        ⊎ ((line_after (grown part b) bytes ≡ Some w) × (suc (cond t 0 (line_length bytes)) ≡ suc (line_length bytes)))
     cases true e = inl (e, refl)
     cases false e = inr (e, refl)
 
-apart : {l : Line} {w : ℕ} → l ≡ Misshapen → l ≡ Number w → ⊥
+apart : {l : Line} {w : ℕ} → l ≡ None → l ≡ Some w → ⊥
 apart e f = let z : ◌≡◌ {A = ℕ} 0 1 = cc in omega arith
 
-bad_line : (bytes : List ℕ) → line_after Bad bytes ≡ Misshapen
+bad_line : (bytes : List ℕ) → line_after Bad bytes ≡ None
 unfolding line_after grown with_digit
 bad_line [] = refl
 bad_line (b ∷ bytes) = cases (eqb b 10) (digit b) (bad_line bytes)
   where
-    cases : (s t : Bool) → line_after Bad bytes ≡ Misshapen → cond s Misshapen (line_after (cond t Bad Bad) bytes) ≡ Misshapen
+    cases : (s t : Bool) → line_after Bad bytes ≡ None → cond s None (line_after (cond t Bad Bad) bytes) ≡ None
     cases true t e = refl
     cases false true e = e
     cases false false e = e
 
-never_bad : {part : Part} {w : ℕ} (bytes : List ℕ) → part ≡ Bad → line_after part bytes ≡ Number w → ⊥
+never_bad : {part : Part} {w : ℕ} (bytes : List ℕ) → part ≡ Bad → line_after part bytes ≡ Some w → ⊥
 never_bad bytes e f = apart (ap (λ (p : Part). line_after p bytes) e ∙ bad_line bytes) f
 
 -- a byte more makes it bad, or a digit longer
@@ -155,7 +155,7 @@ record Spelled (v w : ℕ) (bytes : List ℕ) : Type 0 where
   small : w ≤ 2 ^ 64 - 1
   short : (j : ℕ) → w < zeros j v → line_length bytes ≤ j
 
-spelled : (bytes : List ℕ) (v w : ℕ) → v ≤ 2 ^ 64 - 1 → line_after (Digits v) bytes ≡ Number w → Spelled v w bytes
+spelled : (bytes : List ℕ) (v w : ℕ) → v ≤ 2 ^ 64 - 1 → line_after (Digits v) bytes ≡ Some w → Spelled v w bytes
 unfolding line_after zeros
 spelled [] v w h e = absurd (apart refl e)
 spelled (b ∷ bytes) v w h e =
@@ -176,7 +176,7 @@ spelled (b ∷ bytes) v w h e =
     (digit_more v b))
     (step (Digits v) b bytes w e)
   where
-    number : {x y : ℕ} → Number x ≡ Number y → x ≡ y
+    number : {x y : ℕ} → Some x ≡ Some y → x ≡ y
     number e = cc
 
     one : v ≡ w → line_length (b ∷ bytes) ≡ 1 → (j : ℕ) → w < zeros j v → line_length (b ∷ bytes) ≤ j
@@ -191,7 +191,7 @@ spelled (b ∷ bytes) v w h e =
         omega arith
 
 -- 0 stands alone
-zero_line : (bytes : List ℕ) (w : ℕ) → line_after (Digits 0) bytes ≡ Number w → line_length bytes ≤ 1
+zero_line : (bytes : List ℕ) (w : ℕ) → line_after (Digits 0) bytes ≡ Some w → line_length bytes ≤ 1
 unfolding line_after
 zero_line [] w e = absurd (apart refl e)
 zero_line (b ∷ bytes) w e =
@@ -204,7 +204,7 @@ zero_line (b ∷ bytes) w e =
     (step (Digits 0) b bytes w e)
 
 -- the line of a number takes no more than its width
-short_line : (bytes : List ℕ) (w : ℕ) → first_line bytes ≡ Number w → line_length bytes ≤ width w
+short_line : (bytes : List ℕ) (w : ℕ) → first_line bytes ≡ Some w → line_length bytes ≤ width w
 unfolding line_after zeros
 short_line [] w e = absurd (apart refl e)
 short_line (b ∷ bytes) w e =
@@ -217,7 +217,7 @@ short_line (b ∷ bytes) w e =
     (first_digit b))
     (step Empty b bytes w e)
   where
-    within : (v : ℕ) → v ≤ 9 → line_after (Digits v) bytes ≡ Number w → (t : Bool) → leb w most ≡ t → suc (line_length bytes) ≤ cond t 8 21
+    within : (v : ℕ) → v ≤ 9 → line_after (Digits v) bytes ≡ Some w → (t : Bool) → leb w most ≡ t → suc (line_length bytes) ≤ cond t 8 21
     within zero h e true f = omega (arith, zero_line bytes w e)
     within zero h e false f = omega (arith, zero_line bytes w e)
     within (suc v) h e true f =
@@ -236,14 +236,14 @@ record Enough (r : ℕ) (go : List Line → Reading) : Type 0 where
 more : {r s : ℕ} {go : List Line → Reading} → r ≤ s → Enough r go → Enough s go
 more h e = record { same = λ room bytes l. e.same room bytes (omega arith) }
 
-check_enough : (t : Bool) (number line : ℕ) {r : ℕ} {go : List Line → Reading} → (t ≡ true → Enough r go) → Enough r (λ ls. check t number line (go ls))
-check_enough true number line e = e refl
-check_enough false number line e = record { same = λ room bytes h. refl }
+check_enough : (t : Bool) (why : Refusal) (line : ℕ) {r : ℕ} {go : List Line → Reading} → (t ≡ true → Enough r go) → Enough r (λ ls. check t why line (go ls))
+check_enough true why line e = e refl
+check_enough false why line e = record { same = λ room bytes h. refl }
 
-fault_enough : (f : Fault) {r : ℕ} {go : List Line → Reading} → (f ≡ None → Enough r go) → Enough r (λ ls. or_fault f (go ls))
+fault_enough : (f : Option Fault) {r : ℕ} {go : List Line → Reading} → (f ≡ None → Enough r go) → Enough r (λ ls. or_fault f (go ls))
 unfolding or_fault
 fault_enough None e = e refl
-fault_enough (At number line) e = record { same = λ room bytes h. refl }
+fault_enough (Some fault) e = record { same = λ room bytes h. refl }
 
 needed_enough : (at : ℕ) {r : ℕ} {go : ℕ → List Line → Reading} → 21 ≤ r → ((v : ℕ) → Enough (r - width v) (go v)) → Enough r (λ ls. needed at ls go)
 needed_enough at {r} {go} h e = record {
@@ -291,7 +291,7 @@ unfolding prices
 prices_enough zero last at e = more (omega arith) (e [])
 prices_enough (suc k) last at e =
     needed_enough at (omega arith)
-    (λ v. check_enough (next_price last v) 13 at (λ t. more (omega (arith, width_most v)) (prices_enough k v (at + 1) (λ vs. e (v ∷ vs)))))
+    (λ v. check_enough (next_price last v) Malformed at (λ t. more (omega (arith, width_most v)) (prices_enough k v (at + 1) (λ vs. e (v ∷ vs)))))
 
 -- A good bid takes 8 bytes a line, and the first with a fault at most 21; after the last bid one byte more is enough.
 bids_enough : (k m at : ℕ) {go : List (List ℕ) → List Line → Reading} → k ≤ 256 → ((ts : List (List ℕ)) → Enough 1 (go ts))
@@ -317,14 +317,14 @@ bids_section : (n : ℕ) (seeds : List ℕ) (k : ℕ) (listed : List ℕ) → k 
 unfolding read_bids
 bids_section n seeds k listed h =
     needed_enough (n + k + 3) (omega arith)
-    (λ m. check_enough (leb m 1000) 4 (n + k + 3)
+    (λ m. check_enough (leb m 1000) TooManyBids (n + k + 3)
     (λ t. more (omega (arith, width_most m, leb-true m 1000 t)) (bids_enough k m (n + k + 4) h (λ ts. ending_enough _ _))))
 
 prices_section : (n : ℕ) (seeds : List ℕ) → Enough 4_108_075 (read_prices n seeds)
 unfolding read_prices
 prices_section n seeds =
     needed_enough (n + 2) (omega arith)
-    (λ k. check_enough (leb 1 k && leb k 256) 1 (n + 2)
+    (λ k. check_enough (leb 1 k && leb k 256) OutOfRange (n + 2)
     (λ t. let h = leb-true k 256 (and_right (leb 1 k) (leb k 256) t) in
     more (omega (arith, width_most k)) (prices_enough k 0 (n + 3) (λ listed. bids_section n seeds k listed h))))
 
@@ -332,7 +332,7 @@ all_sections : Enough 4_108_285 read
 unfolding read
 all_sections =
     needed_enough 1 (omega arith)
-    (λ n. check_enough (leb 3 n && leb n 9) 1 1
+    (λ n. check_enough (leb 3 n && leb n 9) OutOfRange 1
     (λ t. let h = leb-true n 9 (and_right (leb 3 n) (leb n 9) t) in
     many_enough n 2 (omega (arith, width_most n))
     (λ seeds l. more (omega (arith, width_most n, spent_most seeds)) (prices_section n seeds))))

@@ -1,10 +1,9 @@
 -- What judging the bytes of the input finds. Assumes nothing.
-use Rattle.std.specs.Prelude.{List, ℕ, ◌+◌, length}
+use Rattle.std.specs.Prelude.{List, ℕ, ◌+◌, length, Result, Ok, Err}
 use Rattle.plan.specs.declared.judging.Shape.{Shape}
-use Rattle.plan.specs.declared.judging.Judged.{Judged}
-use Rattle.plan.specs.declared.judging.Judged.TheVariants.{Faulty, Good}
 use Rattle.lines.specs.Lines.{lines, numbers, bytes_of, past}
-use Rattle.sections.specs.Sections.{xor_of}
+use Rattle.sections.specs.declared.table.Fault.{Fault}
+use Rattle.sections.specs.Sections.{at_line, xor_of}
 use Rattle.plan.specs.Plan.{Plan, Reading, faulty, accepted, read}
 
 -- an accepted plan: its counts, the seeds' exclusive or, and how many bytes stand before its prices and before its bids
@@ -18,11 +17,11 @@ shape_of bytes p = record {
   bids_at = bytes_of (p.n + p.k + 3) bytes;
 }
 
-unfoldable pub as_judged : List ℕ → Reading → Judged
-as_judged bytes (faulty number line) = Faulty number line
-as_judged bytes (accepted p) = Good (shape_of bytes p)
+unfoldable pub as_judged : List ℕ → Reading → Result Shape Fault
+as_judged bytes (faulty why line) = Err (at_line why line)
+as_judged bytes (accepted p) = Ok (shape_of bytes p)
 
-abbrev pub judged_as : List ℕ → Judged
+abbrev pub judged_as : List ℕ → Result Shape Fault
 judged_as bytes = as_judged bytes (read (lines bytes))
 
 -- ---- the sections of an input, read again

@@ -5,8 +5,12 @@ ghost use Rattle.sections.specs.Sections.{xor_of};
 ghost use Rattle.plan.specs.Plan.{read_prices, read_bids};
 ghost use Rattle.plan.specs.Judged.{seeds_of, prices_of, as_judged, judged_as};
 
-use lines::{Line, read_line};
+use lines::read_line;
+use refusal::Refusal;
 use sections::{Fault, read_bids, read_prices, read_seeds};
+
+// No auction has more bids.
+const MOST_BIDS: u64 = 1000;
 
 // An accepted input: its counts, the seeds' exclusive or, and where its prices and bids begin.
 #[derive(Clone, Copy)]
@@ -19,82 +23,75 @@ pub struct Shape {
     pub bids_at: usize,
 }
 
-#[derive(Clone, Copy)]
-pub enum Judged {
-    // the refusal's number, and the first faulty line's
-    Faulty(u64, u64),
-    Good(Shape),
-}
-
-// The first fault of the input, or its shape.
-pub fn judge(input: &[u8]) -> Judged
+// The input's shape, or its first fault.
+pub fn judge(input: &[u8]) -> Result<Shape, Fault>
     ensures { result ≡ judged_as input.now }
 {
     let first = read_line(input, 0);
-    let line = first.line;
-    let Line::Number(n) = line else {
-        return Judged::Faulty(13, 1);
+    let Some(n) = first.line else {
+        return Err(Fault::new(Refusal::Malformed, 1));
     };
     if !((3 <= n) & (n <= 9)) {
-        return Judged::Faulty(1, 1);
+        return Err(Fault::new(Refusal::OutOfRange, 1));
     }
     let m = n as usize;
     let mut seeds = [0u64; 9];
     let read = read_seeds(input, first.next, &mut seeds[..m]);
     if read.formed != m {
-        return Judged::Faulty(13, 2 + read.formed as u64);
+        return Err(Fault::new(Refusal::Malformed, 2 + read.formed as u64));
     }
     judge_prices(input, read.next, n, read.xor)
 }
 
 // The same from the count of prices on.
-fn judge_prices(input: &[u8], at: usize, n: u64, seed: u64) -> Judged
+fn judge_prices(input: &[u8], at: usize, n: u64, seed: u64) -> Result<Shape, Fault>
     requires { (n ≤ 9) × (at ≡ bytes_of (n + 1) input.now) × (seed ≡ xor_of (seeds_of n input.now)) }
     ensures { result ≡ as_judged input.now (read_prices n (seeds_of n input.now) (lines (drop at input.now))) }
 {
     let first = read_line(input, at);
-    let line = first.line;
-    let Line::Number(k) = line else {
-        return Judged::Faulty(13, n + 2);
+    let Some(k) = first.line else {
+        return Err(Fault::new(Refusal::Malformed, n + 2));
     };
     if !((1 <= k) & (k <= 256)) {
-        return Judged::Faulty(1, n + 2);
+        return Err(Fault::new(Refusal::OutOfRange, n + 2));
     }
     let m = k as usize;
     let prices_at = first.next;
     let mut prices = [0u64; 256];
     let read = read_prices(input, prices_at, &mut prices[..m]);
     if read.good != m {
-        return Judged::Faulty(13, n + 3 + read.good as u64);
+        return Err(Fault::new(Refusal::Malformed, n + 3 + read.good as u64));
     }
     judge_bids(input, read.next, n, seed, k, prices_at)
 }
 
 // The same from the count of bids on.
-fn judge_bids(input: &[u8], at: usize, n: u64, seed: u64, k: u64, prices_at: usize) -> Judged
+fn judge_bids(
+    input: &[u8],
+    at: usize,
+    n: u64,
+    seed: u64,
+    k: u64,
+    prices_at: usize,
+) -> Result<Shape, Fault>
     requires { (n ≤ 9) × (k ≤ 256) × (prices_at ≡ bytes_of (n + 2) input.now) × (at ≡ bytes_of (n + 2 + k) input.now) × (seed ≡ xor_of (seeds_of n input.now)) }
     ensures { result ≡ as_judged input.now (read_bids n (seeds_of n input.now) k (prices_of n k input.now) (lines (drop at input.now))) }
 {
     let first = read_line(input, at);
-    let line = first.line;
-    let Line::Number(bids) = line else {
-        return Judged::Faulty(13, n + k + 3);
+    let Some(bids) = first.line else {
+        return Err(Fault::new(Refusal::Malformed, n + k + 3));
     };
-    if 1000 < bids {
-        return Judged::Faulty(4, n + k + 3);
+    if MOST_BIDS < bids {
+        return Err(Fault::new(Refusal::TooManyBids, n + k + 3));
     }
     let bids_at = first.next;
     let m = 2 * k as usize;
     let mut table = [0u64; 512];
-    let read = read_bids(input, bids_at, k, bids, n + k + 4, &mut table[..m]);
-    let fault = read.fault;
-    if let Fault::At(number, line) = fault {
-        return Judged::Faulty(number, line);
+    let next = read_bids(input, bids_at, k, bids, n + k + 4, &mut table[..m])?;
+    if next < input.len() {
+        return Err(Fault::new(Refusal::Malformed, n + k + 4 + bids * (2 * k)));
     }
-    if read.next < input.len() {
-        return Judged::Faulty(13, n + k + 4 + bids * (2 * k));
-    }
-    Judged::Good(Shape {
+    Ok(Shape {
         n,
         seed,
         k,

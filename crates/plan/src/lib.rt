@@ -3,4 +3,4 @@
 
 mod judging;
 
-pub use judging::{Judged, Shape, judge};
+pub use judging::{Shape, judge};

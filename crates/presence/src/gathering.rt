@@ -3,7 +3,8 @@ ghost use Rattle.std.specs.Prelude.{◌≡◌, ◌≤◌, length, take};
 ghost use Rattle.ranges.specs.Lists.{from};
 ghost use Rattle.presence.specs.Presence.{of_present};
 
-// Up to nine parties, by their numbers, and the word of each.
+// Up to nine parties, by their numbers, and the word of each. Two arrays with one count: `openings_at` is lent the
+// parties apart from the words, which it writes over, so pairs would have to be taken apart again.
 #[derive(Clone, Copy)]
 pub struct Gathered {
     pub count: usize,
@@ -21,14 +22,12 @@ pub fn gather(present: &[u8], words: &[u64]) -> Gathered
     let mut parties = [0u64; 9];
     let mut chosen = [0u64; 9];
     let mut count = 0;
-    let mut i = 0;
-    while i < present.len() {
+    for (i, (mark, word)) in present.iter().zip(words).enumerate() {
         parties[count] = i as u64 + 1;
-        chosen[count] = words[i];
-        if present[i] == 1 {
+        chosen[count] = *word;
+        if *mark == 1 {
             count += 1;
         }
-        i += 1;
     }
     Gathered {
         count: count,

@@ -1,4 +1,5 @@
 -- The laws of opening by marks, of numbers in any field with unit points. Assumes nothing.
+use Rattle.std.specs.Prelude.{None, Some}
 use mathlib.Core.Path.{◌≡◌, refl, sym, ap, subst, subst₂, ◌∙◌}
 use mathlib.Core.Logic.{◌↔◌}
 use mathlib.Core.Bool.{true}
@@ -17,8 +18,7 @@ use Rattle.sharing.proofs.Points.{Different}
 use Rattle.weights.specs.Rows.{Scheme}
 use Rattle.openings.specs.Law.{Passes, OnPolynomial}
 use Rattle.openings.specs.Opening.{opened}
-use Rattle.openings.specs.declared.opening.Opening.{Opening}
-use Rattle.openings.specs.declared.opening.Opening.TheVariants.{Secret, Inconsistent}
+use Rattle.openings.specs.Opening.{Opening}
 use Rattle.openings.proofs.Laws.{Fits, exactly}
 use Rattle.openings.proofs.Settled.{cond_secret}
 use Rattle.presence.specs.Presence.{marked, of_present, how_many, everyone}
@@ -50,10 +50,10 @@ module _ {S : Scheme} {F : Field} (fits : Fits S F) where
     points_many : length present ≡ n → length xs ≡ how_many present
     points_many l = how_many_points present (points n) (length_from 1 n ∙ sym l)
 
-    only_present : (s : ℕ) → opened_by S n present words ≡ Secret s → OnPresent F n present s words
+    only_present : (s : ℕ) → opened_by S n present words ≡ Some s → OnPresent F n present s words
     unfolding opened_by
     only_present s e =
-        let c : (sized n present words ≡ true) × (opened_at S (threshold n) xs ws ≡ Secret s) = cond_secret (sized n present words) _ s e in
+        let c : (sized n present words ≡ true) × (opened_at S (threshold n) xs ws ≡ Some s) = cond_secret (sized n present words) _ s e in
         let z : Sized n present words = sized_as n present words c.0 in
         let l : length ws ≡ length xs = same_many z.words_many in
         let h : threshold n < length xs = (opened_words fits (threshold n) s xs ws l c.1).0 in
@@ -67,7 +67,7 @@ module _ {S : Scheme} {F : Field} (fits : Fits S F) where
     are_sized z = by_marks n present words S (is_sized n present words z)
 
     -- the marked words open exactly when t + 1 or more are marked and a polynomial of degree at most t passes through them
-    pub exactly_by : (s : ℕ) → (opened_by S n present words ≡ Secret s) ↔ OnPresent F n present s words
+    pub exactly_by : (s : ℕ) → (opened_by S n present words ≡ Some s) ↔ OnPresent F n present s words
     exactly_by s = (
       only_present s,
       λ p.
@@ -78,7 +78,7 @@ module _ {S : Scheme} {F : Field} (fits : Fits S F) where
 
     -- exactly t + 1 marked words in range always open
     pub always_by : 3 ≤ n → n ≤ 9 → length present ≡ n → length words ≡ n → how_many present ≡ suc (threshold n) → AllBelow q ws
-        → (s : ℕ) × (opened_by S n present words ≡ Secret s)
+        → (s : ℕ) × (opened_by S n present words ≡ Some s)
     always_by h3 h9 lp lw m h =
         let lx : length xs ≡ suc (threshold n) = points_many lp ∙ m in
         let a = always_at fits (threshold n) xs ws (apart_points h9).2 h lx (same_many lw ∙ lx) in
@@ -86,7 +86,7 @@ module _ {S : Scheme} {F : Field} (fits : Fits S F) where
 
   -- the shares of any t + 1 or more marked parties open to the secret
   pub opens_by : (n s : ℕ) (cs present : List ℕ) → 3 ≤ n → n ≤ 9 → s < q → AllBelow q cs → length cs ≡ threshold n
-      → length present ≡ n → threshold n < how_many present → opened_by S n present (shares O (s ∷ cs) (points n)) ≡ Secret s
+      → length present ≡ n → threshold n < how_many present → opened_by S n present (shares O (s ∷ cs) (points n)) ≡ Some s
   opens_by n s cs present h3 h9 hs hc l lp m =
       (exactly_by n present (shares O (s ∷ cs) (points n)) s).1
       (record {
@@ -103,10 +103,10 @@ module _ {S : Scheme} {F : Field} (fits : Fits S F) where
       })
 
   -- openings to the same secrets
-  same_opening : (a b : Opening) → ((s : ℕ) → a ≡ Secret s → b ≡ Secret s) → ((s : ℕ) → b ≡ Secret s → a ≡ Secret s) → a ≡ b
-  same_opening (Secret v) b f g = sym (f v refl)
-  same_opening Inconsistent (Secret v) f g = g v refl
-  same_opening Inconsistent Inconsistent f g = refl
+  same_opening : (a b : Opening) → ((s : ℕ) → a ≡ Some s → b ≡ Some s) → ((s : ℕ) → b ≡ Some s → a ≡ Some s) → a ≡ b
+  same_opening (Some v) b f g = sym (f v refl)
+  same_opening None (Some v) f g = g v refl
+  same_opening None None f g = refl
 
   -- where all were present, it is what opening all n words is
   pub all_marked : (n : ℕ) (present words : List ℕ) → length present ≡ n → every (eqb 1) present ≡ true

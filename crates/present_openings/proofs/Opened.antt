@@ -1,4 +1,5 @@
 -- What the tests of an opening by marks say of the words. Assumes nothing.
+use Rattle.std.specs.Prelude.{None}
 use mathlib.Core.Path.{◌≡◌, refl, sym, ap, ap₂, subst, ◌∙◌}
 use mathlib.Core.Bool.{Bool, true, false, cond, ◌&&◌}
 use mathlib.Core.List.{List, [], map}
@@ -12,7 +13,6 @@ use Rattle.ranges.specs.Lists.{every}
 use Rattle.ranges.proofs.Loops.{and-true}
 use Rattle.sharing.specs.Scheme.{threshold, points}
 use Rattle.weights.specs.Rows.{Scheme, byte_scheme}
-use Rattle.openings.specs.declared.opening.Opening.TheVariants.{Inconsistent}
 use Rattle.openings.proofs.Settled.{count, cond_true, cond_false}
 use Rattle.openings.proofs.Parts.{lows, lows_same}
 use Rattle.presence.specs.Presence.{marked, of_present}
@@ -41,7 +41,7 @@ module _ (n : ℕ) (present words : List ℕ) where
   gather_asks z = (omega (arith, z.at_most, z.marks_many), z.words_many ∙ sym z.marks_many)
 
   module _ (S : Scheme) where
-    pub by_not : sized n present words ≡ false → opened_by S n present words ≡ Inconsistent
+    pub by_not : sized n present words ≡ false → opened_by S n present words ≡ None
     unfolding opened_by
     by_not e = cond_false (sized n present words) _ e
 
@@ -54,6 +54,15 @@ module _ (n : ℕ) (present words : List ℕ) where
   abbrev pub chosen : List ℕ → List ℕ
   chosen xs = cond (sized n present words) (of_present present xs) []
 
+  -- those who were gathered are these
+  module _ (e : sized n present words ≡ true) where
+    pub points_chosen : (xs : List ℕ) → xs ≡ of_present present (points (length present)) → xs ≡ chosen (points n)
+    points_chosen xs h =
+        h ∙ ap (λ (m : ℕ). of_present present (points m)) (sized_as e).marks_many ∙ sym (ap (λ (b : Bool). cond b (of_present present (points n)) []) e)
+
+    pub words_chosen : (xs : List ℕ) → xs ≡ of_present present words → xs ≡ chosen words
+    words_chosen xs h = h ∙ sym (ap (λ (b : Bool). cond b (of_present present words) []) e)
+
   pub rising_chosen : (xs : List ℕ) → xs ≡ chosen (points n) → Rising 0 xs
   rising_chosen xs e = subst (Rising 0) (sym e) (go (sized n present words) refl)
     where
@@ -63,11 +72,11 @@ module _ (n : ℕ) (present words : List ℕ) where
 
   module _ (S : Scheme) (t : ℕ) (ht : t ≡ threshold n) where
     -- no words do not open
-    none_at : opened_at S t [] [] ≡ Inconsistent
+    none_at : opened_at S t [] [] ≡ None
     unfolding opened_at descended agreed every
     none_at = go t
       where
-        go : (t : ℕ) → opened_at S t [] [] ≡ Inconsistent
+        go : (t : ℕ) → opened_at S t [] [] ≡ None
         go zero = refl
         go (suc t) = refl
 
@@ -82,7 +91,7 @@ module _ (n : ℕ) (present words : List ℕ) where
 -- ---- parts of the words
 
 module _ (f : ℕ → ℕ) (n : ℕ) (present words : List ℕ) where
-  sized_part : sized n present (map f words) ≡ sized n present words
+  pub sized_part : sized n present (map f words) ≡ sized n present words
   unfolding sized
   sized_part = rw (length-map words f)
 
@@ -100,10 +109,10 @@ module _ (f : ℕ → ℕ) (n : ℕ) (present words : List ℕ) where
 -- ---- bytes
 
 module _ (n : ℕ) (present words : List ℕ) where
-  pub not_bytes : every (λ w. ltb w 256) (of_present present words) ≡ false → Inconsistent ≡ opened_by byte_scheme n present words
+  pub not_bytes : every (λ w. ltb w 256) (of_present present words) ≡ false → None ≡ opened_by byte_scheme n present words
   not_bytes e = sym (go (sized n present words) refl)
     where
-      go : (b : Bool) → sized n present words ≡ b → opened_by byte_scheme n present words ≡ Inconsistent
+      go : (b : Bool) → sized n present words ≡ b → opened_by byte_scheme n present words ≡ None
       go true k = by_marks n present words byte_scheme k ∙ at_bad byte_scheme (threshold n) _ _ e
       go false k = by_not n present words byte_scheme k
 
@@ -112,7 +121,7 @@ module _ (n : ℕ) (present words : List ℕ) where
       → opened_by byte_scheme n present (lows words) ≡ opened_by byte_scheme n present words
   unfolding opened_by
   lows_are e =
-      ap₂ (λ (b : Bool) (ws : List ℕ). cond b (opened_at byte_scheme (threshold n) (of_present present (points n)) ws) Inconsistent)
+      ap₂ (λ (b : Bool) (ws : List ℕ). cond b (opened_at byte_scheme (threshold n) (of_present present (points n)) ws) None)
       (sized_part (λ w. w % 256) n present words) (choose_map (λ w. w % 256) (marked present) words ∙ lows_same (of_present present words) e)
 
 -- ---- words in an array of nine

@@ -1,13 +1,15 @@
 -- Probe after probe: the indices and verdicts that the program notes are those of the searches. Assumes nothing.
+use Rattle.std.specs.Prelude.{Ok}
 use mathlib.Core.Path.{◌≡◌, refl, sym, ap, ap₂, subst, ◌∙◌}
 use mathlib.Core.Bool.{Bool, true, false, cond, not}
 use mathlib.Core.List.{List, [], ◌∷◌, ◌++◌, map, append_assoc, append-nil}
-use Prim.Native.Nat.{ℕ, zero, suc, ◌+◌, ◌≤◌, ◌<◌}
+use Prim.Native.Nat.{ℕ, suc, ◌+◌, ◌≤◌, ◌<◌}
 use native.Mathlib.Numerals.{add-one}
 use native.Mathlib.Omega.{arith}
 use lib.Dec.{eqb, leb}
-use lib.ListN.{length, drop, set, get_or}
-use lib.Seq.{get_or-set_same, get_or-set_other, drop-cons}
+use lib.ListN.{length, take, drop, set, get_or}
+use lib.Seq.{drop-cons, take-suc-set}
+use Rattle.std.proofs.lemmas.List.{map-append}
 use borrow.Author.Tests.{eq-eqb, ne_eqb}
 use Rattle.verdict.specs.Verdict.{verdict}
 use Rattle.search.specs.declared.bracket.Bracket.{Bracket}
@@ -25,8 +27,7 @@ use Rattle.record.specs.declared.Party.{Party}
 use Rattle.record.specs.Record.{blank}
 use Rattle.session.specs.Answer.{answer_judgement, answered, answer_reply}
 use Rattle.refusal.specs.Judging.{judged}
-use Rattle.refusal.specs.declared.Judgement.{Judgement}
-use Rattle.refusal.specs.declared.Judgement.TheVariants.{Accepted}
+use Rattle.refusal.specs.Refusal.{Judgement}
 use Rattle.auction.specs.Auction.{Auction, Bid, IsAuction, demand, supply, price_answer, probed}
 use Rattle.auction.specs.Coins.{Coins, InRange}
 use Rattle.auction.specs.Demands.{FleetTold}
@@ -39,6 +40,7 @@ use Rattle.auction.proofs.Search.{after_probes, made_over, made_going, probes_tr
 use Rattle.auction.proofs.Hours.{fleet_told}
 use Rattle.auction.proofs.Whole.{last, end, end_search, end_totals, end_sane, end_over}
 use Rattle.listing.specs.declared.course.Course.{Course}
+use Rattle.listing.specs.declared.course.Probe.{Probe}
 use Rattle.listing.specs.Lines.{most_listed, course_trail}
 use Rattle.probing.specs.Follows.{as_listed, priced, Follows, moved_end, verdict_read}
 use Rattle.panel.proofs.Parts.{sheets_eighteen}
@@ -46,22 +48,15 @@ use Rattle.standing.specs.Numbered.{rehearsed}
 use Rattle.standing.proofs.Standing.{Stands, verdict_at, Probes, Closes}
 use Rattle.standing.proofs.Rounds.{first_record}
 
--- a later note leaves the earlier ones
-earlier : (index verdicts : List ℕ) (done at v m : ℕ) → m ≤ done → course_trail (set index done at) (set verdicts done v) m ≡ course_trail index verdicts m
+-- what is noted of one probe more
+noted_more : (trail : List Probe) (done : ℕ) (p : Probe) → done < length trail
+    → course_trail (set trail done p) (done + 1) ≡ course_trail trail done ++ ((p.index, p.verdict) ∷ [])
 unfolding course_trail
-earlier index verdicts done at v zero h = refl
-earlier index verdicts done at v (suc m) h =
-    let apart : m ≡ done → ⊥ = λ e. omega arith in
-    ap₂ ◌++◌ (earlier index verdicts done at v m (omega arith))
-    (ap₂ (λ (x y : ℕ). (x, y) ∷ []) (get_or-set_other index done m at 0 apart) (get_or-set_other verdicts done m v 0 apart))
-
-noted_more : (index verdicts : List ℕ) (done at v : ℕ) → length index ≡ most_listed → length verdicts ≡ most_listed → done < most_listed
-    → course_trail (set index done at) (set verdicts done v) (done + 1) ≡ course_trail index verdicts done ++ ((at, v) ∷ [])
-unfolding course_trail
-noted_more index verdicts done at v li lm h =
-    ap (course_trail (set index done at) (set verdicts done v)) (add-one done)
-    ∙ ap₂ ◌++◌ (earlier index verdicts done at v done (omega arith))
-    (ap₂ (λ (x y : ℕ). (x, y) ∷ []) (get_or-set_same index done at 0 (omega arith)) (get_or-set_same verdicts done v 0 (omega arith)))
+noted_more trail done p h =
+    let entry : Probe → ℕ × ℕ = λ q. (q.index, q.verdict) in
+    ap (λ (m : ℕ). map entry (take m (set trail done p))) (add-one done)
+    ∙ ap (map entry) (take-suc-set trail done p h)
+    ∙ map-append entry (take done trail) (p ∷ [])
 
 -- ---- the verdict is read off the searches
 
@@ -127,12 +122,12 @@ no_coins : SheetCoins
 no_coins = record { mask = 0; of_mask = []; of_bits = []; triples = [] }
 
 -- where the searches stand after some probes, and what is noted of them; the probes that are left are noted next, and lead to the end
-pub record Led (a : Auction) (c : Coins) (now : List Party) (totals sheets index verdicts : List ℕ) (done : ℕ) : Type 0 where
+pub record Led (a : Auction) (c : Coins) (now : List Party) (totals sheets : List ℕ) (trail : List Probe) (done : ℕ) : Type 0 where
   pub here : Search
   pub counted : here.probes ≡ done
   pub stands : Stands a c (decided_stage here) now totals sheets
   pub promised : Promised (demand a) (supply a) a.k here
-  pub noted : course_trail index verdicts done ++ as_listed (map (decision (way_of a.last)) (made a (polynomials a c) here (drop done c.sheets))) ≡ as_listed (probed a)
+  pub noted : course_trail trail done ++ as_listed (map (decision (way_of a.last)) (made a (polynomials a c) here (drop done c.sheets))) ≡ as_listed (probed a)
   pub leads : after_probes (way_of a.last) here (made a (polynomials a c) here (drop done c.sheets)) ≡ last a c
 
 module _ (n k : ℕ) (bids : List Bid) (c : Coins) where
@@ -148,7 +143,7 @@ module _ (n k : ℕ) (bids : List Bid) (c : Coins) where
     unfolding record_at
     first_search_is here now H = ap (λ (q : Party). q.search) (first_record a c A (decided_stage here) now totals sheets H)
 
-    module _ (now after : List Party) (index verdicts : List ℕ) (done : ℕ) (L : Led a c now totals sheets index verdicts done)
+    module _ (now after : List Party) (trail : List Probe) (done : ℕ) (L : Led a c now totals sheets trail done)
         (going : finished (get_or now 0 blank).search ≡ false) (P : Probes n k now totals sheets after) where
       abbrev at_first : Search
       at_first = L.here
@@ -201,14 +196,13 @@ module _ (n k : ℕ) (bids : List Bid) (c : Coins) where
       leads_on = ap (after_probes (way_of a.last) at_first) (sym one_less) ∙ L.leads
 
       -- one probe more
-      pub led_more : (i mv : ℕ) → i ≡ middle (get_or now 0 blank).search.bracket → mv ≡ verdict_read (get_or now 0 blank).search (get_or after 0 blank).search
-          → length index ≡ most_listed → length verdicts ≡ most_listed → done < most_listed
-          → Led a c after totals sheets (set index done i) (set verdicts done mv) (done + 1)
-      led_more i mv ei em li lm h =
-          let ib : i ≡ middle at_first.bracket = ei ∙ ap (λ (x : Search). middle x.bracket) (first_search_is at_first now L.stands) in
-          let vb : mv ≡ v =
+      pub led_more : (p : Probe) → p.index ≡ middle (get_or now 0 blank).search.bracket → p.verdict ≡ verdict_read (get_or now 0 blank).search (get_or after 0 blank).search
+          → done < length trail → Led a c after totals sheets (set trail done p) (done + 1)
+      led_more p ei em h =
+          let ib : p.index ≡ middle at_first.bracket = ei ∙ ap (λ (x : Search). middle x.bracket) (first_search_is at_first now L.stands) in
+          let vb : p.verdict ≡ v =
           em ∙ ap₂ verdict_read (first_search_is at_first now L.stands) (first_search_is (next at_first v) after later) ∙ verdict_read_is in
-          let r : List (ℕ × ℕ) = course_trail index verdicts done in
+          let r : List (ℕ × ℕ) = course_trail trail done in
           let rest : List (ℕ × ℕ) = as_listed (map (decision (way_of a.last)) (left (next at_first v) (done + 1))) in
           record {
             here = next at_first v;
@@ -216,8 +210,8 @@ module _ (n k : ℕ) (bids : List Bid) (c : Coins) where
             stands = later;
             promised = promised_next (demand a) (supply a) k (totals_monotone A) at_first L.promised open_here v v_is;
             noted =
-                ap (λ (z : List (ℕ × ℕ)). z ++ rest) (noted_more index verdicts done i mv li lm h)
-                ∙ append_assoc r ((i, mv) ∷ []) rest
+                ap (λ (z : List (ℕ × ℕ)). z ++ rest) (noted_more trail done p h)
+                ∙ append_assoc r ((p.index, p.verdict) ∷ []) rest
                 ∙ ap₂ (λ (x y : ℕ). r ++ ((x, y) ∷ rest)) ib vb
                 ∙ ap (λ (ds : List Made). r ++ as_listed (map (decision (way_of a.last)) ds)) (sym one_less)
                 ∙ L.noted;
@@ -225,14 +219,14 @@ module _ (n k : ℕ) (bids : List Bid) (c : Coins) where
           }
 
     -- at the end
-    module _ (now after : List Party) (index verdicts : List ℕ) (done : ℕ) (L : Led a c now totals sheets index verdicts done)
+    module _ (now after : List Party) (trail : List Probe) (done : ℕ) (L : Led a c now totals sheets trail done)
         (ended : finished L.here ≡ true) (P : Closes n k now totals sheets after) where
       none_left : left L.here done ≡ []
       none_left = made_over a (polynomials a c) L.here (drop done c.sheets) ended
 
-      noted_all : course_trail index verdicts done ≡ as_listed (probed a)
+      noted_all : course_trail trail done ≡ as_listed (probed a)
       noted_all =
-          sym (append-nil _) ∙ ap (λ (ds : List Made). course_trail index verdicts done ++ as_listed (map (decision (way_of a.last)) ds)) (sym none_left) ∙ L.noted
+          sym (append-nil _) ∙ ap (λ (ds : List Made). course_trail trail done ++ as_listed (map (decision (way_of a.last)) ds)) (sym none_left) ∙ L.noted
 
       at_last : L.here ≡ last a c
       unfolding follow
@@ -245,7 +239,7 @@ module _ (n k : ℕ) (bids : List Bid) (c : Coins) where
           (P bids c A C (subst (λ (here : Search). Stands a c (decided_stage here) now totals sheets) at_last L.stands))
 
       -- it is sound, so that it answers
-      answers : answer_judgement (record_at a c (end a c) 1) ≡ Accepted
+      answers : answer_judgement (record_at a c (end a c) 1) ≡ Ok tt
       unfolding answer_judgement judged
       answers = rw (sound_at a c A (end a c) (end_sane a c A C) 1 (omega arith) (omega (arith, A.n_least)), end_over a c A C 1)
 
@@ -273,10 +267,10 @@ module _ (n k : ℕ) (bids : List Bid) (c : Coins) where
           ∙ (end_totals a c (price_found a c A C)).1
           ∙ ap (λ (none : Bool). cond none 0 (supply a (price_answer a))) (some h)
 
-      pub follows : (r : Course) → r.probes ≡ done → r.index ≡ index → r.verdict ≡ verdicts → r.answer ≡ priced (answer_reply (get_or after 0 blank))
+      pub follows : (r : Course) → r.probes ≡ done → r.trail ≡ trail → r.answer ≡ priced (answer_reply (get_or after 0 blank))
           → r.demand ≡ (get_or after 0 blank).demand → r.supply ≡ (get_or after 0 blank).supply → Follows a r
-      follows r ep ei em ec ed es =
-          let e : course_trail r.index r.verdict r.probes ≡ course_trail index verdicts done = cc in
+      follows r ep et ec ed es =
+          let e : course_trail r.trail r.probes ≡ course_trail trail done = cc in
           record {
             noted = e ∙ noted_all;
             clears = ec ∙ price_clears;
@@ -289,10 +283,10 @@ module _ (n k : ℕ) (bids : List Bid) (c : Coins) where
       told = subst (FleetTold a) (sym closed) (fleet_told a c A C 1 (omega arith) (omega (arith, A.n_least)))
 
     -- before the first probe
-    pub led_start : (parties : List Party) (index verdicts : List ℕ) → Stands a c (fresh_stage (first_search k)) parties totals sheets
-        → Led a c parties totals sheets index verdicts 0
+    pub led_start : (parties : List Party) (trail : List Probe) → Stands a c (fresh_stage (first_search k)) parties totals sheets
+        → Led a c parties totals sheets trail 0
     unfolding course_trail first_search finished clears
-    led_start parties index verdicts H =
+    led_start parties trail H =
         record {
           here = first_search k;
           counted = refl;
@@ -303,9 +297,9 @@ module _ (n k : ℕ) (bids : List Bid) (c : Coins) where
         }
 
     -- the searches are over when the loop ends: it says so, or all the probes are made
-    pub led_over : (now : List Party) (index verdicts : List ℕ) (done : ℕ) (L : Led a c now totals sheets index verdicts done) → k ≤ 256
+    pub led_over : (now : List Party) (trail : List Probe) (done : ℕ) (L : Led a c now totals sheets trail done) → k ≤ 256
         → (finished (get_or now 0 blank).search ≡ false → most_listed ≤ done) → finished L.here ≡ true
-    led_over now index verdicts done L small h = split (finished L.here) refl
+    led_over now trail done L small h = split (finished L.here) refl
       where
         split : (t : Bool) → finished L.here ≡ t → finished L.here ≡ true
         split true e = e

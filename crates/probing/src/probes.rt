@@ -18,11 +18,9 @@ pub(crate) fn probe(
     ensures { Probes n k parties totals.now sheets.now result }
 {
     let mut after = parties;
-    let mut i: u64 = 0;
-    while i < 32 {
+    for _ in 0..32u32 {
         let next = round(n, k, after, totals, sheets);
         after = next;
-        i += 1;
     }
     round(n, k, after, totals, sheets)
 }

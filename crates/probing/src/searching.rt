@@ -10,10 +10,10 @@ ghost use Rattle.listing.specs.Lines.{most_listed};
 ghost use Rattle.probing.specs.Follows.{moved_end, verdict_read, priced, Follows};
 
 use crate::probes::probe;
-use listing::{Course, PROBES};
+use listing::{Course, PROBES, Probe};
 use record::Party;
 use search::{Search, finished, middle};
-use session::{Answer, answer};
+use session::answer;
 use total_rounds::open_totals;
 
 // How the auction went, and the record of party 1, whose session is over.
@@ -67,32 +67,33 @@ fn price(q: Party) -> u64
 {
     let reply = answer(q);
     match reply {
-        Answer::Cleared(index, _) => index,
-        Answer::Refused(_) => 0,
+        Ok(given) => given.price,
+        Err(_) => 0,
     }
 }
 
-// The searches take no more than nine probes each, so the second test alone ends the loop.
+// The searches take no more than nine probes each, so the second test alone ends the loop. The probes
+// that are made are counted, since their number is told.
 pub fn search(n: u64, k: u64, parties: [Party; 9], totals: &[u64], sheets: &[u64]) -> Ended
     requires { (n ≤ 9) × (k ≤ 256) × (length totals.now ≡ n * (2 * k)) × (length sheets.now ≡ n * (127 * most_probes k)) }
     ensures { (result.course.probes ≤ most_listed)
         × FromStart n k parties totals.now sheets.now (λ a. Follows a result.course × FleetTold a result.party) }
 {
-    let mut index = [0u64; PROBES];
-    let mut verdict = [0u64; PROBES];
+    let none = Probe {
+        index: 0,
+        verdict: 0,
+    };
+    let mut trail = [none; PROBES];
     let mut here = parties;
-    let first = here[0];
-    let mut more = going(first);
     let mut done: usize = 0;
-    while (done < PROBES) & more {
+    while (done < PROBES) & going(here[0]) {
         let q = here[0];
         let after = probe(n, k, here, totals, sheets);
         let r = after[0];
-        let at = probed(q);
-        let heard = decided(q.search, r.search);
-        index[done] = at;
-        verdict[done] = heard;
-        more = going(r);
+        trail[done] = Probe {
+            index: probed(q),
+            verdict: decided(q.search, r.search),
+        };
         here = after;
         done += 1;
     }
@@ -101,8 +102,7 @@ pub fn search(n: u64, k: u64, parties: [Party; 9], totals: &[u64], sheets: &[u64
     let answer = price(last);
     let course = Course {
         probes: done as u64,
-        index,
-        verdict,
+        trail,
         answer,
         demand: last.demand,
         supply: last.supply,

@@ -1,46 +1,52 @@
 -- Steps that are tested from the left until one fails. Assumes nothing.
-use Rattle.std.proofs.Common.{◌≡◌, ℕ, suc, ◌+◌, ◌<◌, ◌≤◌, Bool, true, false, cond, not, ◌&&◌, ◌||◌, eqb, ltb, leb, List, [], ◌∷◌, length, get_or, drop, sym, refl, ap, ◌∙◌, true≢false, add-one, arith, length-drop, drop-cons, ltb-false, ltb-true, eq-eqb, ne_eqb, le-leb}
+use Rattle.std.proofs.Common.{◌≡◌, ℕ, suc, ◌+◌, ◌<◌, ◌≤◌, Bool, true, false, cond, not, ◌&&◌, ◌||◌, eqb, ltb, leb, List, [], ◌∷◌, length, get_or, drop, sym, refl, ap, ◌∙◌, true≢false, add-one, arith, drop-cons, ltb-false, ltb-true, eq-eqb, ne_eqb, le-leb}
+use mathlib.Core.List.{tail-eq_of_cons-eq}
+use mathlib.Core.Logic.{◌⊎◌, ⊎_elim}
 use borrow.Author.Tests.{lt-leb}
+use Rattle.std.proofs.lemmas.List.{nil_from_length}
 use Rattle.ranges.specs.Steps.{steps, bend, in_order}
 
 pub first : (xs : List ℕ) (i : ℕ) → i < length xs → drop i xs ≡ get_or xs i 0 ∷ drop (i + 1) xs
 first xs i h = drop-cons xs i 0 h ∙ ap (λ (j : ℕ). get_or xs i 0 ∷ drop j xs) (sym (add-one i))
 
-module _ (test : ℕ → ℕ → Bool) (xs : List ℕ) (i : ℕ) where
-  two : i + 1 < length xs → drop i xs ≡ get_or xs i 0 ∷ get_or xs (i + 1) 0 ∷ drop (i + 1 + 1) xs
-  two h = first xs i (omega arith) ∙ ap (λ (l : List ℕ). get_or xs i 0 ∷ l) (first xs (i + 1) h)
+-- ---- the first two of what is left of a list, beside what is left of it without its first
 
-  pub bend_more : i + 1 < length xs → test (get_or xs i 0) (get_or xs (i + 1) 0) ≡ true
-      → i + bend test (drop i xs) ≡ i + 1 + bend test (drop (i + 1) xs)
-  unfolding bend
-  bend_more h e = rw (two h, first xs (i + 1) h, e) (omega arith)
+abbrev pub Behind : (left later : List ℕ) → Type 0
+Behind left later = (x : ℕ) × (left ≡ x ∷ later)
 
-  pub bend_fails : i + 1 < length xs → test (get_or xs i 0) (get_or xs (i + 1) 0) ≡ false → i + bend test (drop i xs) ≡ i + 1
-  unfolding bend
-  bend_fails h e = rw (two h, e)
+module _ (left later : List ℕ) (h : Behind left later) where
+  module _ (left' later' : List ℕ) (x y : ℕ) (e : left ≡ x ∷ left') (f : later ≡ y ∷ later') where
+    pub behind_next : left' ≡ y ∷ later'
+    behind_next = tail-eq_of_cons-eq (sym e ∙ h.1) ∙ f
 
-  pub bend_ends : i ≤ length xs → length xs ≤ i + 1 → i + bend test (drop i xs) ≡ length xs
-  unfolding bend
-  bend_ends h l = short (drop i xs) (omega (arith, length-drop i xs)) ∙ omega (arith, length-drop i xs)
-    where
-      short : (ys : List ℕ) → length ys ≤ 1 → i + bend test ys ≡ i + length ys
-      short [] h = refl
-      short (y ∷ []) h = refl
-      short (y ∷ z ∷ zs) h = absurd (omega arith)
+    pub bend_more : (test : ℕ → ℕ → Bool) → test x y ≡ true → bend test left ≡ suc (bend test left')
+    unfolding bend
+    bend_more test t = let n = behind_next in rw (e, n, t)
 
-module _ (test : ℕ → ℕ → Bool) (xs : List ℕ) (i : ℕ) where
-  pub steps_more : i + 1 < length xs → steps test (drop i xs) ≡ test (get_or xs i 0) (get_or xs (i + 1) 0) && steps test (drop (i + 1) xs)
-  unfolding steps
-  steps_more h = rw (two test xs i h, first xs (i + 1) h)
+    pub bend_fails : (test : ℕ → ℕ → Bool) → test x y ≡ false → bend test left ≡ 1
+    unfolding bend
+    bend_fails test t = let n = behind_next in rw (e, n, t)
 
-  pub steps_end : length xs ≤ i + 1 → steps test (drop i xs) ≡ true
-  unfolding steps
-  steps_end l = short (drop i xs) (omega (arith, length-drop i xs))
-    where
-      short : (ys : List ℕ) → length ys ≤ 1 → steps test ys ≡ true
-      short [] h = refl
-      short (y ∷ []) h = refl
-      short (y ∷ z ∷ zs) h = absurd (omega arith)
+    pub steps_more : (test : ℕ → ℕ → Bool) → steps test left ≡ test x y && steps test left'
+    unfolding steps
+    steps_more test = let n = behind_next in rw (e, n)
+
+  module _ (over : (length left ≡ 0) ⊎ (length later ≡ 0)) where
+    pub one_left : left ≡ h.0 ∷ []
+    one_left = h.1 ∙ ap (λ (l : List ℕ). h.0 ∷ l) (⊎_elim (λ n. absurd (omega (arith, n, ap length h.1))) (λ n. nil_from_length later n) over)
+
+    pub bend_ends : (test : ℕ → ℕ → Bool) → bend test left ≡ length left
+    unfolding bend
+    bend_ends test = let n = one_left in rw n
+
+    pub steps_end : (test : ℕ → ℕ → Bool) → steps test left ≡ true
+    unfolding steps
+    steps_end test = let n = one_left in rw n
+
+pub steps_short : (test : ℕ → ℕ → Bool) (xs : List ℕ) → length xs < 1 → steps test xs ≡ true
+unfolding steps
+steps_short test [] h = refl
+steps_short test (x ∷ xs) h = absurd (omega arith)
 
 pub bend_steps : (test : ℕ → ℕ → Bool) (xs : List ℕ) → bend test xs ≡ length xs → steps test xs ≡ true
 unfolding bend steps

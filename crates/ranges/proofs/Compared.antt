@@ -1,5 +1,7 @@
 -- Two lists compared number by number: they pass exactly where they are equal. Assumes nothing.
-use Rattle.std.proofs.Common.{◌≡◌, ℕ, ◌+◌, ◌<◌, ◌≤◌, Bool, true, false, ◌&&◌, eqb, List, [], ◌∷◌, ◌++◌, length, get_or, take, drop, refl, ap, ◌∙◌, ap₂, add-one, arith, drop_of_length-le, drop-cons, eq-eqb, ne_eqb, eqb-true}
+use Rattle.std.proofs.Common.{◌≡◌, ℕ, Bool, true, false, ◌&&◌, eqb, List, [], ◌∷◌, ◌++◌, length, take, drop, refl, ap, ◌∙◌, ap₂, arith, eq-eqb, ne_eqb, eqb-true, sym}
+use mathlib.Core.Logic.{◌⊎◌, ⊎_elim}
+use Rattle.std.proofs.lemmas.List.{nil_from_length}
 use lib.Bits.{bit_or, bit_xor, xor_add_and, and_le_l, and_le_r, xor_self}
 use borrow.Author.Tests.{eqb-false}
 use Rattle.ranges.specs.Lists.{same}
@@ -47,12 +49,14 @@ joined_same differ x y = split (eqb differ 0) (eqb x y) refl refl
     split false b f g =
         ne_eqb (bit_or differ (bit_xor x y)) 0 (λ e. eqb-false differ 0 f (omega (arith, left_le differ (bit_xor x y))))
 
-module _ (xs ys : List ℕ) (i differ : ℕ) where
-  pub same_more : i < length xs → i < length ys
-      → eqb differ 0 && same (drop i xs) (drop i ys) ≡ eqb (bit_or differ (bit_xor (get_or xs i 0) (get_or ys i 0))) 0 && same (drop (i + 1) xs) (drop (i + 1) ys)
+-- of what is left of two lists that are as long
+module _ (differ : ℕ) (xs ys : List ℕ) where
+  pub same_next : (x y : ℕ) → eqb differ 0 && same (x ∷ xs) (y ∷ ys) ≡ eqb (bit_or differ (bit_xor x y)) 0 && same xs ys
   unfolding same
-  same_more h k = rw (add-one, drop-cons xs i 0 h, drop-cons ys i 0 k, joined_same differ (get_or xs i 0) (get_or ys i 0)) (and_assoc (eqb differ 0) _ _)
+  same_next x y = rw (joined_same differ x y) (and_assoc (eqb differ 0) _ _)
 
-  pub same_end : length xs ≤ i → length ys ≤ i → eqb differ 0 && same (drop i xs) (drop i ys) ≡ eqb differ 0
+  pub same_over : length xs ≡ length ys → (length xs ≡ 0) ⊎ (length ys ≡ 0) → eqb differ 0 && same xs ys ≡ eqb differ 0
   unfolding same
-  same_end h k = rw (drop_of_length-le xs h, drop_of_length-le ys k) (and_one (eqb differ 0))
+  same_over e over =
+      let none : length xs ≡ 0 = ⊎_elim (λ h. h) (λ h. e ∙ h) over in
+      rw (nil_from_length xs none, nil_from_length ys (sym e ∙ none)) (and_one (eqb differ 0))

@@ -1,6 +1,7 @@
 -- Lists of numbers that a loop tests from the left or fills. Assumes nothing.
 use Rattle.std.proofs.Common.{◌≡◌, ℕ, zero, suc, ◌+◌, ◌<◌, ◌≤◌, Bool, true, false, ◌&&◌, ◌||◌, eqb, List, [], ◌∷◌, ◌++◌, map, length, get_or, take, drop, set, replicate, sym, refl, ap, ◌∙◌, ap₂, add-zero, add-one, arith, drop_of_length-le, get_or-drop, drop-cons, take-suc, drop-drop, take-suc-set, drop-set-lt, eqb-true}
 use borrow.Author.Tests.{eqb-false}
+use Rattle.std.specs.List.{list_all}
 use Rattle.ranges.specs.Lists.{from, every, member}
 
 pub and_left : (a b : Bool) → (a && b) ≡ true → a ≡ true
@@ -109,6 +110,12 @@ module _ (test : ℕ → Bool) (xs : List ℕ) (i : ℕ) where
   unfolding every
   every_joined_end true h = ap (every test) (drop_of_length-le _ h)
   every_joined_end false h = refl
+
+-- the same test of each, as the library's iterators have it
+pub list_every : (test : ℕ → Bool) (xs : List ℕ) → list_all test xs ≡ every test xs
+unfolding every
+list_every test [] = refl
+list_every test (x ∷ xs) = ap (λ (b : Bool). test x && b) (list_every test xs)
 
 -- of a list that passes, each number does
 pub every_at : (test : ℕ → Bool) (xs : List ℕ) (i : ℕ) → every test xs ≡ true → i < length xs → test (get_or xs i 0) ≡ true

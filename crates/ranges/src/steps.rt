@@ -5,21 +5,21 @@ ghost use Rattle.ranges.specs.Steps.{steps, bend, in_order};
 use crate::lists::HIGH;
 
 // How many words stand before the first that falls below the one before it, where they should rise, or
-// rises above it, where they should not: all of them where none does.
+// rises above it, where they should not: all of them where none does. A count and no Option, as `bend` of
+// specs/Steps.antt says it.
 pub fn first_bend(words: &[u64], rising: bool) -> usize
     ensures { result ≡ bend (in_order rising) words.now }
 {
     if none_bends(words, rising) {
         return words.len();
     }
-    let mut i = 0;
-    while i + 1 < words.len() {
-        let x = words[i];
-        let y = words[i + 1];
-        if (rising & (y < x)) | (!rising & (x < y)) {
+    let [_, later @ ..] = words else {
+        return words.len();
+    };
+    for (i, (x, y)) in words.iter().zip(later).enumerate() {
+        if (rising & (*y < *x)) | (!rising & (*x < *y)) {
             return i + 1;
         }
-        i += 1;
     }
     words.len()
 }
@@ -30,15 +30,13 @@ pub fn first_bend(words: &[u64], rising: bool) -> usize
 fn none_bends(words: &[u64], rising: bool) -> bool
     ensures { result ≡ true → steps (in_order rising) words.now ≡ true }
 {
+    let [_, later @ ..] = words else {
+        return true;
+    };
     let mut seen: u64 = 0;
-    let mut i = 0;
-    while i + 1 < words.len() {
-        let x = words[i];
-        let y = words[i + 1];
-        let low = if rising { x } else { y };
-        let high = if rising { y } else { x };
-        seen = seen | low | std::num::wrapping_sub_u64(high, low);
-        i += 1;
+    for (x, y) in words.iter().zip(later) {
+        let (low, high) = if rising { (*x, *y) } else { (*y, *x) };
+        seen |= low | high.wrapping_sub(low);
     }
     seen < HIGH
 }

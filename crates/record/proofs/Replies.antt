@@ -1,9 +1,9 @@
 -- What a call replies, by its judgement. Assumes nothing.
+use Rattle.std.specs.Prelude.{Err, Ok}
 use mathlib.Core.Path.{◌≡◌, refl, ◌∙◌}
 use Rattle.refusal.specs.Judging.{kept}
 use Rattle.refusal.specs.declared.Refusal.{Refusal}
-use Rattle.refusal.specs.declared.Judgement.{Judgement}
-use Rattle.refusal.specs.declared.Judgement.TheVariants.{Accepted, Refused}
+use Rattle.refusal.specs.Refusal.{Judgement}
 use Rattle.refusal.proofs.Judging.{kept_new}
 use Rattle.record.specs.declared.Party.{Party}
 use Rattle.record.specs.Record.{replied}
@@ -18,13 +18,13 @@ module _ (judgement : Judgement) (next old : Party) where
   reply_party = refl
 
   -- the record of an accepted call
-  pub next_party : judgement ≡ Accepted → (replied judgement next old).party ≡ next
+  pub next_party : judgement ≡ Ok tt → (replied judgement next old).party ≡ next
   next_party e = reply_party ∙ kept_new judgement next old e
 
-  pub next_accepted : judgement ≡ Accepted → replied judgement next old ≡ record { judgement = Accepted; party = next }
+  pub next_accepted : judgement ≡ Ok tt → replied judgement next old ≡ record { judgement = Ok tt; party = next }
   unfolding replied kept
   next_accepted e = rw e
 
-  pub next_refused : (why : Refusal) → judgement ≡ Refused why → replied judgement next old ≡ record { judgement = Refused why; party = old }
+  pub next_refused : (why : Refusal) → judgement ≡ Err why → replied judgement next old ≡ record { judgement = Err why; party = old }
   unfolding replied kept
   next_refused why e = rw e

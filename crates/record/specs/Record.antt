@@ -1,7 +1,7 @@
 -- The record of a session, and when it is sound. Assumes nothing.
 use Rattle.std.specs.Prelude.{Bool, cond, ◌&&◌, ℕ, ◌+◌, ◌^◌, leb, ltb, eqb}
 use Rattle.refusal.specs.Judging.{kept}
-use Rattle.refusal.specs.declared.Judgement.{Judgement}
+use Rattle.refusal.specs.Refusal.{Judgement}
 use Rattle.ranges.specs.Sizes.{party, listed}
 use Rattle.search.specs.declared.searches.Search.{Search}
 use Rattle.search.specs.Searches as searches

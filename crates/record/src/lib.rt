@@ -1,7 +1,7 @@
 // A party's record: all that a session is, but for the words it is lent.
 #![tactic(auto)]
 
-ghost use Rattle.std.specs.Prelude.{◌≡◌, length};
+ghost use Rattle.std.specs.Prelude.{◌≡◌, length, Err, Ok};
 ghost use Rattle.record.specs.Record.{are_totals, round_sound, sound, ended, blank};
 
 use kept_pairs::Pairs;
@@ -18,7 +18,7 @@ const SUMS: u64 = (1 << 59) + (1 << 33);
 const TOTALS: u64 = 1 << 32;
 
 // Every number is wide enough to be wrong, and the roll is any 16 words; every call judges the record
-// whole.
+// whole. So the last round is a number and no enum: `record_words::party_of` reads any 64 words.
 #[derive(Clone, Copy)]
 pub struct Party {
     pub n: u64,
@@ -43,7 +43,8 @@ pub struct Party {
     pub pairs: Pairs,
 }
 
-// How a call was judged, and the record afterwards: as it was, where the call is refused.
+// How a call was judged, and the record afterwards: as it was, where the call is refused. Both are there, where a `Result`
+// has the one or the other: `auction` follows the record through refused calls too (`Received`).
 #[derive(Clone, Copy)]
 pub struct Reply {
     pub judgement: Judgement,
@@ -167,19 +168,19 @@ pub fn blank() -> Party
 }
 
 pub fn accepted(next: Party) -> Reply
-    ensures { result ≡ record { judgement = Judgement.Accepted; party = next } }
+    ensures { result ≡ record { judgement = Ok tt; party = next } }
 {
     Reply {
-        judgement: Judgement::Accepted,
+        judgement: Ok(()),
         party: next,
     }
 }
 
 pub fn refused(why: Refusal, old: Party) -> Reply
-    ensures { result ≡ record { judgement = Judgement.Refused why; party = old } }
+    ensures { result ≡ record { judgement = Err why; party = old } }
 {
     Reply {
-        judgement: Judgement::Refused(why),
+        judgement: Err(why),
         party: old,
     }
 }

@@ -6,12 +6,10 @@
 ghost use Rattle.std.specs.Prelude.{◌≡◌};
 ghost use Rattle.record_calls.specs.Calls.{open_code, open_totals, open_record, add_code, add_totals, add_record, answer_code, answer_index, answer_probes, fill_code, fill_hours, fill_remainder};
 
-use filling::Filled;
 use ranges::on_list;
 use record_words::{is_record, is_sound, read, store, without_record};
-use refusal::{Refusal, number};
+use refusal::Refusal;
 use roll::is_bidder;
-use session::Answer;
 use ways::is_way;
 
 // Nothing is zeroed unless the record can be written too.
@@ -49,16 +47,16 @@ pub fn answer(words: &[u64], index: &mut u64, probes: &mut u64) -> u64
         × (probes.new ≡ answer_probes words.now probes.old) }
 {
     if !is_record(words) {
-        return number(Refusal::WrongLength);
+        return u64::from(Refusal::WrongLength);
     }
     let whole = is_sound(words);
     match session::answer_judged(read(words), whole) {
-        Answer::Cleared(price, made) => {
-            *index = price;
-            *probes = made;
+        Ok(given) => {
+            *index = given.price;
+            *probes = given.probes;
             0
         }
-        Answer::Refused(why) => number(why),
+        Err(why) => u64::from(why),
     }
 }
 
@@ -69,15 +67,15 @@ pub fn fill(words: &[u64], amount: u64, hours: &mut u64, remainder: &mut u64) ->
         × (remainder.new ≡ fill_remainder words.now amount remainder.old) }
 {
     if !is_record(words) {
-        return number(Refusal::WrongLength);
+        return u64::from(Refusal::WrongLength);
     }
     let whole = is_sound(words);
     match filling::fill_judged(read(words), whole, amount) {
-        Filled::Hours(got, left) => {
-            *hours = got;
-            *remainder = left;
+        Ok(filled) => {
+            *hours = filled.got;
+            *remainder = filled.remainder;
             0
         }
-        Filled::Refused(why) => number(why),
+        Err(why) => u64::from(why),
     }
 }

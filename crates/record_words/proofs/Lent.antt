@@ -1,4 +1,5 @@
 -- A lent slice is a record, or none. Assumes nothing.
+use Rattle.std.specs.Prelude.{Err, Ok}
 use mathlib.Core.Path.{◌≡◌, refl, ap, ◌∙◌}
 use mathlib.Core.Bool.{Bool, true, false, not, ◌&&◌}
 use mathlib.Core.List.{List, ◌∷◌}
@@ -8,8 +9,7 @@ use borrow.Author.Tests.{eqb-true, not-false}
 use Rattle.refusal.specs.Refusal.{code_of}
 use Rattle.refusal.specs.Judging.{Test, ◌⇒◌, judged, then}
 use Rattle.refusal.specs.declared.Refusal.TheVariants as refusal
-use Rattle.refusal.specs.declared.Judgement.{Judgement}
-use Rattle.refusal.specs.declared.Judgement.TheVariants.{Accepted, Refused}
+use Rattle.refusal.specs.Refusal.{Judgement}
 use Rattle.refusal.proofs.Judging.{refuses, passes, all_passed, kept_new, kept_old, kept_either}
 use Rattle.ranges.specs.Sizes.{long}
 use Rattle.record_words.specs.Words.{record_size, record_judgement, on_record, code_on, code_without}
@@ -18,11 +18,11 @@ module _ (words : List ℕ) where
   pub lent_long : not (long record_size words) ≡ false → length words ≡ record_size
   lent_long e = eqb-true (length words) record_size (not-false _ e)
 
-  pub record_lent : not (long record_size words) ≡ false → record_judgement words ≡ Accepted
+  pub record_lent : not (long record_size words) ≡ false → record_judgement words ≡ Ok tt
   unfolding record_judgement
   record_lent e = passes _ _ _ e ∙ all_passed
 
-  pub none_lent : not (long record_size words) ≡ true → record_judgement words ≡ Refused refusal.WrongLength
+  pub none_lent : not (long record_size words) ≡ true → record_judgement words ≡ Err refusal.WrongLength
   unfolding record_judgement
   none_lent e = refuses _ _ _ e
 

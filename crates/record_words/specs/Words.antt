@@ -4,7 +4,7 @@
 use Rattle.std.specs.Prelude.{Bool, cond, not, List, [], ◌∷◌, ◌++◌, map, ℕ, get_or}
 use Rattle.refusal.specs.Refusal.{number_of, code_of}
 use Rattle.refusal.specs.Judging.{◌⇒◌, judged, then, kept}
-use Rattle.refusal.specs.declared.Judgement.{Judgement}
+use Rattle.refusal.specs.Refusal.{Judgement}
 use Rattle.refusal.specs.declared.Refusal.TheVariants.{OutOfRange, WrongLength}
 use Rattle.ranges.specs.Lists.{from}
 use Rattle.ranges.specs.Sizes.{long}

@@ -13,7 +13,7 @@ ghost use Rattle.record_words.specs.Words.{record_size, later_words, words_of, p
 
 use kept_pairs::Pairs;
 use record::{Party, Reply, are_sound};
-use refusal::{Judgement, Refusal, number};
+use refusal::{Judgement, Refusal};
 use roll::Roll;
 use search::{Bracket, Search};
 
@@ -30,9 +30,9 @@ pub fn without_record(in_range: bool) -> u64
     ensures { result ≡ code_without in_range }
 {
     if in_range {
-        return number(Refusal::WrongLength);
+        return u64::from(Refusal::WrongLength);
     }
-    number(Refusal::OutOfRange)
+    u64::from(Refusal::OutOfRange)
 }
 
 // Who calls knows the length, so that no word is asked for: so it is small enough to be inlined.
@@ -101,7 +101,7 @@ fn read_roll(words: &[u64]) -> Roll
     ensures { result ≡ (party_of words.now).roll }
 {
     let mut marks = [0; 16];
-    copy(&words[10..26], &mut marks);
+    marks.copy_from_slice(&words[10..26]);
     Roll { words: marks }
 }
 
@@ -110,19 +110,8 @@ fn read_pairs(words: &[u64]) -> Pairs
     ensures { result ≡ (party_of words.now).pairs }
 {
     let mut shares = [0; 32];
-    copy(&words[32..64], &mut shares);
+    shares.copy_from_slice(&words[32..64]);
     Pairs { words: shares }
-}
-
-fn copy(from: &[u64], to: &mut [u64])
-    requires { length to.old ≡ length from.now }
-    ensures { to.new ≡ from.now }
-{
-    let mut i = 0;
-    while i < from.len() {
-        to[i] = from[i];
-        i += 1;
-    }
 }
 
 // The record that a call gives is written over the one it was lent, unless the call was refused.
@@ -132,15 +121,15 @@ pub fn store(reply: Reply, words: &mut [u64]) -> u64
         × (words.new ≡ on_record words.old (stored reply words.old) words.old) }
 {
     if !is_record(&words[..]) {
-        return number(Refusal::WrongLength);
+        return u64::from(Refusal::WrongLength);
     }
     let judgement = reply.judgement;
     match judgement {
-        Judgement::Accepted => {
+        Ok(()) => {
             write(reply.party, words);
             0
         }
-        Judgement::Refused(why) => number(why),
+        Err(why) => why.into(),
     }
 }
 
@@ -198,8 +187,7 @@ fn write_roll(roll: Roll, words: &mut [u64])
     requires { length words.old ≡ record_size }
     ensures { words.new ≡ take 10 words.old ++ roll.words ++ drop 26 words.old }
 {
-    let marks = roll.words;
-    copy(&marks, &mut words[10..26]);
+    words[10..26].copy_from_slice(&roll.words);
 }
 
 // What the ten numbers and the roll leave out.
@@ -219,6 +207,5 @@ fn write_pairs(pairs: Pairs, words: &mut [u64])
     requires { length words.old ≡ record_size }
     ensures { words.new ≡ take 32 words.old ++ pairs.words ++ drop 64 words.old }
 {
-    let shares = pairs.words;
-    copy(&shares, &mut words[32..64]);
+    words[32..64].copy_from_slice(&pairs.words);
 }

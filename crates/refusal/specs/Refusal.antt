@@ -1,9 +1,7 @@
 -- "The refusal list": each refusal's number, with the paper's word for it. Assumes nothing.
-use Rattle.std.specs.Prelude.{ℕ}
+use Rattle.std.specs.Prelude.{ℕ, Result, Ok, Err, ⊤}
 use Rattle.refusal.specs.declared.Refusal.{Refusal}
 use Rattle.refusal.specs.declared.Refusal.TheVariants.{OutOfRange, WrongLength, OutOfTurn, TooManyBids, CoinOutOfRange, AmountTooLarge, NotMonotone, ShareOutOfRange, OwnMessageDiffers, Inconsistent, SumOutOfRange, VerdictNotBit, Malformed, AlreadyEntered, TooFewPresent, NotCleared, PageTooShort}
-use Rattle.refusal.specs.declared.Judgement.{Judgement}
-use Rattle.refusal.specs.declared.Judgement.TheVariants.{Accepted, Refused}
 
 abbrev pub number_of : Refusal → ℕ
 -- off the list
@@ -41,7 +39,11 @@ number_of NotCleared = 16
 -- page too short
 number_of PageTooShort = 17
 
+-- a call is accepted, or refused for a reason
+abbrev pub Judgement : Type 0
+Judgement = Result ⊤ Refusal
+
 -- 0 for a call that was accepted
 abbrev pub code_of : Judgement → ℕ
-code_of Accepted = 0
-code_of (Refused r) = number_of r
+code_of (Ok tt) = 0
+code_of (Err r) = number_of r

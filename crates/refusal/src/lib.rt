@@ -5,7 +5,7 @@
 ghost use Rattle.std.specs.Prelude.{◌≡◌};
 ghost use Rattle.refusal.specs.Refusal.{number_of, code_of};
 
-#[derive(Clone, Copy)]
+#[derive(Clone, Copy, Debug, PartialEq, Eq)]
 pub enum Refusal {
     OutOfRange,
     WrongLength,
@@ -29,34 +29,32 @@ pub enum Refusal {
 }
 
 // What judging a call finds, and the reply of a call that only writes to what it is lent.
-#[derive(Clone, Copy)]
-pub enum Judgement {
-    Accepted,
-    Refused(Refusal),
-}
+pub type Judgement = Result<(), Refusal>;
 
 // The number in the paper's list.
-pub fn number(r: Refusal) -> u64
-    ensures { result ≡ number_of r }
-{
-    match r {
-        Refusal::OutOfRange => 1,
-        Refusal::WrongLength => 2,
-        Refusal::OutOfTurn => 3,
-        Refusal::TooManyBids => 4,
-        Refusal::CoinOutOfRange => 5,
-        Refusal::AmountTooLarge => 6,
-        Refusal::NotMonotone => 7,
-        Refusal::ShareOutOfRange => 8,
-        Refusal::OwnMessageDiffers => 9,
-        Refusal::Inconsistent => 10,
-        Refusal::SumOutOfRange => 11,
-        Refusal::VerdictNotBit => 12,
-        Refusal::Malformed => 13,
-        Refusal::AlreadyEntered => 14,
-        Refusal::TooFewPresent => 15,
-        Refusal::NotCleared => 16,
-        Refusal::PageTooShort => 17,
+impl From<Refusal> for u64 {
+    ghost from_gives = { λ r n. n ≡ number_of r };
+
+    fn from(r: Refusal) -> u64 {
+        match r {
+            Refusal::OutOfRange => 1,
+            Refusal::WrongLength => 2,
+            Refusal::OutOfTurn => 3,
+            Refusal::TooManyBids => 4,
+            Refusal::CoinOutOfRange => 5,
+            Refusal::AmountTooLarge => 6,
+            Refusal::NotMonotone => 7,
+            Refusal::ShareOutOfRange => 8,
+            Refusal::OwnMessageDiffers => 9,
+            Refusal::Inconsistent => 10,
+            Refusal::SumOutOfRange => 11,
+            Refusal::VerdictNotBit => 12,
+            Refusal::Malformed => 13,
+            Refusal::AlreadyEntered => 14,
+            Refusal::TooFewPresent => 15,
+            Refusal::NotCleared => 16,
+            Refusal::PageTooShort => 17,
+        }
     }
 }
 
@@ -65,7 +63,7 @@ pub fn code(j: Judgement) -> u64
     ensures { result ≡ code_of j }
 {
     match j {
-        Judgement::Accepted => 0,
-        Judgement::Refused(r) => number(r),
+        Ok(()) => 0,
+        Err(why) => why.into(),
     }
 }

@@ -10,7 +10,9 @@ use Rattle.auction.specs.Auction.{Auction, demand, supply, price_answer, probed,
 use Rattle.standing.specs.Numbered.{rehearsed, numbered}
 use Rattle.standing.proofs.Standing.{auction_of}
 use Rattle.plan.specs.declared.judging.Shape.{Shape}
-use Rattle.plan.specs.declared.judging.Judged.TheVariants.{Faulty, Good}
+use Rattle.std.proofs.Common.{Ok, Err}
+use Rattle.refusal.specs.Refusal.{number_of}
+use Rattle.sections.specs.declared.table.Fault.{Fault}
 use Rattle.lines.specs.Lines.{lines, past, price_of}
 use Rattle.lines.proofs.Again.{number_at}
 use Rattle.plan.specs.Plan.{Plan, accepted, read}
@@ -22,9 +24,10 @@ use Rattle.running.proofs.Accepted.{accepted_plan, judged_bad, judged_good}
 use Rattle.rehearsal.specs.Listing.{auction, plan_trail, plan_lines, printed, listing}
 
 -- a fault is what is printed
-pub judged_faulty : (bytes : List ℕ) (number line : ℕ) → judged_as bytes ≡ Faulty number line → listing bytes ≡ refused_line number line
+pub judged_faulty : (bytes : List ℕ) (fault : Fault) → judged_as bytes ≡ Err fault
+    → listing bytes ≡ refused_line (number_of fault.refusal) fault.line
 unfolding printed
-judged_faulty bytes number line e = ap printed (judged_bad bytes (read (lines bytes)) number line e)
+judged_faulty bytes fault e = ap printed (judged_bad bytes (read (lines bytes)) fault e)
 
 -- ---- a course that follows the auction is what is printed
 
@@ -48,13 +51,13 @@ price_read bytes p e h =
     sym (ap (λ (v : List ℕ). get_or v (m - 1) 0) (accepted_plan bytes p e).prices ∙ number_at p.k (m - 1) (past (p.n + 2) bytes) (omega (arith, w, k)))
 
 course_listing : (bytes : List ℕ) (p : Plan) → read (lines bytes) ≡ accepted p → (c : Course) → Follows (auction p) c
-    → course_lines (course_trail c.index c.verdict c.probes) c.answer (price_of c.answer (drop (shape_of bytes p).prices_at bytes))
+    → course_lines (course_trail c.trail c.probes) c.answer (price_of c.answer (drop (shape_of bytes p).prices_at bytes))
     c.demand c.supply ≡ listing bytes
 unfolding printed
 course_listing bytes p e c F =
     let m = price_answer (auction p) in
     let bs = past (p.n + 2) bytes in
-    let same : course_lines (course_trail c.index c.verdict c.probes) c.answer (price_of c.answer bs) c.demand c.supply ≡ plan_lines p =
+    let same : course_lines (course_trail c.trail c.probes) c.answer (price_of c.answer bs) c.demand c.supply ≡ plan_lines p =
     ap₂ (λ (t : List (ℕ × ℕ)) (j : ℕ). course_lines t j (price_of j bs) c.demand c.supply) F.noted F.clears
     ∙ ap₂ (λ (l t : List ℕ). probe_lines 1 (plan_trail p) ++ (l ++ (t ++ rounds_line (rounds_of (length (plan_trail p)) m))))
     (same_clears m (price_of m bs) (get_or p.prices (m - 1) 0) (price_read bytes p e))
@@ -73,13 +76,13 @@ plan_auction bytes p P e shape s h =
     subst (λ (ts : List (List ℕ)). P (rehearsed p.n p.k (numbered 1 ts))) (sym (accepted_plan bytes p e).bids)
     (subst (λ (t : Shape). P (auction_of t.n t.k t.bids (drop t.bids_at bytes))) s h)
 
-pub right_listing : (bytes : List ℕ) (shape : Shape) (c : Course) → judged_as bytes ≡ Good shape
+pub right_listing : (bytes : List ℕ) (shape : Shape) (c : Course) → judged_as bytes ≡ Ok shape
     → Follows (auction_of shape.n shape.k shape.bids (drop shape.bids_at bytes)) c
-    → course_lines (course_trail c.index c.verdict c.probes) c.answer (price_of c.answer (drop shape.prices_at bytes))
+    → course_lines (course_trail c.trail c.probes) c.answer (price_of c.answer (drop shape.prices_at bytes))
     c.demand c.supply ≡ listing bytes
 right_listing bytes shape c e F =
     let j = judged_good bytes (read (lines bytes)) shape e in
     let p = j.0 in
-    let probes = course_trail c.index c.verdict c.probes in
+    let probes = course_trail c.trail c.probes in
     ap (λ (s : Shape). course_lines probes c.answer (price_of c.answer (drop s.prices_at bytes)) c.demand c.supply) j.2
     ∙ course_listing bytes p j.1 c (plan_auction bytes p (λ a. Follows a c) j.1 shape j.2 F)

@@ -6,11 +6,11 @@ use Prim.Native.Nat.{ℕ, zero, suc, ◌+◌, ◌*◌}
 use native.Mathlib.Omega.{arith}
 use lib.Dec.{leb}
 use lib.ListN.{length}
-use Rattle.lines.specs.declared.line.Line.{Line}
-use Rattle.lines.specs.declared.line.Line.TheVariants.{Number, Misshapen}
+use Rattle.std.proofs.Common.{Option, None, Some}
+use Rattle.refusal.specs.declared.Refusal.{Refusal}
+use Rattle.refusal.specs.declared.Refusal.TheVariants.{OutOfRange, TooManyBids, Malformed}
+use Rattle.lines.specs.Lines.{Line, lines}
 use Rattle.sections.specs.declared.table.Fault.{Fault}
-use Rattle.sections.specs.declared.table.Fault.TheVariants.{None, At}
-use Rattle.lines.specs.Lines.{lines}
 use Rattle.plan.specs.Plan.{Reading, check, needed, many, prices, or_fault, bids, ending, read, read_prices, read_bids}
 use Rattle.sections.specs.Sections.{next_price, table_fault}
 use Rattle.rehearsal.specs.Listing.{printed, listing}
@@ -20,14 +20,14 @@ use Rattle.rehearsal.specs.Listing.{printed, listing}
 record Alike (r s : Reading) : Type 0 where
   print : printed r ≡ printed s
 
-check_alike : (t : Bool) (number line : ℕ) {r s : Reading} → Alike r s → Alike (check t number line r) (check t number line s)
-check_alike true number line h = h
-check_alike false number line h = record { print = refl }
+check_alike : (t : Bool) (why : Refusal) (line : ℕ) {r s : Reading} → Alike r s → Alike (check t why line r) (check t why line s)
+check_alike true why line h = h
+check_alike false why line h = record { print = refl }
 
-fault_alike : (f : Fault) {r s : Reading} → Alike r s → Alike (or_fault f r) (or_fault f s)
+fault_alike : (f : Option Fault) {r s : Reading} → Alike r s → Alike (or_fault f r) (or_fault f s)
 unfolding or_fault
 fault_alike None h = h
-fault_alike (At number line) h = record { print = refl }
+fault_alike (Some fault) h = record { print = refl }
 
 ending_alike : (at : ℕ) (ls : List Line) {r s : Reading} → Alike r s → Alike (ending at ls r) (ending at ls s)
 unfolding ending
@@ -38,8 +38,8 @@ needed_alike : (at : ℕ) (ls : List Line) {f g : ℕ → List Line → Reading}
     → Alike (needed at ls f) (needed at ls g)
 unfolding needed
 needed_alike at [] h = record { print = refl }
-needed_alike at (Misshapen ∷ ls) h = record { print = refl }
-needed_alike at (Number v ∷ ls) h = h v ls
+needed_alike at (None ∷ ls) h = record { print = refl }
+needed_alike at (Some v ∷ ls) h = h v ls
 
 many_alike : (m at : ℕ) (ls : List Line) {f g : List ℕ → List Line → Reading} → ((vs : List ℕ) (ls : List Line) → Alike (f vs ls) (g vs ls))
     → Alike (many m at ls f) (many m at ls g)
@@ -52,7 +52,7 @@ prices_alike : (k last at : ℕ) (ls : List Line) {f g : List ℕ → List Line 
 unfolding prices
 prices_alike zero last at ls h = h [] ls
 prices_alike (suc k) last at ls h =
-    needed_alike at ls (λ v ls. check_alike (next_price last v) 13 at (prices_alike k v (at + 1) ls (λ vs ls. h (v ∷ vs) ls)))
+    needed_alike at ls (λ v ls. check_alike (next_price last v) Malformed at (prices_alike k v (at + 1) ls (λ vs ls. h (v ∷ vs) ls)))
 
 bids_alike : (k m at : ℕ) (ls : List Line) {f g : List (List ℕ) → List Line → Reading}
     → ((ts : List (List ℕ)) (ls : List Line) → Alike (f ts ls) (g ts ls)) → Alike (bids k m at ls f) (bids k m at ls g)
@@ -69,7 +69,7 @@ module _ (n : ℕ) (s t : List ℕ) where
   unfolding read_bids printed
   bids_section k listed ls =
       needed_alike (n + k + 3) ls
-      (λ m ls. check_alike (leb m 1000) 4 (n + k + 3)
+      (λ m ls. check_alike (leb m 1000) TooManyBids (n + k + 3)
       (bids_alike k m (n + k + 4) ls
       (λ ts ls. ending_alike (n + k + 4 + m * (2 * k)) ls (record { print = refl }))))
 
@@ -77,12 +77,12 @@ module _ (n : ℕ) (s t : List ℕ) where
   unfolding read_prices
   prices_section ls =
       needed_alike (n + 2) ls
-      (λ k ls. check_alike (leb 1 k && leb k 256) 1 (n + 2)
+      (λ k ls. check_alike (leb 1 k && leb k 256) OutOfRange (n + 2)
       (prices_alike k 0 (n + 3) ls (λ listed ls. bids_section k listed ls)))
 
 -- ---- the seeds
 
-seeds_read : (s : List ℕ) (n at : ℕ) (ls : List Line) (go : List ℕ → List Line → Reading) → length s ≡ n → many n at (map Number s ++ ls) go ≡ go s ls
+seeds_read : (s : List ℕ) (n at : ℕ) (ls : List Line) (go : List ℕ → List Line → Reading) → length s ≡ n → many n at (map Some s ++ ls) go ≡ go s ls
 unfolding many needed
 seeds_read [] zero at ls go e = refl
 seeds_read [] (suc n) at ls go e = absurd (omega arith)
@@ -91,11 +91,11 @@ seeds_read (v ∷ s) (suc n) at ls go e = seeds_read s n (at + 1) ls (λ vs ls. 
 
 -- Two inputs with the same count of parties, each with as many seeds, and the same lines after these: they are printed alike.
 pub any_seeds : (a b : List ℕ) (n : ℕ) (s t : List ℕ) (ls : List Line) → length s ≡ n → length t ≡ n
-    → lines a ≡ Number n ∷ (map Number s ++ ls) → lines b ≡ Number n ∷ (map Number t ++ ls) → listing a ≡ listing b
+    → lines a ≡ Some n ∷ (map Some s ++ ls) → lines b ≡ Some n ∷ (map Some t ++ ls) → listing a ≡ listing b
 unfolding read needed
 any_seeds a b n s t ls l m e f =
     ap (λ (ls : List Line). printed (read ls)) e
-    ∙ ap (λ (r : Reading). printed (check (leb 3 n && leb n 9) 1 1 r)) (seeds_read s n 2 ls (λ seeds ls. read_prices n seeds ls) l)
-    ∙ (check_alike (leb 3 n && leb n 9) 1 1 (prices_section n s t ls)).print
-    ∙ ap (λ (r : Reading). printed (check (leb 3 n && leb n 9) 1 1 r)) (sym (seeds_read t n 2 ls (λ seeds ls. read_prices n seeds ls) m))
+    ∙ ap (λ (r : Reading). printed (check (leb 3 n && leb n 9) OutOfRange 1 r)) (seeds_read s n 2 ls (λ seeds ls. read_prices n seeds ls) l)
+    ∙ (check_alike (leb 3 n && leb n 9) OutOfRange 1 (prices_section n s t ls)).print
+    ∙ ap (λ (r : Reading). printed (check (leb 3 n && leb n 9) OutOfRange 1 r)) (sym (seeds_read t n 2 ls (λ seeds ls. read_prices n seeds ls) m))
     ∙ sym (ap (λ (ls : List Line). printed (read ls)) f)

@@ -1,5 +1,6 @@
 -- The listing: what the rehearsal prints for its input. Assumes nothing.
 use Rattle.std.specs.Prelude.{List, ℕ, ◌-◌, get_or}
+use Rattle.refusal.specs.Refusal.{number_of}
 use Rattle.auction.specs.Auction.{Auction, demand, supply, price_answer, probed}
 use Rattle.standing.specs.Numbered.{rehearsed, numbered}
 use Rattle.lines.specs.Lines.{lines}
@@ -22,7 +23,7 @@ plan_lines p =
     course_lines (plan_trail p) m (get_or p.prices (m - 1) 0) (demand (auction p) m) (supply (auction p) m)
 
 unfoldable pub printed : Reading → List ℕ
-printed (faulty number line) = refused_line number line
+printed (faulty why line) = refused_line (number_of why) line
 printed (accepted p) = plan_lines p
 
 -- the bytes of the listing, from the bytes of the input

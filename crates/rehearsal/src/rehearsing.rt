@@ -3,7 +3,7 @@ ghost use Rattle.listing.specs.Text.{Wrote};
 ghost use Rattle.rehearsal.specs.Listing.{listing};
 
 use listing::{ROOM, write_course, write_refused};
-use plan::{Judged, judge};
+use plan::judge;
 use running::run;
 
 // Judges the input, runs its auction, and writes the listing at the start of a buffer that is lent
@@ -11,13 +11,11 @@ use running::run;
 pub fn rehearse(input: &[u8], out: &mut [u8; ROOM]) -> usize
     ensures { Wrote out.old 0 (listing input.now) out.new result }
 {
-    let judged = judge(input);
-    match judged {
-        Judged::Faulty(number, line) => write_refused(number, line, out),
-        Judged::Good(shape) => {
+    match judge(input) {
+        Err(fault) => write_refused(u64::from(fault.refusal), fault.line, out),
+        Ok(shape) => {
             let ended = run(input, shape);
-            let course = ended.course;
-            write_course(input, shape.prices_at, course, out)
+            write_course(input, shape.prices_at, ended.course, out)
         }
     }
 }

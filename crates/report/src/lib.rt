@@ -24,14 +24,20 @@ pub fn word(text: &[u8]) {
     io::write_all(STDOUT_FILENO, text);
 }
 
+pub fn yes_or_no(holds: bool) {
+    if holds {
+        word(b"yes");
+    } else {
+        word(b"no");
+    }
+}
+
 pub fn end() {
     io::write_all(STDOUT_FILENO, b"\n");
 }
 
 pub fn numbers(words: &[u64]) {
-    let mut i = 0;
-    while i < words.len() {
-        number(words[i]);
-        i += 1;
+    for word in words {
+        number(*word);
     }
 }

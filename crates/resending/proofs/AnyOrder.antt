@@ -1,10 +1,10 @@
 -- BIDS IN ANY ORDER leave the same record and the same totals. Assumes nothing.
+use Rattle.std.specs.Prelude.{Ok}
 use mathlib.Core.Path.{◌≡◌, refl, sym, ap, ap₂, subst, ◌∙◌}
 use mathlib.Core.Bool.{true≢false}
 use mathlib.Core.List.{List, [], ◌∷◌, ◌++◌}
 use Prim.Native.Nat.{ℕ, ◌*◌}
 use lib.ListN.{length}
-use Rattle.refusal.specs.declared.Judgement.TheVariants.{Accepted}
 use Rattle.refusal.proofs.Judging.{kept_new}
 use Rattle.ranges.specs.Orders.{Shuffle}
 use Rattle.roll.specs.Marks.{marked}
@@ -24,7 +24,7 @@ use Rattle.resending.specs.AnyOrder.{BidFor, Account, with_bid, with_bids, AllAc
 abbrev entering : BidFor → Account → Account
 entering b h = (entered h.0 b.0, sums amounts h.1 b.1)
 
-enters : (b : BidFor) (h : Account) → add_judgement h.0 h.1 b.0 b.1 ≡ Accepted → with_bid b h ≡ entering b h
+enters : (b : BidFor) (h : Account) → add_judgement h.0 h.1 b.0 b.1 ≡ Ok tt → with_bid b h ≡ entering b h
 unfolding with_bid
 enters b h e = ap₂ (λ (q : Party) (totals : List ℕ). (q, totals)) (next_party _ _ _ e) (kept_new _ _ _ e)
 
@@ -92,7 +92,7 @@ swap_two h b c rest e =
     let C : Adds (entered h.0 b.0) (sums amounts h.1 b.1) c.0 c.1 = adds _ _ _ _ (rw after_b at e.1.0) in
     let c_first = add_accepted _ _ _ _ (sooner h.0 h.1 b c B C) in
     let after_c = enters c h c_first in
-    let b_second : add_judgement (with_bid c h).0 (with_bid c h).1 b.0 b.1 ≡ Accepted = rw after_c (add_accepted _ _ _ _ (later h.0 h.1 b c B C)) in
+    let b_second : add_judgement (with_bid c h).0 (with_bid c h).1 b.0 b.1 ≡ Ok tt = rw after_c (add_accepted _ _ _ _ (later h.0 h.1 b c B C)) in
     let same : with_bid b (with_bid c h) ≡ with_bid c (with_bid b h) =
     enters b (with_bid c h) b_second ∙ ap (entering b) after_c
     ∙ same_account h.0 h.1 b c B C

@@ -1,4 +1,5 @@
 -- A BID THAT IS SENT AGAIN never counts twice: its bidder stays marked, whatever is called since. Assumes nothing.
+use Rattle.std.specs.Prelude.{Err, Ok}
 use mathlib.Core.Path.{◌≡◌, refl, sym, ap, subst, ◌∙◌}
 use mathlib.Core.Bool.{Bool, true, false, true≢false, not, ◌&&◌, cond}
 use mathlib.Core.List.{List, [], ◌∷◌}
@@ -10,8 +11,7 @@ use Rattle.refusal.specs.Refusal.{code_of}
 use Rattle.refusal.specs.Judging.{◌⇒◌, judged}
 use Rattle.refusal.specs.declared.Refusal.{Refusal}
 use Rattle.refusal.specs.declared.Refusal.TheVariants.{OutOfRange, WrongLength, OutOfTurn, AlreadyEntered, ShareOutOfRange}
-use Rattle.refusal.specs.declared.Judgement.{Judgement}
-use Rattle.refusal.specs.declared.Judgement.TheVariants.{Accepted, Refused}
+use Rattle.refusal.specs.Refusal.{Judgement}
 use Rattle.refusal.proofs.Judging.{kept_old, kept_either}
 use Rattle.ranges.specs.Sizes.{long}
 use Rattle.ranges.proofs.Loops.{and-true}
@@ -58,7 +58,7 @@ record StaysIn (k b : ℕ) (q : Party) : Type 0 where
   prices : q.k ≡ k
 
 -- what holds of the next record of an accepted call, and of the old one, holds of the reply's
-either : (P : Party → Type 0) (j : Judgement) (next old : Party) → (j ≡ Accepted → P next) → P old → P (replied j next old).party
+either : (P : Party → Type 0) (j : Judgement) (next old : Party) → (j ≡ Ok tt → P next) → P old → P (replied j next old).party
 unfolding replied
 either P j next old new same = kept_either j next old P new same
 
@@ -127,7 +127,7 @@ module _ (k b : ℕ) where
 -- ---- and is refused
 
 -- some test of the list applies
-refuses : (short late : Bool) → (why : Refusal) × (judged ((short ⇒ WrongLength) ∷ (late ⇒ OutOfTurn) ∷ (true ⇒ AlreadyEntered) ∷ []) ≡ Refused why)
+refuses : (short late : Bool) → (why : Refusal) × (judged ((short ⇒ WrongLength) ∷ (late ⇒ OutOfTurn) ∷ (true ⇒ AlreadyEntered) ∷ []) ≡ Err why)
 unfolding judged
 refuses true late = (WrongLength, refl)
 refuses false true = (OutOfTurn, refl)
@@ -140,7 +140,7 @@ module _ (q : Party) (b : ℕ) (whole : sound q ≡ true) (listed : is_bidder b 
 
   refused_again : Resent q.k q b
   refused_again =
-      let why : (totals shares : List ℕ) → (why : Refusal) × (add_judgement q totals b shares ≡ Refused why) =
+      let why : (totals shares : List ℕ) → (why : Refusal) × (add_judgement q totals b shares ≡ Err why) =
       λ totals shares.
       let r = refuses (not (long (2 * q.k) totals && long (2 * q.k) shares)) (begun q) in
       (r.0, judged_again totals shares ∙ r.1) in

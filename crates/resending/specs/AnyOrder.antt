@@ -1,7 +1,6 @@
 -- A bid that is sent again comes later than it would have, and not at every party. What is promised of bids that come in another
 -- order. Assumes nothing.
-use Rattle.std.specs.Prelude.{◌≡◌, List, [], ◌∷◌, ℕ}
-use Rattle.refusal.specs.declared.Judgement.TheVariants.{Accepted}
+use Rattle.std.specs.Prelude.{◌≡◌, List, [], ◌∷◌, ℕ, Ok}
 use Rattle.ranges.specs.Orders.{Shuffle}
 use Rattle.record.specs.declared.Party.{Party}
 use Rattle.session.specs.Add.{add_judgement, add_reply, add_left}
@@ -25,7 +24,7 @@ with_bids (b ∷ bs) h = with_bids bs (with_bid b h)
 -- each is accepted in its turn
 abbrev pub AllAccepted : List BidFor → Account → Type 0
 AllAccepted [] h = Unit {0}
-AllAccepted (b ∷ bs) h = (add_judgement h.0 h.1 b.0 b.1 ≡ Accepted) × AllAccepted bs (with_bid b h)
+AllAccepted (b ∷ bs) h = (add_judgement h.0 h.1 b.0 b.1 ≡ Ok tt) × AllAccepted bs (with_bid b h)
 
 -- bids that are accepted in one order are accepted in any other, and leave the same record and totals
 abbrev pub AnyOrder : Type 0

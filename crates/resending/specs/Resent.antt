@@ -1,10 +1,9 @@
 -- "Desks resend a bid when a line drops, and the fleet then counts double." What is promised of a bid that is added, and of one that is
 -- sent again. Assumes nothing.
-use Rattle.std.specs.Prelude.{◌≡◌, true, not, ◌&&◌, List, [], ◌∷◌, ℕ, ◌+◌, ◌*◌}
+use Rattle.std.specs.Prelude.{◌≡◌, true, not, ◌&&◌, List, [], ◌∷◌, ℕ, ◌+◌, ◌*◌, Ok}
 use Rattle.refusal.specs.Refusal.{code_of}
 use Rattle.refusal.specs.Judging.{◌⇒◌, judged}
-use Rattle.refusal.specs.declared.Judgement.{Judgement}
-use Rattle.refusal.specs.declared.Judgement.TheVariants.{Accepted}
+use Rattle.refusal.specs.Refusal.{Judgement}
 use Rattle.refusal.specs.declared.Refusal.TheVariants.{WrongLength, OutOfTurn, AlreadyEntered}
 use Rattle.ranges.specs.Sizes.{long}
 use Rattle.roll.specs.Marks.{is_bidder, marked}
@@ -23,7 +22,7 @@ pub record Entered (q next : Party) (bidder : ℕ) : Type 0 where
 
 abbrev pub Once : Type 0
 Once =
-    (q : Party) (totals : List ℕ) (bidder : ℕ) (shares : List ℕ) → add_judgement q totals bidder shares ≡ Accepted
+    (q : Party) (totals : List ℕ) (bidder : ℕ) (shares : List ℕ) → add_judgement q totals bidder shares ≡ Ok tt
     → Entered q (add_reply q totals bidder shares).party bidder
 
 -- ---- a bid that is sent again
@@ -63,7 +62,7 @@ left_by (filling amount ∷ calls) q = left_by calls q
 -- after any accepted bid, and any calls since
 abbrev pub NeverTwice : Type 0
 NeverTwice =
-    (q : Party) (totals : List ℕ) (bidder : ℕ) (shares : List ℕ) → add_judgement q totals bidder shares ≡ Accepted
+    (q : Party) (totals : List ℕ) (bidder : ℕ) (shares : List ℕ) → add_judgement q totals bidder shares ≡ Ok tt
     → (between : List Between) → Resent q.k (left_by between (add_reply q totals bidder shares).party) bidder
 
 -- ---- "Only the rehearsal then gives 4"

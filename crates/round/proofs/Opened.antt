@@ -1,4 +1,5 @@
 -- What the messages of a round open to. Assumes nothing.
+use Rattle.std.specs.Prelude.{None, Some}
 use mathlib.Core.Path.{◌≡◌, refl, sym, ap, ap₂, ◌∙◌}
 use mathlib.Core.Bool.{Bool, true, false, cond, ◌||◌}
 use mathlib.Core.List.{List, map}
@@ -9,8 +10,7 @@ use lib.Dec.{leb, ltb, eqb}
 use lib.ListN.{length, length-map}
 use borrow.Author.Tests.{ltb-true, leb-true, leb-false, eqb-true, eqb-false, le-leb, lt-leb, eq-eqb, ne_eqb}
 use Rattle.weights.specs.Rows.{amount_scheme, byte_scheme}
-use Rattle.openings.specs.declared.opening.Opening.{Opening}
-use Rattle.openings.specs.declared.opening.Opening.TheVariants.{Secret, Inconsistent}
+use Rattle.openings.specs.Opening.{Opening}
 use Rattle.openings.proofs.Laws.{byte_fits}
 use Rattle.presence.specs.Presence.{marked, of_present}
 use Rattle.presence.proofs.Laws.{choose_map}
@@ -20,7 +20,7 @@ use Rattle.round.specs.declared.Heard.TheVariants.{Sum, Factors, Verdict, Total}
 use Rattle.round.specs.Round.{sum_of, factors_of, verdict_of, total_of, heard, Possible}
 
 -- what is opened in the byte scheme is a byte
-pub opened_lt : (n v : ℕ) (present words : List ℕ) → opened_by byte_scheme n present words ≡ Secret v → v < 256
+pub opened_lt : (n v : ℕ) (present words : List ℕ) → opened_by byte_scheme n present words ≡ Some v → v < 256
 opened_lt n v present words e = ((exactly_by byte_fits n present words v).0 e).passes.secret_lt
 
 -- ---- by round
@@ -55,18 +55,18 @@ module _ (n round : ℕ) (present messages : List ℕ) where
 
 -- and of messages that open
 module _ (n : ℕ) (present messages : List ℕ) where
-  pub sum_heard : (v : ℕ) → opened_by amount_scheme n present messages ≡ Secret v → heard n 1 present messages ≡ Sum v
+  pub sum_heard : (v : ℕ) → opened_by amount_scheme n present messages ≡ Some v → heard n 1 present messages ≡ Sum v
   sum_heard v e = heard_sum n 1 present messages refl ∙ ap sum_of e
 
   pub factors_heard : (round d e : ℕ) → 2 ≤ round → round ≤ 32
-      → opened_by byte_scheme n present (map (λ w. w % 256) messages) ≡ Secret d → opened_by byte_scheme n present (map (λ w. w / 256) messages) ≡ Secret e
+      → opened_by byte_scheme n present (map (λ w. w % 256) messages) ≡ Some d → opened_by byte_scheme n present (map (λ w. w / 256) messages) ≡ Some e
       → heard n round present messages ≡ Factors d e
   factors_heard round d e h2 h32 low high = heard_factors n round present messages (λ f. omega arith) h32 ∙ ap₂ factors_of low high
 
-  pub verdict_heard : (v : ℕ) → opened_by byte_scheme n present messages ≡ Secret v → heard n 33 present messages ≡ Verdict v
+  pub verdict_heard : (v : ℕ) → opened_by byte_scheme n present messages ≡ Some v → heard n 33 present messages ≡ Verdict v
   verdict_heard v e = heard_verdict n 33 present messages refl ∙ ap verdict_of e
 
-  pub total_heard : (round v : ℕ) → 33 < round → opened_by amount_scheme n present messages ≡ Secret v → heard n round present messages ≡ Total v
+  pub total_heard : (round v : ℕ) → 33 < round → opened_by amount_scheme n present messages ≡ Some v → heard n round present messages ≡ Total v
   total_heard round v h e = heard_total n round present messages h ∙ ap total_of e
 
 -- what a round opens to is possible in it
@@ -74,22 +74,22 @@ pub heard_possible : (n round : ℕ) (present messages : List ℕ) → 1 ≤ rou
 heard_possible n round present messages least = split (eqb round 1) (leb round 32) (eqb round 33) refl refl refl
   where
     of_sum : (o : Opening) → round ≡ 1 → Possible round (sum_of o)
-    of_sum (Secret v) e = e
-    of_sum Inconsistent e = tt
+    of_sum (Some v) e = e
+    of_sum None e = tt
 
     of_verdict : (o : Opening) → round ≡ 33 → Possible round (verdict_of o)
-    of_verdict (Secret v) e = e
-    of_verdict Inconsistent e = tt
+    of_verdict (Some v) e = e
+    of_verdict None e = tt
 
     of_total : (o : Opening) → 33 < round → Possible round (total_of o)
-    of_total (Secret v) h = h
-    of_total Inconsistent h = tt
+    of_total (Some v) h = h
+    of_total None h = tt
 
-    of_factors : (low high : Opening) → 2 ≤ round → round ≤ 32 → ((d : ℕ) → low ≡ Secret d → d < 256) → ((e : ℕ) → high ≡ Secret e → e < 256)
+    of_factors : (low high : Opening) → 2 ≤ round → round ≤ 32 → ((d : ℕ) → low ≡ Some d → d < 256) → ((e : ℕ) → high ≡ Some e → e < 256)
         → Possible round (factors_of low high)
-    of_factors (Secret d) (Secret e) h2 h32 hd he = (h2, h32, hd d refl, he e refl)
-    of_factors (Secret d) Inconsistent h2 h32 hd he = tt
-    of_factors Inconsistent high h2 h32 hd he = tt
+    of_factors (Some d) (Some e) h2 h32 hd he = (h2, h32, hd d refl, he e refl)
+    of_factors (Some d) None h2 h32 hd he = tt
+    of_factors None high h2 h32 hd he = tt
 
     split : (first product last : Bool) → eqb round 1 ≡ first → leb round 32 ≡ product → eqb round 33 ≡ last → Possible round (heard n round present messages)
     split true product last f p l =

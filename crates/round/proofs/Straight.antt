@@ -1,4 +1,5 @@
 -- A round of t + 1 words in range opens. Assumes nothing.
+use Rattle.std.specs.Prelude.{Some}
 use mathlib.Core.Path.{◌≡◌, refl, sym, ap, ap₂, subst, ◌∙◌}
 use mathlib.Core.Bool.{Bool, true, false}
 use mathlib.Core.List.{map}
@@ -12,7 +13,6 @@ use Rattle.fields.specs.Amount.{p}
 use Rattle.ranges.specs.Below.{AllBelow}
 use Rattle.ranges.proofs.Ranges.{below_map}
 use Rattle.weights.specs.Rows.{byte_scheme}
-use Rattle.openings.specs.declared.opening.Opening.TheVariants.{Secret}
 use Rattle.openings.proofs.Laws.{amount_fits, byte_fits}
 use Rattle.presence.specs.Presence.{marked, of_present}
 use Rattle.presence.proofs.Laws.{choose_map}
@@ -26,7 +26,7 @@ pub straight : Straight
 straight n round present messages h3 h9 lp lm many range = split (eqb round 1) (leb round 32) (eqb round 33) refl refl refl
   where
     part : (f : ℕ → ℕ) → ((w : ℕ) → w < 65536 → f w < 256) → AllBelow 65536 (of_present present messages)
-        → (s : ℕ) × (opened_by byte_scheme n present (map f messages) ≡ Secret s)
+        → (s : ℕ) × (opened_by byte_scheme n present (map f messages) ≡ Some s)
     part f h b =
         always_by byte_fits n present (map f messages) h3 h9 lp (length-map messages f ∙ lm) many
         (subst (AllBelow 256) (sym (choose_map f (marked present) messages)) (below_map 65536 256 f h (of_present present messages) b))

@@ -1,30 +1,29 @@
 -- What the messages of a round open to, and which of that is refused. Assumes nothing.
-use Rattle.std.specs.Prelude.{◌≡◌, Bool, true, false, cond, not, ◌&&◌, List, map, ℕ, ◌+◌, ◌-◌, ◌/◌, ◌%◌, ◌^◌, ◌≤◌, ◌<◌, leb, ltb, eqb}
+use Rattle.std.specs.Prelude.{◌≡◌, Bool, true, false, cond, not, ◌&&◌, List, map, ℕ, ◌+◌, ◌-◌, ◌/◌, ◌%◌, ◌^◌, ◌≤◌, ◌<◌, leb, ltb, eqb, None, Some}
 use Rattle.weights.specs.Rows.{amount_scheme, byte_scheme}
-use Rattle.openings.specs.declared.opening.Opening.{Opening}
-use Rattle.openings.specs.declared.opening.Opening.TheVariants.{Secret, Inconsistent}
+use Rattle.openings.specs.Opening.{Opening}
 use Rattle.present_openings.specs.Present.{opened_by}
 use Rattle.round.specs.declared.Heard.{Heard}
 use Rattle.round.specs.declared.Heard.TheVariants.{Sum, Factors, Verdict, Total, Unopened}
 
 abbrev pub sum_of : Opening → Heard
-sum_of (Secret v) = Sum v
-sum_of Inconsistent = Unopened
+sum_of (Some v) = Sum v
+sum_of None = Unopened
 
 -- "through the low bytes, and through the high bytes"
 abbrev pub factors_of : (low high : Opening) → Heard
-factors_of (Secret d) (Secret e) = Factors d e
-factors_of (Secret d) Inconsistent = Unopened
-factors_of Inconsistent high = Unopened
+factors_of (Some d) (Some e) = Factors d e
+factors_of (Some d) None = Unopened
+factors_of None high = Unopened
 
 abbrev pub verdict_of : Opening → Heard
-verdict_of (Secret v) = Verdict v
-verdict_of Inconsistent = Unopened
+verdict_of (Some v) = Verdict v
+verdict_of None = Unopened
 
 -- "Words are the book's at m, judged as in round 1"
 abbrev pub total_of : Opening → Heard
-total_of (Secret v) = Total v
-total_of Inconsistent = Unopened
+total_of (Some v) = Total v
+total_of None = Unopened
 
 -- Of those who were present. A word of rounds 2 to 32 is at most 65,535 exactly when its high part is a byte.
 unfoldable pub heard : (n round : ℕ) (present messages : List ℕ) → Heard

@@ -5,7 +5,8 @@ mod messages;
 
 pub use messages::{open_round, sum_outside, unopened, verdict_outside};
 
-// What the messages of a round open to.
+// What the messages of a round open to. One enum, and no Option of what opens: `heard` and `Possible`, and the theorems over them, name
+// Unopened.
 #[derive(Clone, Copy)]
 pub enum Heard {
     // round 1: T

@@ -15,7 +15,8 @@ const LEAST: u64 = (1 << 58) + 2;
 
 const GREATEST: u64 = (1 << 59) + (1 << 33) - 1;
 
-// Of those who were present, or of all n where it is known that all were.
+// Of those who were present, or of all n where it is known that all were. n, `all` and `present` are no struct: they meet only here, from
+// the record, the hearing and its caller, and go on one by one, so it would be made only to be taken apart.
 pub fn open_round(n: u64, round: u64, all: bool, present: &[u8], messages: &[u64]) -> Heard
     ensures { result ≡ heard n round (all_or «all» n present.now) messages.now }
 {
@@ -34,13 +35,9 @@ fn amount_of(round: u64, opening: Opening) -> Heard
     ensures { result ≡ cond (eqb round 1) (sum_of opening) (total_of opening) }
 {
     match opening {
-        Opening::Secret(v) => {
-            if round == 1 {
-                return Heard::Sum(v);
-            }
-            Heard::Total(v)
-        }
-        Opening::Inconsistent => Heard::Unopened,
+        Some(v) if round == 1 => Heard::Sum(v),
+        Some(v) => Heard::Total(v),
+        None => Heard::Unopened,
     }
 }
 
@@ -50,21 +47,16 @@ fn factors(n: u64, all: bool, present: &[u8], messages: &[u64]) -> Heard
         (opened_by byte_scheme n (all_or «all» n present.now) (map (λ w. w / 256) messages.now)) }
 {
     let pair = open_present_pair(n, all, present, messages);
-    let low = pair.low;
-    let high = pair.high;
-    factors_of(low, high)
+    factors_of(pair.low, pair.high)
 }
 
 // D and E, where both parts open.
 fn factors_of(low: Opening, high: Opening) -> Heard
     ensures { result ≡ factors_of low high }
 {
-    match low {
-        Opening::Secret(d) => match high {
-            Opening::Secret(e) => Heard::Factors(d, e),
-            Opening::Inconsistent => Heard::Unopened,
-        },
-        Opening::Inconsistent => Heard::Unopened,
+    match (low, high) {
+        (Some(d), Some(e)) => Heard::Factors(d, e),
+        _ => Heard::Unopened,
     }
 }
 
@@ -73,21 +65,15 @@ fn verdict_of(opening: Opening) -> Heard
     ensures { result ≡ verdict_of opening }
 {
     match opening {
-        Opening::Secret(v) => Heard::Verdict(v),
-        Opening::Inconsistent => Heard::Unopened,
+        Some(v) => Heard::Verdict(v),
+        None => Heard::Unopened,
     }
 }
 
 pub fn unopened(heard: Heard) -> bool
     ensures { result ≡ unopened heard }
 {
-    match heard {
-        Heard::Sum(_) => false,
-        Heard::Factors(_, _) => false,
-        Heard::Verdict(_) => false,
-        Heard::Total(_) => false,
-        Heard::Unopened => true,
-    }
+    matches!(heard, Heard::Unopened)
 }
 
 pub fn sum_outside(heard: Heard) -> bool
@@ -95,10 +81,7 @@ pub fn sum_outside(heard: Heard) -> bool
 {
     match heard {
         Heard::Sum(v) => !((LEAST <= v) & (v <= GREATEST)),
-        Heard::Factors(_, _) => false,
-        Heard::Verdict(_) => false,
-        Heard::Total(_) => false,
-        Heard::Unopened => false,
+        _ => false,
     }
 }
 
@@ -106,10 +89,7 @@ pub fn verdict_outside(heard: Heard) -> bool
     ensures { result ≡ verdict_outside heard }
 {
     match heard {
-        Heard::Sum(_) => false,
-        Heard::Factors(_, _) => false,
         Heard::Verdict(v) => 1 < v,
-        Heard::Total(_) => false,
-        Heard::Unopened => false,
+        _ => false,
     }
 }

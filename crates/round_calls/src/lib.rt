@@ -7,7 +7,7 @@ ghost use Rattle.round_calls.specs.Calls.{say_code, say_messages, hear_code, hea
 
 use presence::count_marks;
 use record_words::{is_record, is_sound, read, without_record};
-use refusal::{Refusal, code, number};
+use refusal::{Refusal, code};
 
 // The words of the round. The record is only read.
 pub fn say(words: &[u64], totals: &[u64], sheets: &[u64], messages: &mut [u64]) -> u64
@@ -15,7 +15,7 @@ pub fn say(words: &[u64], totals: &[u64], sheets: &[u64], messages: &mut [u64]) 
         × (messages.new ≡ say_messages words.now totals.now sheets.now messages.old) }
 {
     if !is_record(words) {
-        return number(Refusal::WrongLength);
+        return u64::from(Refusal::WrongLength);
     }
     let whole = is_sound(words);
     code(saying::say_judged(read(words), whole, totals, sheets, messages))
@@ -33,8 +33,7 @@ pub fn hear(
         × (words.new ≡ hear_record words.old totals.now sheets.now messages.now present.now) }
 {
     if !is_record(&words[..]) {
-        let tally = count_marks(present);
-        return without_record(tally.marks);
+        return without_record(count_marks(present).is_some());
     }
     code(hearing::hear_words(words, totals, sheets, messages, present))
 }

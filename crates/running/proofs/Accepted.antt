@@ -20,10 +20,10 @@ use Rattle.ranges.specs.Sizes.{highest_price}
 use Rattle.ranges.proofs.Distinct.{distinct_from}
 use Rattle.standing.specs.Numbered.{numbered}
 use Rattle.standing.proofs.Holding.{length_numbered, numbered_bidders}
+use Rattle.std.proofs.Common.{Option, None, Some, Result, Ok, Err}
+use Rattle.refusal.specs.declared.Refusal.{Refusal}
 use Rattle.sections.specs.declared.table.Fault.{Fault}
-use Rattle.sections.specs.declared.table.Fault.TheVariants.{None, At}
 use Rattle.plan.specs.declared.judging.Shape.{Shape}
-use Rattle.plan.specs.declared.judging.Judged.TheVariants.{Faulty, Good}
 use Rattle.lines.specs.Lines.{lines, rest, numbers, formed, past}
 use Rattle.plan.specs.Plan.{Plan, Reading, faulty, accepted, read, read_prices, read_bids}
 use Rattle.plan.specs.Judged.{shape_of, as_judged, judged_as, seeds_of, prices_of}
@@ -34,13 +34,13 @@ use Rattle.lines.proofs.Again.{past_one, after_add, formed_most, length_numbers}
 use Rattle.plan.proofs.Sections.{line_of}
 use Rattle.sections.proofs.Counts.{good_most, good_range}
 use Rattle.lines.proofs.Reading.{either}
-use Rattle.sections.proofs.Bids.{apart, torn, whole, length_tables}
+use Rattle.sections.proofs.Bids.{torn, whole, length_tables}
 use Rattle.sections.proofs.Tables.{faultless}
 use Rattle.plan.proofs.Answers.{rest_after, n_misshapen, n_range, seeds_torn, seeds_all, k_misshapen, k_range, price_bad, prices_good, m_misshapen, m_range, bids_bad, one_too_many, all_read}
 
 -- ---- reading that ends well did so section by section
 
-refuses : {r : Reading} {number line : ℕ} {p : Plan} → r ≡ faulty number line → r ≡ accepted p → ⊥
+refuses : {r : Reading} {why : Refusal} {line : ℕ} {p : Plan} → r ≡ faulty why line → r ≡ accepted p → ⊥
 refuses e f = let z : ◌≡◌ {A = ℕ} 0 1 = cc in omega arith
 
 same_or_less : (a b : ℕ) → a ≤ b → (a ≡ b) ⊎ (a < b)
@@ -102,9 +102,9 @@ record M (n : ℕ) (seeds : List ℕ) (k : ℕ) (listed bytes : List ℕ) (p : P
   sound_bids : bids_fault k m (n + k + 4) (rest bytes) ≡ None
   plan : p ≡ record { n = n; seeds = seeds; k = k; prices = listed; bids = tables k m (rest bytes) }
 
-fault_of : (f : Fault) → (f ≡ None) ⊎ ((number : ℕ) × (line : ℕ) × (f ≡ At number line))
+fault_of : (f : Option Fault) → (f ≡ None) ⊎ ((fault : Fault) × (f ≡ Some fault))
 fault_of None = inl refl
-fault_of (At number line) = inr (number, line, refl)
+fault_of (Some fault) = inr (fault, refl)
 
 same_plan : {p q : Plan} → accepted p ≡ accepted q → q ≡ p
 same_plan e = cc
@@ -126,7 +126,7 @@ m_read n seeds k listed bytes p e =
     })
     (λ z. absurd (refuses (one_too_many n seeds k listed bytes m w.1 few f z) e))
     (same_or_less 0 (length (past (m * (2 * k)) (rest bytes))) (omega arith)))
-    (λ f. absurd (refuses (bids_bad n seeds k listed bytes m w.1 few f.0 f.1 f.2) e))
+    (λ f. absurd (refuses (bids_bad n seeds k listed bytes m w.1 few f.0 f.1) e))
     (fault_of (bids_fault k m (n + k + 4) (rest bytes))))
     (λ t. absurd (refuses (m_range n seeds k listed bytes m w.1 (leb-false m 1000 t)) e))
     (either (leb m 1000)))
@@ -135,17 +135,20 @@ m_read n seeds k listed bytes p e =
 
 -- ---- tables without a fault are good
 
-both_none : (f g : Fault) → or_else f g ≡ None → (f ≡ None) × (g ≡ None)
+both_none : (f g : Option Fault) → or_else f g ≡ None → (f ≡ None) × (g ≡ None)
 unfolding or_else
 both_none None g e = (refl, e)
-both_none (At number line) g e = absurd (let z : ◌≡◌ {A = ℕ} 0 1 = cc in omega arith)
+both_none (Some fault) g e = absurd (let z : ◌≡◌ {A = ℕ} 0 1 = cc in omega arith)
+
+faulted : {f : Fault} → ◌≡◌ {A = Option Fault} (Some f) None → ⊥
+faulted e = let z : ◌≡◌ {A = ℕ} 0 1 = cc in omega arith
 
 good_table : (k line : ℕ) (bytes : List ℕ) → bid_fault k line bytes ≡ None → GoodTable k (numbers (2 * k) bytes)
 good_table k line bytes e =
     ⊎_elim
     (λ h. let f = faultless k line (numbers (2 * k) bytes) (sym (whole k line bytes h) ∙ e) in
     record { long = length_numbers (2 * k) bytes; small = f.0; monotone = f.1 })
-    (λ h. absurd (let z : ◌≡◌ {A = ℕ} 0 1 = apart (torn k line bytes h) e in omega arith))
+    (λ h. absurd (faulted (sym (torn k line bytes h) ∙ e)))
     (same_or_less (formed (2 * k) bytes) (2 * k) (formed_most (2 * k) bytes))
 
 -- and the bids have bidders of their own
@@ -215,22 +218,22 @@ accepted_plan bytes p e =
 -- ---- what `judge` found
 
 -- a fault is the reading's
-pub judged_bad : (bytes : List ℕ) (r : Reading) (number line : ℕ) → as_judged bytes r ≡ Faulty number line → r ≡ faulty number line
+pub judged_bad : (bytes : List ℕ) (r : Reading) (fault : Fault) → as_judged bytes r ≡ Err fault → r ≡ faulty fault.refusal fault.line
 unfolding as_judged
-judged_bad bytes (faulty a b) number line e = ap₂ faulty (same e).0 (same e).1
+judged_bad bytes (faulty why line) fault e = ap₂ faulty (ap (λ (f : Fault). f.refusal) (same e)) (ap (λ (f : Fault). f.line) (same e))
   where
-    same : {a b c d : ℕ} → Faulty a b ≡ Faulty c d → (a ≡ c) × (b ≡ d)
-    same e = (cc, cc)
-judged_bad bytes (accepted p) number line e = absurd (let z : ◌≡◌ {A = ℕ} 0 1 = cc in omega arith)
+    same : {a b : Fault} → ◌≡◌ {A = Result Shape Fault} (Err a) (Err b) → a ≡ b
+    same e = cc
+judged_bad bytes (accepted p) fault e = absurd (let z : ◌≡◌ {A = ℕ} 0 1 = cc in omega arith)
 
 -- a good answer is the shape of an accepted plan
-pub judged_good : (bytes : List ℕ) (r : Reading) (shape : Shape) → as_judged bytes r ≡ Good shape
+pub judged_good : (bytes : List ℕ) (r : Reading) (shape : Shape) → as_judged bytes r ≡ Ok shape
     → (p : Plan) × (r ≡ accepted p) × (shape ≡ shape_of bytes p)
 unfolding as_judged
-judged_good bytes (faulty number line) shape e = absurd (let z : ◌≡◌ {A = ℕ} 0 1 = cc in omega arith)
+judged_good bytes (faulty why line) shape e = absurd (let z : ◌≡◌ {A = ℕ} 0 1 = cc in omega arith)
 judged_good bytes (accepted p) shape e = (p, refl, good e)
   where
-    good : {s t : Shape} → Good s ≡ Good t → t ≡ s
+    good : {s t : Shape} → ◌≡◌ {A = Result Shape Fault} (Ok s) (Ok t) → t ≡ s
     good e = cc
 
 -- what `run` may rely on
@@ -241,7 +244,7 @@ pub record Runs (bytes : List ℕ) (shape : Shape) : Type 0 where
   pub held : shape.n * (2 * shape.k) ≤ 4608
   pub lent : shape.n * (127 * most_probes shape.k) ≤ 20574
 
-pub good_runs : (bytes : List ℕ) (shape : Shape) → judged_as bytes ≡ Good shape → Runs bytes shape
+pub good_runs : (bytes : List ℕ) (shape : Shape) → judged_as bytes ≡ Ok shape → Runs bytes shape
 good_runs bytes shape e =
     let j = judged_good bytes (read (lines bytes)) shape e in
     let p = j.0 in

@@ -1,11 +1,10 @@
 // The auction of an accepted input, by the calls alone.
 #![tactic(auto)]
 
-ghost use Rattle.std.specs.Prelude.{◌≡◌, ◌*◌, ◌≤◌, length, drop};
+ghost use Rattle.std.specs.Prelude.{◌≡◌, ◌*◌, ◌≤◌, length, drop, Ok};
 ghost use Rattle.search.specs.Limit.{most_probes};
 ghost use Rattle.auction.specs.Auction.{IsAuction};
 ghost use Rattle.auction.specs.Demands.{FleetTold};
-ghost use Rattle.plan.specs.declared.judging.Judged.TheVariants.{Good};
 ghost use Rattle.plan.specs.Judged.{judged_as};
 ghost use Rattle.standing.proofs.Standing.{auction_of};
 ghost use Rattle.listing.specs.Lines.{most_listed};
@@ -51,7 +50,7 @@ fn no_sheets() -> [u64; 20574] {
 
 // The auction of an input that `judge` found good.
 pub fn run(input: &[u8], shape: Shape) -> Ended
-    requires { judged_as input.now ≡ Good shape }
+    requires { judged_as input.now ≡ Ok shape }
     ensures { (result.course.probes ≤ most_listed)
         × Follows (auction_of shape.n shape.k shape.bids (drop shape.bids_at input.now)) result.course
         × FleetTold (auction_of shape.n shape.k shape.bids (drop shape.bids_at input.now)) result.party }

@@ -1,4 +1,5 @@
 -- Saying, by its judgement, and the judgement in facts: a party says its word exactly where they hold. Assumes nothing.
+use Rattle.std.specs.Prelude.{Err, Ok}
 use mathlib.Core.Path.{◌≡◌, refl, sym, ap, ◌∙◌}
 use mathlib.Core.Bool.{Bool, true, false, not, ◌&&◌, and-true as and-true-is}
 use mathlib.Core.List.{List, [], ◌∷◌}
@@ -7,8 +8,7 @@ use lib.ListN.{length}
 use borrow.Author.Tests.{eqb-true, not-false, eq-eqb}
 use Rattle.refusal.specs.Judging.{judged, then}
 use Rattle.refusal.specs.declared.Refusal.{Refusal}
-use Rattle.refusal.specs.declared.Judgement.{Judgement}
-use Rattle.refusal.specs.declared.Judgement.TheVariants.{Accepted, Refused}
+use Rattle.refusal.specs.Refusal.{Judgement}
 use Rattle.ranges.specs.Sizes.{long}
 use Rattle.record.specs.declared.Party.{Party}
 use Rattle.record.specs.Record.{sound, ended}
@@ -28,7 +28,7 @@ pub record InTurn (q : Party) (totals sheets : List ℕ) : Type 0 where
   pub going : ended q ≡ false
 
 module _ (q : Party) (totals sheets : List ℕ) (else_sound else_long : Bool) where
-  pub turns : turn_judgement q (sound q && else_sound) totals sheets else_long ≡ Accepted → InTurn q totals sheets × (else_sound ≡ true) × (else_long ≡ true)
+  pub turns : turn_judgement q (sound q && else_sound) totals sheets else_long ≡ Ok tt → InTurn q totals sheets × (else_sound ≡ true) × (else_long ≡ true)
   unfolding turn_judgement
   turns e =
       let whole = passed _ _ _ e in
@@ -48,7 +48,7 @@ module _ (q : Party) (totals sheets : List ℕ) (else_sound else_long : Bool) wh
       )
 
   pub turn_accepted : InTurn q totals sheets → else_sound ≡ true → else_long ≡ true
-      → turn_judgement q (sound q && else_sound) totals sheets else_long ≡ Accepted
+      → turn_judgement q (sound q && else_sound) totals sheets else_long ≡ Ok tt
   unfolding turn_judgement judged
   turn_accepted h s l =
       rw (
@@ -78,16 +78,16 @@ module _ (q : Party) (totals sheets said : List ℕ) where
   alone : turn_judgement q (sound q && true) totals sheets said_fits ≡ turn_judgement q (sound q) totals sheets said_fits
   alone = ap (λ (b : Bool). turn_judgement q b totals sheets said_fits) (and-true-is (sound q))
 
-  pub says_turn : turn_judgement q (sound q) totals sheets said_fits ≡ Accepted → InTurn q totals sheets × (length said ≡ width (way_of q.last) q.round)
+  pub says_turn : turn_judgement q (sound q) totals sheets said_fits ≡ Ok tt → InTurn q totals sheets × (length said ≡ width (way_of q.last) q.round)
   says_turn e = let t = turns q totals sheets true said_fits (alone ∙ e) in (t.0, eqb-true _ _ t.2)
 
-  pub no_turn : (why : Refusal) → turn_judgement q (sound q) totals sheets said_fits ≡ Refused why → say_judgement q totals sheets said ≡ Refused why
+  pub no_turn : (why : Refusal) → turn_judgement q (sound q) totals sheets said_fits ≡ Err why → say_judgement q totals sheets said ≡ Err why
   no_turn why e = as_turn ∙ ap (λ (j : Judgement). then j (words_judgement q totals (current q sheets))) e
 
-  pub by_words : turn_judgement q (sound q) totals sheets said_fits ≡ Accepted → say_judgement q totals sheets said ≡ words_judgement q totals (current q sheets)
+  pub by_words : turn_judgement q (sound q) totals sheets said_fits ≡ Ok tt → say_judgement q totals sheets said ≡ words_judgement q totals (current q sheets)
   by_words e = as_turn ∙ ap (λ (j : Judgement). then j (words_judgement q totals (current q sheets))) e
 
-  pub says : say_judgement q totals sheets said ≡ Accepted → Says q totals sheets said
+  pub says : say_judgement q totals sheets said ≡ Ok tt → Says q totals sheets said
   unfolding words_judgement
   says e =
       let both = then_accepted _ (words_judgement q totals (current q sheets)) (sym as_turn ∙ e) in
@@ -97,7 +97,7 @@ module _ (q : Party) (totals sheets said : List ℕ) where
         in_field = in_field_facts q true totals (current q sheets) (not-false _ (passed _ _ _ both.1).0);
       }
 
-  pub say_accepted : Says q totals sheets said → say_judgement q totals sheets said ≡ Accepted
+  pub say_accepted : Says q totals sheets said → say_judgement q totals sheets said ≡ Ok tt
   unfolding words_judgement
   say_accepted h =
       by_words (sym alone ∙ turn_accepted q totals sheets true said_fits h.turn refl (eq-eqb _ _ h.said_long))

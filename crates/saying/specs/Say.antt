@@ -1,7 +1,7 @@
 -- Saying: "Saying changes nothing." Assumes nothing.
 use Rattle.std.specs.Prelude.{Bool, true, not, ◌&&◌, List, [], ◌∷◌, ℕ, ◌*◌, take, drop}
 use Rattle.refusal.specs.Judging.{◌⇒◌, judged, kept}
-use Rattle.refusal.specs.declared.Judgement.{Judgement}
+use Rattle.refusal.specs.Refusal.{Judgement}
 use Rattle.refusal.specs.declared.Refusal.TheVariants.{OutOfRange, WrongLength, OutOfTurn, ShareOutOfRange}
 use Rattle.ranges.specs.Sizes.{long}
 use Rattle.ways.specs.Way.{way_of, sheet_size, width}

@@ -11,8 +11,8 @@ ghost use Rattle.saying.specs.Say.{sheets_long, say_judgement, say_left, turn_ju
 
 mod sheet;
 
-use level::write_words;
-use message::{are_shares, demand_share, in_level, single, supply_share};
+use level::Level;
+use message::{are_shares, in_level, single, totals_at};
 use record::{Party, ended, sound};
 use refusal::{Judgement, Refusal};
 use search::most_probes;
@@ -27,7 +27,8 @@ pub fn say(q: Party, totals: &[u64], sheets: &[u64], said: &mut [u64]) -> Judgem
     say_judged(q, sound(q), totals, sheets, said)
 }
 
-// The same where the record has been judged, as words where they stand: so it is not copied for that.
+// The same where the record has been judged, as words where they stand: so it is not copied for that. The two stay apart: a struct of
+// them would be made for this one call, and taken apart in it.
 pub fn say_judged(
     q: Party,
     whole: bool,
@@ -40,10 +41,7 @@ pub fn say_judged(
         × (said.new ≡ say_left q totals.now sheets.now said.old) }
 {
     let long = said.len() == width(q.last, q.round);
-    match turn(q, whole, totals, sheets, long) {
-        Judgement::Accepted => {}
-        Judgement::Refused(why) => return Judgement::Refused(why),
-    }
+    turn(q, whole, totals, sheets, long)?;
     say_with(q, totals, current(q, sheets), said)
 }
 
@@ -54,19 +52,23 @@ pub fn say_with(q: Party, totals: &[u64], sheet: &[u64], said: &mut [u64]) -> Ju
     ensures { (result ≡ words_judgement q totals.now sheet.now)
         × (said.new ≡ kept (words_judgement q totals.now sheet.now) (message q totals.now sheet.now) said.old) }
 {
-    let demand = demand_share(q, totals);
-    let supply = supply_share(q, totals);
-    if !are_shares(q.round, q.last, true, demand, supply, sheet) {
-        return Judgement::Refused(Refusal::ShareOutOfRange);
+    if !are_shares(q.round, q.last, true, totals_at(q, totals), sheet) {
+        return Err(Refusal::ShareOutOfRange);
     }
     if in_level(q) {
         let pairs = q.pairs;
         let kept = pairs.words;
-        write_words(q.round, q.sum, &kept, sheet, said);
-        return Judgement::Accepted;
+        let level = Level {
+            round: q.round,
+            sum: q.sum,
+            kept: &kept,
+            sheet,
+        };
+        level.write_words(said);
+        return Ok(());
     }
     said[0] = single(q, totals, sheet);
-    Judgement::Accepted
+    Ok(())
 }
 
 // Whether it is the party's turn. A hearing starts with the same tests. It is lent more slices, whose
@@ -76,15 +78,15 @@ pub fn turn(q: Party, whole: bool, totals: &[u64], sheets: &[u64], else_long: bo
     ensures { result ≡ turn_judgement q «whole» totals.now sheets.now else_long }
 {
     if !whole {
-        return Judgement::Refused(Refusal::OutOfRange);
+        return Err(Refusal::OutOfRange);
     }
     if !(are_long(q.k, q.last, totals, sheets) & else_long) {
-        return Judgement::Refused(Refusal::WrongLength);
+        return Err(Refusal::WrongLength);
     }
     if ended(q) {
-        return Judgement::Refused(Refusal::OutOfTurn);
+        return Err(Refusal::OutOfTurn);
     }
-    Judgement::Accepted
+    Ok(())
 }
 
 // Whether the slices are as long as k prices ask for. Twice k may be too large for a u64.

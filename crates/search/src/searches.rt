@@ -6,7 +6,7 @@ use crate::bracket::{Bracket, limit, middle, over, step};
 
 #[derive(Clone, Copy)]
 pub struct Search {
-    // which one is on, 1 or 2
+    // which one is on, 1 or 2: a number, since `record_words::party_of` reads it from any word, and `sound` judges it
     pub which: u64,
     pub bracket: Bracket,
     // probes done, of both
@@ -16,7 +16,8 @@ pub struct Search {
     pub spent: u64,
 }
 
-// Whether a verdict moves lo: in the first search a 1 does, in the second it moves hi.
+// Whether a verdict moves lo: in the first search a 1 does, in the second it moves hi. A verdict is a number, since
+// `moves_lo` of specs/Searches.antt says of any what it does.
 fn moves_lo(which: u64, verdict: u64) -> bool
     ensures { result ≡ moves_lo which verdict }
 {

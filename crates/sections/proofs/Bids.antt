@@ -1,24 +1,30 @@
 -- The first fault of bids, one after another. Assumes nothing.
+use Rattle.std.specs.Prelude.{Option, None, Some, Ok, Err}
 use mathlib.Core.Path.{◌≡◌, refl, sym, ap, ap₂, ◌∙◌}
 use mathlib.Core.List.{List}
 use Prim.Native.Nat.{ℕ, zero, suc, ◌+◌, ◌-◌, ◌*◌, ◌<◌}
 use native.Mathlib.Omega.{arith}
 use lib.ListN.{length, drop}
 use borrow.Author.Tests.{eq-eqb, ne_eqb}
+use Rattle.refusal.specs.declared.Refusal.TheVariants.{Malformed}
 use Rattle.sections.specs.declared.table.Fault.{Fault}
-use Rattle.sections.specs.declared.table.Fault.TheVariants.{None, At}
 use Rattle.lines.specs.Lines.{numbers, bytes_of, formed, past}
-use Rattle.sections.specs.Sections.{table_fault, tables, bid_fault, bids_fault, or_else}
+use Rattle.sections.specs.Sections.{at_line, table_fault, tables, bid_fault, bids_fault, or_else, unless}
 use Rattle.lines.proofs.Again.{bytes_add, here}
 
--- not both a fault and none
-pub apart : {f : Fault} {number line : ℕ} → f ≡ At number line → f ≡ None → ◌≡◌ {A = ℕ} 0 1
-apart e g = cc
+-- what `unless` was given
+pub sound : {A : Type 0} (f : Option Fault) (x y : A) → unless f x ≡ Ok y → (f ≡ None) × (x ≡ y)
+sound None x y e = (refl, cc)
+sound (Some fault) x y e = (cc, cc)
+
+pub faulty : {A : Type 0} (f : Option Fault) (x : A) (fault : Fault) → unless f x ≡ Err fault → f ≡ Some fault
+faulty None x fault e = cc
+faulty (Some other) x fault e = cc
 
 -- ---- one bid
 
 module _ (k line : ℕ) (bytes : List ℕ) where
-  pub torn : formed (2 * k) bytes < 2 * k → bid_fault k line bytes ≡ At 13 (line + formed (2 * k) bytes)
+  pub torn : formed (2 * k) bytes < 2 * k → bid_fault k line bytes ≡ Some (at_line Malformed (line + formed (2 * k) bytes))
   unfolding bid_fault
   torn h = rw (ne_eqb (formed (2 * k) bytes) (2 * k) (λ e. omega arith))
 
@@ -38,11 +44,11 @@ module _ (k m line : ℕ) (bytes : List ℕ) (left : 0 < m) where
 
   pub good_bid : bid_fault k line bytes ≡ None → bids_fault k m line bytes ≡ bids_fault k (m - 1) (line + 2 * k) (past (2 * k) bytes)
   unfolding or_else
-  good_bid e = next_bid ∙ ap (λ (f : Fault). or_else f (bids_fault k (m - 1) (line + 2 * k) (past (2 * k) bytes))) e
+  good_bid e = next_bid ∙ ap (λ (f : Option Fault). or_else f (bids_fault k (m - 1) (line + 2 * k) (past (2 * k) bytes))) e
 
-  pub bad_bid : (number at : ℕ) → bid_fault k line bytes ≡ At number at → bids_fault k m line bytes ≡ At number at
+  pub bad_bid : (fault : Fault) → bid_fault k line bytes ≡ Some fault → bids_fault k m line bytes ≡ Some fault
   unfolding or_else
-  bad_bid number at e = next_bid ∙ ap (λ (f : Fault). or_else f (bids_fault k (m - 1) (line + 2 * k) (past (2 * k) bytes))) e
+  bad_bid fault e = next_bid ∙ ap (λ (f : Option Fault). or_else f (bids_fault k (m - 1) (line + 2 * k) (past (2 * k) bytes))) e
 
 -- a place of the input that bids have led to
 module _ (input : List ℕ) (at k i next r : ℕ) (led : next ≡ at + bytes_of (i * (2 * k)) (drop at input)) (then : r ≡ next + bytes_of (2 * k) (drop next input)) where

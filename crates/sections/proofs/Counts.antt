@@ -1,8 +1,12 @@
 -- Numbers that are counted from the left until one fails. Assumes nothing.
+use Rattle.std.specs.Prelude.{Option, None, Some, unwrap_or, MatchOption}
+use Rattle.std.specs.List.{AllWithin, HoldsAt}
 use mathlib.Core.Path.{◌≡◌, refl, sym, ap, ◌∙◌}
 use mathlib.Core.Bool.{Bool, true, false, cond, ◌&&◌}
 use mathlib.Core.List.{List, [], ◌∷◌}
 use Prim.Native.Nat.{ℕ, zero, suc, ◌+◌, ◌≤◌, ◌<◌}
+use native.Mathlib.Nat.{zero-add}
+use native.Mathlib.Numerals.{add-one}
 use native.Mathlib.Omega.{arith}
 use lib.Bits.{bit_xor}
 use lib.Dec.{leb, ltb}
@@ -29,6 +33,21 @@ module _ (test : ℕ → Bool) (xs : List ℕ) (i : ℕ) where
   pub passed_ends : length xs ≤ i → i + passed test (drop i xs) ≡ i
   unfolding passed
   passed_ends h = rw (drop_of_length-le xs h) (omega arith)
+
+-- a search that stopped at the first that fails, if any does
+module _ (test : ℕ → Bool) (Yes No : ℕ → Type 0) (yes : (x : ℕ) → Yes x → test x ≡ false) (no : (x : ℕ) → No x → test x ≡ true) (xs : List ℕ) where
+  passed_by : (i : ℕ) → i ≤ length xs → ((k d : ℕ) → 0 ≤ k → k < i → No (get_or xs k d)) → passed test xs ≡ i + passed test (drop i xs)
+  passed_by zero h by = sym (zero-add _)
+  passed_by (suc i) h by =
+      passed_by i (omega arith) (λ k d a b. by k d a (omega arith)) ∙ passed_more test xs i h (no _ (by i 0 (omega arith) (omega arith)))
+      ∙ ap (λ j. j + passed test (drop j xs)) (add-one i)
+
+  pub passed_found : (r : Option ℕ)
+      → MatchOption r (AllWithin No xs 0 (length xs)) (λ i. (i < length xs) × HoldsAt Yes xs i × AllWithin No xs 0 i)
+      → unwrap_or r (length xs) ≡ passed test xs
+  passed_found None by = sym (passed_by (length xs) (omega arith) by ∙ passed_ends test xs (length xs) (omega arith))
+  passed_found (Some i) found =
+      sym (passed_by i (omega (arith, found.0)) found.2 ∙ passed_fails test xs i found.0 (yes _ (found.1 0)))
 
 module _ (last : ℕ) (xs : List ℕ) (i : ℕ) where
   pub rising_more : i < length xs → next_price last (get_or xs i 0) ≡ true

@@ -4,5 +4,5 @@
 mod reading;
 mod table;
 
-pub use reading::{BidsRead, PricesRead, SeedsRead, read_bids, read_prices, read_seeds};
+pub use reading::{PricesRead, SeedsRead, read_bids, read_prices, read_seeds};
 pub use table::Fault;

@@ -1,17 +1,11 @@
 // The sections of the input, each read into a lent slice and judged.
 ghost use Rattle.std.specs.Prelude.{◌≡◌, ◌+◌, ◌*◌, ◌≤◌, ◌<◌, length, drop};
 ghost use Rattle.lines.specs.Lines.{numbers, bytes_of, formed};
-ghost use Rattle.sections.specs.Sections.{xor_of, good_prices, bid_fault, bids_fault};
+ghost use Rattle.sections.specs.Sections.{xor_of, good_prices, bid_fault, bids_fault, unless};
 
 use crate::table::{Fault, rising, table_fault, xor_of};
 use lines::read_numbers;
-
-// What judging bids finds, and where the next line begins.
-#[derive(Clone, Copy)]
-pub struct BidsRead {
-    pub fault: Fault,
-    pub next: usize,
-}
+use refusal::Refusal;
 
 // How many seeds are numbers before the first line that is none, and their exclusive or.
 #[derive(Clone, Copy)]
@@ -28,8 +22,8 @@ pub struct PricesRead {
     pub next: usize,
 }
 
-// The first fault of a number of bids, the first amount of the first on the given line. A table is
-// lent to read each into.
+// Judges a number of bids, the first amount of the first on the given line. A table is lent to read each
+// into. The answer is where the next line begins, or the first fault.
 pub fn read_bids(
     input: &[u8],
     at: usize,
@@ -37,49 +31,28 @@ pub fn read_bids(
     bids: u64,
     line: u64,
     table: &mut [u64],
-) -> BidsRead
+) -> Result<usize, Fault>
     requires { (k ≤ 256) × (bids ≤ 1000) × (line ≤ 1000) × (length table.old ≡ 2 * k) }
-    ensures { (result.fault ≡ bids_fault k bids line (drop at input.now))
-        × (result.fault ≡ Fault.None → result.next ≡ at + bytes_of (bids * (2 * k)) (drop at input.now)) }
+    ensures { result ≡ unless (bids_fault k bids line (drop at input.now)) (at + bytes_of (bids * (2 * k)) (drop at input.now)) }
 {
     let mut next = at;
-    let mut first = line;
-    let mut i = 0;
-    while i < bids {
-        let read = read_bid(input, next, k, first, table);
-        let fault = read.fault;
-        if let Fault::At(_, _) = fault {
-            return read;
-        }
-        next = read.next;
-        first += 2 * k;
-        i += 1;
+    for i in 0..bids {
+        next = read_bid(input, next, k, line + i * (2 * k), table)?;
     }
-    BidsRead {
-        fault: Fault::None,
-        next,
-    }
+    Ok(next)
 }
 
-// The first fault of one bid. It is read whole before it is judged.
-fn read_bid(input: &[u8], at: usize, k: u64, line: u64, table: &mut [u64]) -> BidsRead
+// Judges one bid. It is read whole before it is judged.
+fn read_bid(input: &[u8], at: usize, k: u64, line: u64, table: &mut [u64]) -> Result<usize, Fault>
     requires { (k ≤ 256) × (line < 1_000_000) × (length table.old ≡ 2 * k) }
-    ensures { (result.fault ≡ bid_fault k line (drop at input.now))
-        × (result.next ≡ at + bytes_of (2 * k) (drop at input.now)) }
+    ensures { result ≡ unless (bid_fault k line (drop at input.now)) (at + bytes_of (2 * k) (drop at input.now)) }
 {
     let read = read_numbers(input, at, table);
-    let formed = read.formed;
-    let next = read.next;
-    if formed != table.len() {
-        return BidsRead {
-            fault: Fault::At(13, line + formed as u64),
-            next,
-        };
+    if read.formed != table.len() {
+        return Err(Fault::new(Refusal::Malformed, line + read.formed as u64));
     }
-    BidsRead {
-        fault: table_fault(&table[..], k as usize, line),
-        next,
-    }
+    table_fault(table, k as usize, line)?;
+    Ok(read.next)
 }
 
 // Seeds are read into a lent slice, and mixed.
@@ -91,7 +64,7 @@ pub fn read_seeds(input: &[u8], at: usize, seeds: &mut [u64]) -> SeedsRead
     let read = read_numbers(input, at, seeds);
     SeedsRead {
         formed: read.formed,
-        xor: xor_of(&seeds[..]),
+        xor: xor_of(seeds),
         next: read.next,
     }
 }
@@ -102,9 +75,8 @@ pub fn read_prices(input: &[u8], at: usize, prices: &mut [u64]) -> PricesRead
         × (result.next ≡ at + bytes_of (length prices.old) (drop at input.now)) }
 {
     let read = read_numbers(input, at, prices);
-    let formed = read.formed;
     PricesRead {
-        good: rising(&prices[..formed]),
+        good: rising(&prices[..read.formed]),
         next: read.next,
     }
 }

@@ -1,16 +1,15 @@
 -- What is answered, by the judgement. Assumes nothing.
+use Rattle.std.specs.Prelude.{Err, Ok}
 use mathlib.Core.Path.{◌≡◌, refl}
 use Rattle.refusal.specs.Refusal.{code_of}
 use Rattle.refusal.specs.declared.Refusal.{Refusal}
-use Rattle.refusal.specs.declared.Judgement.{Judgement}
-use Rattle.refusal.specs.declared.Judgement.TheVariants.{Accepted, Refused}
+use Rattle.refusal.specs.Refusal.{Judgement}
 use Rattle.search.specs.Searches.{price}
 use Rattle.record.specs.declared.Party.{Party}
-use Rattle.session.specs.declared.reply.Answer as answer_as
-use Rattle.session.specs.Answer.{answered, answer_number}
+use Rattle.session.specs.Answer.{the_answer, answered, answer_number}
 
 module _ (judgement : Judgement) (q : Party) where
-  pub answered_accepted : judgement ≡ Accepted → answered judgement q ≡ answer_as.TheVariants.Cleared (price q.search) q.search.probes
+  pub answered_accepted : judgement ≡ Ok tt → answered judgement q ≡ the_answer (price q.search) q.search.probes
   unfolding answered
   answered_accepted e = rw e
 
@@ -19,9 +18,9 @@ module _ (judgement : Judgement) (q : Party) where
   answered_code = split judgement
     where
       split : (j : Judgement) → answer_number (answered j q) ≡ code_of j
-      split Accepted = refl
-      split (Refused why) = refl
+      split (Ok tt) = refl
+      split (Err why) = refl
 
-  pub answered_refused : (why : Refusal) → judgement ≡ Refused why → answered judgement q ≡ answer_as.TheVariants.Refused why
+  pub answered_refused : (why : Refusal) → judgement ≡ Err why → answered judgement q ≡ Err why
   unfolding answered
   answered_refused why e = rw e

@@ -1,4 +1,5 @@
 -- The calls' judgements, in facts: a call is accepted exactly where they hold. Assumes nothing.
+use Rattle.std.specs.Prelude.{Ok}
 use mathlib.Core.Path.{◌≡◌, refl}
 use mathlib.Core.Bool.{Bool, true, false, ◌||◌}
 use mathlib.Core.List.{List}
@@ -9,7 +10,6 @@ use borrow.Author.Tests.{ltb-false, leb-true, eqb-true, not-false, le-ltb, le-le
 use Rattle.fields.specs.Amount.{p}
 use Rattle.ranges.specs.Below.{AllBelow}
 use Rattle.refusal.specs.Judging.{judged}
-use Rattle.refusal.specs.declared.Judgement.TheVariants.{Accepted}
 use Rattle.roll.proofs.Laws.{Free}
 use Rattle.record.specs.declared.Party.{Party}
 use Rattle.ways.specs.Way.{is_way}
@@ -28,7 +28,7 @@ pub record Opens (n own k last : ℕ) (totals : List ℕ) : Type 0 where
   pub totals_long : length totals ≡ 2 * k
 
 module _ (n own k last : ℕ) (totals : List ℕ) where
-  pub opens : open_judgement n own k last totals ≡ Accepted → Opens n own k last totals
+  pub opens : open_judgement n own k last totals ≡ Ok tt → Opens n own k last totals
   unfolding open_judgement
   opens e =
       let range = passed _ _ _ e in
@@ -36,7 +36,7 @@ module _ (n own k last : ℕ) (totals : List ℕ) where
       let who = and-true _ _ (not-false _ range.0) in
       record { listed = on_list n own k who.0; way = who.1; totals_long = eqb-true _ _ (not-false _ size.0) }
 
-  pub open_accepted : Opens n own k last totals → open_judgement n own k last totals ≡ Accepted
+  pub open_accepted : Opens n own k last totals → open_judgement n own k last totals ≡ Ok tt
   unfolding open_judgement judged
   open_accepted h = rw (on_list_of n own k h.listed, h.way, eq-eqb (length totals) (2 * k) h.totals_long)
 
@@ -58,7 +58,7 @@ or-false true b e = (e, cc)
 or-false false b e = (refl, e)
 
 module _ (q : Party) (totals : List ℕ) (bidder : ℕ) (shares : List ℕ) where
-  pub adds : add_judgement q totals bidder shares ≡ Accepted → Adds q totals bidder shares
+  pub adds : add_judgement q totals bidder shares ≡ Ok tt → Adds q totals bidder shares
   unfolding add_judgement
   adds e =
       let whole = passed _ _ _ e in
@@ -83,7 +83,7 @@ module _ (q : Party) (totals : List ℕ) (bidder : ℕ) (shares : List ℕ) wher
         shares_below = all_below p shares f.1;
       }
 
-  pub add_accepted : Adds q totals bidder shares → add_judgement q totals bidder shares ≡ Accepted
+  pub add_accepted : Adds q totals bidder shares → add_judgement q totals bidder shares ≡ Ok tt
   unfolding add_judgement judged
   add_accepted h =
       rw (

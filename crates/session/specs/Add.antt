@@ -2,7 +2,7 @@
 use Rattle.std.specs.Prelude.{Bool, not, ◌&&◌, ◌||◌, List, [], ◌∷◌, ℕ, ◌*◌, ltb}
 use Rattle.fields.specs.Amount.{p, amounts}
 use Rattle.refusal.specs.Judging.{◌⇒◌, judged, kept}
-use Rattle.refusal.specs.declared.Judgement.{Judgement}
+use Rattle.refusal.specs.Refusal.{Judgement}
 use Rattle.refusal.specs.declared.Refusal.TheVariants.{OutOfRange, WrongLength, OutOfTurn, AlreadyEntered, ShareOutOfRange}
 use Rattle.ranges.specs.Lists.{every}
 use Rattle.sharing.specs.Linear.{sums}

@@ -1,7 +1,7 @@
 -- "Opening a session zeroes a book of 2k words and gives a record". Assumes nothing.
 use Rattle.std.specs.Prelude.{not, ◌&&◌, List, [], ◌∷◌, ℕ, ◌*◌, replicate}
 use Rattle.refusal.specs.Judging.{◌⇒◌, judged, kept}
-use Rattle.refusal.specs.declared.Judgement.{Judgement}
+use Rattle.refusal.specs.Refusal.{Judgement}
 use Rattle.refusal.specs.declared.Refusal.TheVariants.{OutOfRange, WrongLength}
 use Rattle.ranges.specs.Sizes.{party, listed, long}
 use Rattle.ways.specs.Way.{is_way}

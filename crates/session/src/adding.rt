@@ -28,7 +28,7 @@ pub fn add_judged(q: Party, whole: bool, totals: &mut [u64], bidder: u64, shares
         × (totals.new ≡ add_left q totals.old bidder shares.now) }
 {
     let judgement = judge(q, whole, &totals[..], bidder, shares);
-    if let Judgement::Refused(why) = judgement {
+    if let Err(why) = judgement {
         return refused(why, q);
     }
     add_words(totals, shares);
@@ -41,23 +41,23 @@ fn judge(q: Party, whole: bool, totals: &[u64], bidder: u64, shares: &[u64]) -> 
     ensures { result ≡ add_judgement q totals.now bidder shares.now }
 {
     if !(whole & is_bidder(bidder)) {
-        return Judgement::Refused(Refusal::OutOfRange);
+        return Err(Refusal::OutOfRange);
     }
     let words = 2 * q.k as usize;
     if !((totals.len() == words) & (shares.len() == words)) {
-        return Judgement::Refused(Refusal::WrongLength);
+        return Err(Refusal::WrongLength);
     }
     if (0 < q.search.probes) | (1 < q.round) {
-        return Judgement::Refused(Refusal::OutOfTurn);
+        return Err(Refusal::OutOfTurn);
     }
     let roll = q.roll;
     if roll.marked(bidder) {
-        return Judgement::Refused(Refusal::AlreadyEntered);
+        return Err(Refusal::AlreadyEntered);
     }
     if !(all_below(totals, P) & all_below(shares, P)) {
-        return Judgement::Refused(Refusal::ShareOutOfRange);
+        return Err(Refusal::ShareOutOfRange);
     }
-    Judgement::Accepted
+    Ok(())
 }
 
 // The bid is held, and its bidder is in.
@@ -76,11 +76,7 @@ fn add_words(totals: &mut [u64], shares: &[u64])
     requires { length totals.old ≡ length shares.now }
     ensures { totals.new ≡ sums amounts totals.old shares.now }
 {
-    let mut i = 0;
-    while i < shares.len() {
-        let total = AmountShare(totals[i]);
-        let share = AmountShare(shares[i]);
-        totals[i] = total.add(share).0;
-        i += 1;
+    for (i, total) in totals.iter_mut().enumerate() {
+        *total = AmountShare(*total).add(AmountShare(shares[i])).0;
     }
 }

@@ -8,23 +8,26 @@ use record::{Party, ended, sound};
 use refusal::Refusal;
 use search::price;
 
-pub fn answer(q: Party) -> Answer
+pub fn answer(q: Party) -> Result<Answer, Refusal>
     ensures { result ≡ answer_reply q }
 {
     answer_judged(q, sound(q))
 }
 
 // The same, of a record that who calls has judged where it stands.
-pub fn answer_judged(q: Party, whole: bool) -> Answer
+pub fn answer_judged(q: Party, whole: bool) -> Result<Answer, Refusal>
     requires { whole ≡ sound q }
     ensures { result ≡ answer_reply q }
 {
     if !whole {
-        return Answer::Refused(Refusal::OutOfRange);
+        return Err(Refusal::OutOfRange);
     }
     if !ended(q) {
-        return Answer::Refused(Refusal::OutOfTurn);
+        return Err(Refusal::OutOfTurn);
     }
     let s = q.search;
-    Answer::Cleared(price(s), s.probes)
+    Ok(Answer {
+        price: price(s),
+        probes: s.probes,
+    })
 }

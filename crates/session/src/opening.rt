@@ -21,7 +21,7 @@ pub fn open(n: u64, own: u64, k: u64, last: u64, totals: &mut [u64]) -> Reply
     if totals.len() != 2 * k as usize {
         return refused(Refusal::WrongLength, blank());
     }
-    clear(totals);
+    totals.fill(0);
     let hi = k + 1;
     accepted(Party {
         n,
@@ -44,14 +44,4 @@ pub fn open(n: u64, own: u64, k: u64, last: u64, totals: &mut [u64]) -> Reply
         last,
         pairs: Pairs::none(),
     })
-}
-
-fn clear(words: &mut [u64])
-    ensures { words.new ≡ replicate (length words.old) 0 }
-{
-    let mut i = 0;
-    while i < words.len() {
-        words[i] = 0;
-        i += 1;
-    }
 }

@@ -1,4 +1,5 @@
 -- Pages are what is promised of them. Assumes nothing.
+use Rattle.std.specs.Prelude.{Ok}
 use mathlib.Core.Path.{◌≡◌, refl, sym, ap, ap₂, ◌∙◌}
 use mathlib.Core.Bool.{Bool, true, false, not, ◌&&◌}
 use mathlib.Core.List.{List, [], ◌∷◌, ◌++◌}
@@ -12,7 +13,6 @@ use Rattle.ranges.specs.Lists.{same}
 use Rattle.ranges.specs.Sizes.{highest_price}
 use Rattle.ranges.proofs.Loops.{and-true, and_right}
 use Rattle.ranges.proofs.Compared.{same_self, same_equal}
-use Rattle.refusal.specs.declared.Judgement.TheVariants.{Accepted}
 use Rattle.refusal.proofs.Judging.{passes, passed, all_passed, kept_new}
 use Rattle.settlement_page.specs.Page.{line_of, lines, layout, is_price, in_range, all_in_range}
 use Rattle.settlement_page.proofs.Lines.{no_line, one_line, wanted_most, got_most, bidder_fits, hours_fit, pence_fit}
@@ -66,23 +66,23 @@ module _ (price : ℕ) (priced : is_price price ≡ true) where
       ap₂ ◌&&◌ (ap all_in_range (back entries e) ∙ e.ranges)
       (ap (λ (l : List ℕ). same (layout price entries) (layout price l)) (back entries e) ∙ same_self (layout price entries))
 
-  read_accepted : (page lent : List ℕ) → laid_out price page ≡ true → length lent ≡ 4000 → read_judgement price page lent ≡ Accepted
+  read_accepted : (page lent : List ℕ) → laid_out price page ≡ true → length lent ≡ 4000 → read_judgement price page lent ≡ Ok tt
   unfolding read_judgement
   read_accepted page lent e size =
       passes _ _ _ (ap not priced) ∙ passes _ _ _ (ap not (eq-eqb (length lent) 4000 size)) ∙ passes _ _ _ (ap not e) ∙ all_passed
 
   -- what a call that is accepted was given
-  read_was : (page lent : List ℕ) → read_judgement price page lent ≡ Accepted → laid_out price page ≡ true
+  read_was : (page lent : List ℕ) → read_judgement price page lent ≡ Ok tt → laid_out price page ≡ true
   unfolding read_judgement
   read_was page lent e = not-false _ (passed _ _ _ (passed _ _ _ (passed _ _ _ e).1).1).0
 
-  write_was : (entries page : List ℕ) → write_judgement price entries page ≡ Accepted → Entries entries
+  write_was : (entries page : List ℕ) → write_judgement price entries page ≡ Ok tt → Entries entries
   unfolding write_judgement
   write_was entries page e =
       let size = passed _ _ _ (passed _ _ _ e).1 in
       record { size = eqb-true (length entries) 4000 (not-false _ size.0); ranges = not-false _ (passed _ _ _ size.1).0 }
 
-  left : (page lent : List ℕ) → read_judgement price page lent ≡ Accepted → read_left price page lent ≡ entries_on page
+  left : (page lent : List ℕ) → read_judgement price page lent ≡ Ok tt → read_left price page lent ≡ entries_on page
   left page lent e = kept_new _ (entries_on page) lent e
 
   shown_entries : (page : List ℕ) → laid_out price page ≡ true → Entries (entries_on page) × (layout price (entries_on page) ≡ page)
@@ -92,13 +92,13 @@ module _ (price : ℕ) (priced : is_price price ≡ true) where
       (record { size = length_shown 2000 0 page; ranges = w.0 }, sym (same_equal page (layout price (entries_on page)) w.1))
 
   back_again : (entries lent : List ℕ) → Entries entries → length lent ≡ 4000
-      → (read_judgement price (layout price entries) lent ≡ Accepted) × (read_left price (layout price entries) lent ≡ entries)
+      → (read_judgement price (layout price entries) lent ≡ Ok tt) × (read_left price (layout price entries) lent ≡ entries)
   back_again entries lent e size =
       let accepted = read_accepted (layout price entries) lent (are_laid_out entries e) size in
       (accepted, left (layout price entries) lent accepted ∙ back entries e)
 
   -- the lines that were written
-  cut : (entries page : List ℕ) → write_judgement price entries page ≡ Accepted → take (length (layout price entries)) (write_left price entries page) ≡ layout price entries
+  cut : (entries page : List ℕ) → write_judgement price entries page ≡ Ok tt → take (length (layout price entries)) (write_left price entries page) ≡ layout price entries
   cut entries page e =
       let text = layout price entries in
       ap (take (length text)) (kept_new _ (text ++ drop (length text) page) page e) ∙ take_at text (drop (length text) page) (length text) refl

@@ -1,8 +1,7 @@
 -- What is promised of pages. Assumes nothing.
-use Rattle.std.specs.Prelude.{◌≡◌, true, not, List, [], ◌∷◌, ◌++◌, ℕ, ◌≤◌, ◌<◌, eqb, length, take}
+use Rattle.std.specs.Prelude.{◌≡◌, true, not, List, [], ◌∷◌, ◌++◌, ℕ, ◌≤◌, ◌<◌, eqb, length, take, Ok}
 use Rattle.ranges.specs.Lists.{every}
 use Rattle.decimal.specs.Decimal.{decimal}
-use Rattle.refusal.specs.declared.Judgement.TheVariants.{Accepted}
 use Rattle.settlement_page.specs.Page.{hours_shown, pence_due, bidder, layout, entries_size, in_range, all_in_range}
 use Rattle.settlement.specs.Write.{write_judgement, write_left}
 use Rattle.settlement.specs.Read.{read_judgement, read_left}
@@ -32,12 +31,12 @@ pub record Pages (price : ℕ) : Type 0 where
   pub fit : (pair wanted got : ℕ) → pair < 2000 → in_range wanted got ≡ true → Fit price pair wanted got
   pub sixty_bytes : (entries : List ℕ) → Entries entries → Rows (layout price entries)
   -- "Reading a page at the same price gives the same entries back": a page of any length that was written, cut where the lines end
-  pub read_back : (entries page lent : List ℕ) → write_judgement price entries page ≡ Accepted → length lent ≡ entries_size
+  pub read_back : (entries page lent : List ℕ) → write_judgement price entries page ≡ Ok tt → length lent ≡ entries_size
       → let written = take (length (layout price entries)) (write_left price entries page) in
-      (read_judgement price written lent ≡ Accepted) × (read_left price written lent ≡ entries)
+      (read_judgement price written lent ≡ Ok tt) × (read_left price written lent ≡ entries)
   -- a page is accepted exactly when some entries lay out to it
-  pub accepted : (page lent : List ℕ) → read_judgement price page lent ≡ Accepted
+  pub accepted : (page lent : List ℕ) → read_judgement price page lent ≡ Ok tt
       → Entries (read_left price page lent) × (layout price (read_left price page lent) ≡ page)
-  pub laid_out : (entries lent : List ℕ) → Entries entries → length lent ≡ entries_size → read_judgement price (layout price entries) lent ≡ Accepted
+  pub laid_out : (entries lent : List ℕ) → Entries entries → length lent ≡ entries_size → read_judgement price (layout price entries) lent ≡ Ok tt
   -- and these are the only ones
   pub unique : (a b : List ℕ) → Entries a → Entries b → layout price a ≡ layout price b → a ≡ b

@@ -3,7 +3,7 @@ use Rattle.std.specs.Prelude.{Bool, cond, not, ◌&&◌, List, [], ◌∷◌, �
 use Rattle.ranges.specs.Lists.{same}
 use Rattle.ranges.specs.Sizes.{long}
 use Rattle.refusal.specs.Judging.{◌⇒◌, judged, kept}
-use Rattle.refusal.specs.declared.Judgement.{Judgement}
+use Rattle.refusal.specs.Refusal.{Judgement}
 use Rattle.refusal.specs.declared.Refusal.TheVariants.{OutOfRange, WrongLength, Malformed}
 use Rattle.settlement_page.specs.Page.{layout, entries_size, is_price, all_in_range}
 use Rattle.settlement_page.specs.Line.{wanted_on, got_on, begins}

@@ -1,13 +1,10 @@
 -- Writing the page: its judgement, the reply and what the lent page then holds. Assumes nothing.
-use Rattle.std.specs.Prelude.{not, List, [], ◌∷◌, ◌++◌, ℕ, ltb, length, drop}
+use Rattle.std.specs.Prelude.{not, List, [], ◌∷◌, ◌++◌, ℕ, ltb, length, drop, Result, Ok, Err}
 use Rattle.ranges.specs.Sizes.{long}
-use Rattle.refusal.specs.Refusal.{number_of}
+use Rattle.refusal.specs.Refusal.{Judgement, number_of}
 use Rattle.refusal.specs.Judging.{◌⇒◌, judged, kept}
-use Rattle.refusal.specs.declared.Judgement.{Judgement}
-use Rattle.refusal.specs.declared.Judgement.TheVariants as judgement
+use Rattle.refusal.specs.declared.Refusal.{Refusal}
 use Rattle.refusal.specs.declared.Refusal.TheVariants.{OutOfRange, WrongLength, AmountTooLarge, PageTooShort}
-use Rattle.settlement.specs.declared.writing.Written.{Written}
-use Rattle.settlement.specs.declared.writing.Written.TheVariants.{Bytes, Refused}
 use Rattle.settlement_page.specs.Page.{layout, entries_size, is_price, all_in_range}
 
 -- "Got above wanted is 6, a bad price 1"; "17 Page too short, when the lent page can't hold every line, judged last"
@@ -21,11 +18,11 @@ write_judgement price entries page =
     ∷ [])
 
 -- "the writer's reply counts the bytes"
-unfoldable pub written : Judgement → (price : ℕ) (entries : List ℕ) → Written
-written judgement.Accepted price entries = Bytes (length (layout price entries))
-written (judgement.Refused why) price entries = Refused why
+unfoldable pub written : Judgement → (price : ℕ) (entries : List ℕ) → Result ℕ Refusal
+written (Ok tt) price entries = Ok (length (layout price entries))
+written (Err why) price entries = Err why
 
-abbrev pub write_reply : (price : ℕ) (entries page : List ℕ) → Written
+abbrev pub write_reply : (price : ℕ) (entries page : List ℕ) → Result ℕ Refusal
 write_reply price entries page = written (write_judgement price entries page) price entries
 
 -- the lines; what the page has past them stays
@@ -35,10 +32,10 @@ write_left price entries page =
 
 -- ---- "this paper's number and values for each of its cases": a refused call leaves the place for the count as it was
 
-abbrev pub written_number : Written → ℕ
-written_number (Bytes count) = 0
-written_number (Refused why) = number_of why
+abbrev pub written_number : Result ℕ Refusal → ℕ
+written_number (Ok count) = 0
+written_number (Err why) = number_of why
 
-abbrev pub written_bytes : Written → (old : ℕ) → ℕ
-written_bytes (Bytes count) old = count
-written_bytes (Refused why) old = old
+abbrev pub written_bytes : Result ℕ Refusal → (old : ℕ) → ℕ
+written_bytes (Ok count) old = count
+written_bytes (Err why) old = old

@@ -1,5 +1,6 @@
 // What a page is laid out of: a price, and the amounts of each bidder.
 ghost use Rattle.std.specs.Prelude.{◌≡◌, true, cond, ℕ, ◌*◌, ◌≤◌, eqb, length};
+ghost use Rattle.std.specs.Simd.{first_chunks};
 ghost use Rattle.ranges.specs.Sizes.{highest_price};
 ghost use Rattle.settlement_page.specs.Page.{layout, is_price, all_in_range};
 
@@ -17,17 +18,23 @@ pub(crate) fn is_price(price: u64) -> bool
     (1 <= price) & (price <= HIGHEST_PRICE)
 }
 
+// The amounts in pairs: what is wanted, and what is got.
+pub(crate) fn pairs(entries: &[u64]) -> &[[u64; 2]]
+    requires { length entries.now ≡ 4000 }
+    ensures { result.now ≡ first_chunks 2 2000 entries.now }
+{
+    entries.as_chunks::<2>().0
+}
+
 // No amount is too large, and nobody gets more than is wanted.
 pub(crate) fn all_in_range(entries: &[u64]) -> bool
     requires { length entries.now ≡ 4000 }
     ensures { result ≡ all_in_range entries.now }
 {
-    let mut pair = 0;
-    while pair < PAIRS {
-        if !in_range(entries[2 * pair], entries[2 * pair + 1]) {
+    for [wanted, got] in pairs(entries) {
+        if !in_range(*wanted, *got) {
             return false;
         }
-        pair += 1;
     }
     true
 }
@@ -38,10 +45,8 @@ pub(crate) fn line_count(entries: &[u64]) -> usize
     ensures { (result ≤ 2000) × ((price : ℕ) → price ≤ highest_price → length (layout price entries.now) ≡ 61 * result) }
 {
     let mut count = 0;
-    let mut pair = 0;
-    while pair < PAIRS {
-        count += wants(entries[2 * pair]);
-        pair += 1;
+    for [wanted, _] in pairs(entries) {
+        count += wants(*wanted);
     }
     count
 }

@@ -8,4 +8,4 @@ mod writing;
 
 pub use entries::ENTRIES;
 pub use reading::read;
-pub use writing::{Written, write};
+pub use writing::write;

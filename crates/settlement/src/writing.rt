@@ -4,37 +4,31 @@ ghost use Rattle.ranges.specs.Sizes.{highest_price};
 ghost use Rattle.settlement_page.specs.Page.{line_of, layout, in_range, all_in_range};
 ghost use Rattle.settlement.specs.Write.{write_reply, write_left};
 
-use crate::entries::{ENTRIES, PAIRS, all_in_range, is_price, line_count};
+use crate::entries::{ENTRIES, all_in_range, is_price, line_count, pairs};
 use refusal::Refusal;
 use settlement_page::{LINE, put_line};
 
-// How many bytes the lines take, their newlines too.
-#[derive(Clone, Copy)]
-pub enum Written {
-    Bytes(u64),
-    Refused(Refusal),
-}
-
-// Writes the lines at the start of the lent page. Nothing is written unless all of them fit.
-pub fn write(price: u64, entries: &[u64], page: &mut [u8]) -> Written
+// Writes the lines at the start of the lent page. Nothing is written unless all of them fit. The answer
+// is how many bytes they take, their newlines too.
+pub fn write(price: u64, entries: &[u64], page: &mut [u8]) -> Result<u64, Refusal>
     ensures { (result ≡ write_reply price entries.now page.old)
         × (page.new ≡ write_left price entries.now page.old) }
 {
     if !is_price(price) {
-        return Written::Refused(Refusal::OutOfRange);
+        return Err(Refusal::OutOfRange);
     }
     if entries.len() != ENTRIES {
-        return Written::Refused(Refusal::WrongLength);
+        return Err(Refusal::WrongLength);
     }
     if !all_in_range(entries) {
-        return Written::Refused(Refusal::AmountTooLarge);
+        return Err(Refusal::AmountTooLarge);
     }
     let bytes = LINE * line_count(entries);
     if page.len() < bytes {
-        return Written::Refused(Refusal::PageTooShort);
+        return Err(Refusal::PageTooShort);
     }
     write_lines(price, entries, &mut page[..bytes]);
-    Written::Bytes(bytes as u64)
+    Ok(bytes as u64)
 }
 
 // Fills a page that is just as long as the lines.
@@ -44,17 +38,8 @@ fn write_lines(price: u64, entries: &[u64], page: &mut [u8])
     ensures { page.new ≡ layout price entries.now }
 {
     let mut at = 0;
-    let mut pair = 0;
-    while pair < PAIRS {
-        at = put_pair(
-            page,
-            at,
-            price,
-            pair as u64,
-            entries[2 * pair],
-            entries[2 * pair + 1],
-        );
-        pair += 1;
+    for (pair, [wanted, got]) in pairs(entries).iter().enumerate() {
+        at = put_pair(page, at, price, pair as u64, *wanted, *got);
     }
 }
 
@@ -65,7 +50,8 @@ fn put_pair(page: &mut [u8], at: usize, price: u64, pair: u64, wanted: u64, got:
     ensures { (page.new ≡ take at page.old ++ (line_of price pair wanted got ++ drop result page.old))
         × (result ≡ at + length (line_of price pair wanted got)) }
 {
-    if wanted == 0 {
+    let wants_none = wanted == 0;
+    if wants_none {
         return at;
     }
     let end = at + LINE;

@@ -11,11 +11,11 @@ fn put_number(columns: &mut [u8], n: u64)
     requires { (1 ≤ length columns.old) × (n < 10 ^ length columns.old) }
     ensures { columns.new ≡ right (length columns.old) (decimal n) }
 {
-    let mut i = columns.len() - 1;
-    columns[i] = last_digit(n);
+    let last = columns.len() - 1;
+    columns[last] = last_digit(n);
     let mut rest = n / 10;
-    while 0 < i {
-        i -= 1;
+    // by index, since of what `iter_mut().rev()` leaves only the length is known
+    for i in (0..last).rev() {
         columns[i] = digit_or_space(rest);
         rest = rest / 10;
     }
@@ -26,18 +26,8 @@ pub(crate) fn put_tenths(columns: &mut [u8], unreached: usize, mark: u8, n: u64)
     requires { (unreached + 3 ≤ length columns.old) × (n / 10 < 10 ^ (length columns.old - unreached - 2)) }
     ensures { columns.new ≡ right (length columns.old) (in_tenths mark n) }
 {
-    blank(&mut columns[..unreached]);
+    columns[..unreached].fill(SPACE);
     put_last(&mut columns[unreached..], mark, n);
-}
-
-fn blank(columns: &mut [u8])
-    ensures { columns.new ≡ replicate (length columns.old) 32 }
-{
-    let mut i = 0;
-    while i < columns.len() {
-        columns[i] = SPACE;
-        i += 1;
-    }
 }
 
 // The same in columns all of which it may reach.
@@ -82,10 +72,8 @@ fn number(columns: &[u8]) -> u64
     ensures { (result ≡ number_after 0 columns.now) × (result < 16 ^ 6) }
 {
     let mut n = 0;
-    let mut i = 0;
-    while i < columns.len() {
-        n = 10 * n + digit(columns[i]);
-        i += 1;
+    for b in columns {
+        n = 10 * n + digit(*b);
     }
     n
 }

@@ -3,7 +3,7 @@ ghost use Rattle.std.specs.Prelude.{◌≡◌, true, cond, ◌≤◌, ◌<◌, l
 ghost use Rattle.ranges.specs.Lists.{same};
 ghost use Rattle.ranges.specs.Sizes.{highest_price};
 ghost use Rattle.settlement_page.specs.Page.{title, amounts, line, in_range};
-ghost use Rattle.settlement_page.specs.Line.{wanted_on, got_on, begins, fits};
+ghost use Rattle.settlement_page.specs.Line.{begins, pair_read};
 
 use crate::columns::{SPACE, digit_or_space, last_digit, put_tenths, tenths};
 use bid::MOST;
@@ -41,7 +41,8 @@ fn title(pair: u64) -> [u8; TITLE]
     let b = digit_or_space(hundreds);
     let c = digit_or_space(tens);
     let d = last_digit(bidder);
-    if pair % 2 == 0 {
+    let buys = pair % 2 == 0;
+    if buys {
         return [a, b, c, d, SPACE, SPACE, SPACE, b'b', b'u', b'y'];
     }
     [a, b, c, d, SPACE, SPACE, b's', b'e', b'l', b'l']
@@ -52,7 +53,7 @@ pub fn put_line(out: &mut [u8], price: u64, pair: u64, wanted: u64, got: u64)
     requires { (length out.old ≡ 61) × (price ≤ highest_price) × (pair < 2000) × (in_range wanted got ≡ true) }
     ensures { out.new ≡ line price pair wanted got }
 {
-    put_title(&mut out[..TITLE], pair);
+    out[..TITLE].copy_from_slice(&title(pair));
     put_amounts(&mut out[TITLE..], price, wanted, got);
 }
 
@@ -67,18 +68,6 @@ fn put_amounts(out: &mut [u8], price: u64, wanted: u64, got: u64)
     out[50] = NEWLINE;
 }
 
-fn put_title(columns: &mut [u8], pair: u64)
-    requires { (length columns.old ≡ 10) × (pair < 2000) }
-    ensures { columns.new ≡ title pair }
-{
-    let bytes = title(pair);
-    let mut i = 0;
-    while i < TITLE {
-        columns[i] = bytes[i];
-        i += 1;
-    }
-}
-
 // Whether the page goes on with the line of a pair, by its bidder and its side.
 fn begins(page: &[u8], pair: u64) -> bool
     requires { pair < 2000 }
@@ -91,53 +80,42 @@ fn begins(page: &[u8], pair: u64) -> bool
     same(&page[..TITLE], &bytes)
 }
 
-// What the page goes on with at a pair: nothing of it, or the line of the amounts that it shows. A line
-// that is the pair's and shows other bytes does not fit.
+// What the page goes on with at a pair: the line of the amounts that it shows, or nothing of it.
 #[derive(Clone, Copy)]
 pub struct PairRead {
-    pub fits: bool,
     pub wanted: u64,
     pub got: u64,
     pub bytes: usize,
 }
 
-const UNFIT: PairRead = PairRead {
-    fits: false,
-    wanted: 0,
-    got: 0,
-    bytes: 0,
-};
-
-pub fn read_pair(page: &[u8], price: u64, pair: u64) -> PairRead
+// A line that is the pair's and shows other bytes is none.
+pub fn read_pair(page: &[u8], price: u64, pair: u64) -> Option<PairRead>
     requires { (price ≤ highest_price) × (pair < 2000) }
-    ensures { (result.fits ≡ fits price pair page.now)
-        × (result.fits ≡ true → (result.wanted ≡ cond (begins pair page.now) (wanted_on page.now) 0)
-        × (result.got ≡ cond (begins pair page.now) (got_on page.now) 0)
-        × (result.bytes ≡ cond (begins pair page.now) 61 0)) }
+    ensures { result ≡ pair_read price pair page.now }
 {
     if !begins(page, pair) {
-        return PairRead {
-            fits: true,
+        return Some(PairRead {
             wanted: 0,
             got: 0,
             bytes: 0,
-        };
+        });
     }
     if page.len() < LINE {
-        return UNFIT;
+        return None;
     }
     let wanted = tenths(&page[10..22]);
     let got = tenths(&page[22..34]);
     if !((0 < wanted) & in_range(wanted, got)) {
-        return UNFIT;
+        return None;
     }
-    let fits = is_line(&page[TITLE..LINE], price, wanted, got);
-    PairRead {
-        fits,
+    if !is_line(&page[TITLE..LINE], price, wanted, got) {
+        return None;
+    }
+    Some(PairRead {
         wanted,
         got,
         bytes: LINE,
-    }
+    })
 }
 
 // Whether these are the bytes of a line that follow its title.

@@ -1,4 +1,5 @@
 -- A page of good bids is not refused. Assumes nothing.
+use Rattle.std.specs.Prelude.{Ok}
 use mathlib.Core.Path.{◌≡◌, refl, sym, ap, ap₂, ◌∙◌}
 use mathlib.Core.Bool.{Bool, true, false, cond}
 use mathlib.Core.List.{List, [], ◌∷◌, ◌++◌}
@@ -9,8 +10,7 @@ use lib.Dec.{eqb}
 use lib.ListN.{length, drop, get_or, replicate, length-append}
 use borrow.Author.Tests.{ltb-false, le-ltb, le-leb, eq-eqb}
 use Rattle.refusal.specs.Judging.{judged, kept}
-use Rattle.refusal.specs.declared.Judgement.{Judgement}
-use Rattle.refusal.specs.declared.Judgement.TheVariants.{Accepted}
+use Rattle.refusal.specs.Refusal.{Judgement}
 use Rattle.refusal.proofs.Judging.{passed}
 use Rattle.ranges.specs.Sizes.{highest_price}
 use Rattle.ranges.proofs.Loops.{and_left, and_right}
@@ -92,7 +92,7 @@ module _ (price : ℕ) (p : price ≤ highest_price) where
   page_fits es h good = omega (arith, lines_fit 0 es (omega arith) good)
 
 pub not_refused : (price : ℕ) (es out : List ℕ) → 0 < price → price ≤ highest_price → length es ≡ entries_size → all_in_range es ≡ true → length out ≡ 122000
-    → write_judgement price es out ≡ Accepted
+    → write_judgement price es out ≡ Ok tt
 unfolding write_judgement judged
 not_refused price es out some most long good room =
     rw (
@@ -104,7 +104,7 @@ not_refused price es out some most long good room =
     )
 
 -- what is then written
-module _ (price : ℕ) (es out : List ℕ) (ok : write_judgement price es out ≡ Accepted) where
+module _ (price : ℕ) (es out : List ℕ) (ok : write_judgement price es out ≡ Ok tt) where
   room : length (layout price es) ≤ length out
   unfolding write_judgement
   room = ltb-false (length out) (length (layout price es)) (passed _ _ _ (passed _ _ _ (passed _ _ _ (passed _ _ _ ok).1).1).1).0

@@ -1,16 +1,19 @@
 -- What is written of an input is its settlement: a fault, no price, or the page of its auction. Assumes nothing.
+use Rattle.std.proofs.Common.{Result, Ok, Err}
+use Rattle.refusal.specs.declared.Refusal.{Refusal}
+use Rattle.refusal.specs.Refusal.{number_of}
+use Rattle.sections.specs.declared.table.Fault.{Fault}
 use mathlib.Core.Path.{◌≡◌, refl, sym, ap, ap₂, ◌∙◌}
 use mathlib.Core.List.{List, [], ◌∷◌, ◌++◌}
 use Prim.Native.Nat.{ℕ, suc, ◌-◌, ◌+◌, ◌*◌, ◌≤◌, ◌<◌}
 use native.Mathlib.Omega.{arith}
 use lib.ListN.{length, take, drop, get_or, replicate, length-append, length-replicate}
 use borrow.Author.Tests.{eq-eqb, ne_eqb}
-use Rattle.refusal.specs.declared.Judgement.TheVariants.{Accepted}
 use Rattle.search.proofs.Clearing.{clearing_within}
 use Rattle.search.proofs.Balance.{price_within}
 use Rattle.comparison.specs.Probe.{Each}
 use Rattle.record.specs.declared.Party.{Party}
-use Rattle.filling.specs.declared.Filled.{Filled}
+use Rattle.filling.specs.declared.Hours.{Hours}
 use Rattle.filling.specs.Fill.{hours, filled_hours}
 use Rattle.filling.proofs.Sums.{one_fill}
 use Rattle.settlement_page.specs.Page.{layout, entries_size}
@@ -25,7 +28,6 @@ use Rattle.standing.specs.Numbered.{numbered}
 use Rattle.standing.proofs.Holding.{length_numbered}
 use Rattle.standing.proofs.Standing.{auction_of}
 use Rattle.plan.specs.declared.judging.Shape.{Shape}
-use Rattle.plan.specs.declared.judging.Judged.TheVariants.{Faulty, Good}
 use Rattle.plan.specs.Plan.{Plan, accepted, read}
 use Rattle.plan.specs.Judged.{shape_of, judged_as}
 use Rattle.plan.proofs.Cut.{cut_read}
@@ -40,9 +42,10 @@ use Rattle.settling.specs.Settlement.{plan_entries, settled, settlement}
 use Rattle.settling.proofs.Page.{length_entries, same_entries, entries_in_range, not_refused}
 
 -- a fault is what is printed
-pub settled_faulty : (bytes : List ℕ) (number line : ℕ) → judged_as bytes ≡ Faulty number line → settlement bytes ≡ refused_line number line
+pub settled_faulty : (bytes : List ℕ) (fault : Fault) → judged_as bytes ≡ Err fault
+    → settlement bytes ≡ refused_line (number_of fault.refusal) fault.line
 unfolding settled
-settled_faulty bytes number line e = ap settled (input.judged_bad bytes (read (lines bytes)) number line e)
+settled_faulty bytes fault e = ap settled (input.judged_bad bytes (read (lines bytes)) fault e)
 
 -- the end of a long input does not matter
 pub cut_settlement : (room : ℕ) (bytes : List ℕ) → 4_194_304 ≤ room → settlement (take room bytes) ≡ settlement bytes
@@ -56,7 +59,7 @@ pub record Settles (bytes : List ℕ) (shape : Shape) (index : ℕ) (q : Party) 
   pub no_price : index ≡ 0 → settlement bytes ≡ no_price_line
   pub page : 0 < index → (price : ℕ) (es out : List ℕ) → price ≡ price_of index (drop shape.prices_at bytes)
       → es ≡ entries (hours_told q) shape.k index (tables shape.k shape.bids (drop shape.bids_at bytes)) ++ replicate (entries_size - 4 * shape.bids) 0
-      → length out ≡ 122000 → (write_judgement price es out ≡ Accepted) × (layout price es ≡ settlement bytes)
+      → length out ≡ 122000 → (write_judgement price es out ≡ Ok tt) × (layout price es ≡ settlement bytes)
 
 good_tables : (k b : ℕ) (ts : List (List ℕ)) → Each (λ x. GoodTable k x.table) (numbered b ts) → Each (GoodTable k) ts
 unfolding numbered
@@ -105,7 +108,7 @@ module _ (bytes : List ℕ) (p : Plan) (e : read (lines bytes) ≡ accepted p) w
     unfolding settled
     settled_page = ap settled e ∙ rw (ne_eqb m 0 (λ z. omega arith))
 
-    accepted_page : (out : List ℕ) → length out ≡ 122000 → write_judgement price (plan_entries p m) out ≡ Accepted
+    accepted_page : (out : List ℕ) → length out ≡ 122000 → write_judgement price (plan_entries p m) out ≡ Ok tt
     accepted_page out room =
         let told = entries (hours D S) p.k m p.bids in
         let zeros = replicate {A = ℕ} (entries_size - 4 * length p.bids) 0 in
@@ -124,7 +127,7 @@ module _ (bytes : List ℕ) (p : Plan) (e : read (lines bytes) ≡ accepted p) w
         → entries (hours_told q) p.k m (tables p.k (length p.bids) (past (p.n + p.k + 3) bytes)) ≡ entries (hours D S) p.k m p.bids
     told_entries q T =
         ap (entries (hours_told q) p.k m) (sym plan_is.bids)
-        ∙ same_entries p.k m (hours_told q) (hours D S) (λ a h. ap (λ (f : Filled). filled_hours f 0) (T.filled some a h)) p.bids good
+        ∙ same_entries p.k m (hours_told q) (hours D S) (λ a h. ap (λ (f : Result Hours Refusal). filled_hours f 0) (T.filled some a h)) p.bids good
 
   plan_settles : (q : Party) → FleetTold (auction p) q → Settles bytes (shape_of bytes p) m q
   plan_settles q T =
@@ -141,7 +144,7 @@ module _ (bytes : List ℕ) (p : Plan) (e : read (lines bytes) ≡ accepted p) w
             );
       }
 
-pub settles : (bytes : List ℕ) (shape : Shape) (c : Course) (q : Party) → judged_as bytes ≡ Good shape
+pub settles : (bytes : List ℕ) (shape : Shape) (c : Course) (q : Party) → judged_as bytes ≡ Ok shape
     → Follows (auction_of shape.n shape.k shape.bids (drop shape.bids_at bytes)) c
     → FleetTold (auction_of shape.n shape.k shape.bids (drop shape.bids_at bytes)) q → Settles bytes shape c.answer q
 settles bytes shape c q e F T =

@@ -1,5 +1,6 @@
 -- The settlement of an input: the page of its auction at the price. Assumes nothing.
 use Rattle.std.specs.Prelude.{cond, List, ◌++◌, ℕ, ◌-◌, ◌*◌, eqb, length, get_or, replicate}
+use Rattle.refusal.specs.Refusal.{number_of}
 use Rattle.filling.specs.Fill.{hours}
 use Rattle.settlement_page.specs.Page.{layout, entries_size}
 use Rattle.entering.specs.Entries.{entries}
@@ -22,7 +23,7 @@ plan_page p =
     cond (eqb m 0) no_price_line (layout (get_or p.prices (m - 1) 0) (plan_entries p m))
 
 unfoldable pub settled : Reading → List ℕ
-settled (faulty number line) = refused_line number line
+settled (faulty why line) = refused_line (number_of why) line
 settled (accepted p) = plan_page p
 
 -- the bytes that are printed, from the bytes of the input

@@ -1,11 +1,9 @@
 // From the bytes of the input to its settlement page.
 #![tactic(auto)]
 
-ghost use Rattle.std.specs.Prelude.{◌≡◌, length, replicate};
-ghost use Rattle.refusal.specs.declared.Judgement.TheVariants.{Accepted};
+ghost use Rattle.std.specs.Prelude.{◌≡◌, length, replicate, Ok};
 ghost use Rattle.settlement_page.specs.Page.{layout};
 ghost use Rattle.settlement.specs.Write.{write_judgement};
-ghost use Rattle.plan.specs.declared.judging.Judged.TheVariants.{Good};
 ghost use Rattle.plan.specs.Judged.{judged_as};
 ghost use Rattle.listing.specs.Text.{Wrote};
 ghost use Rattle.settling.specs.Settlement.{settlement};
@@ -13,9 +11,9 @@ ghost use Rattle.settling.specs.Settlement.{settlement};
 use entering::enter_bids;
 use lines::price_at;
 use listing::{write_no_price, write_refused};
-use plan::{Judged, Shape, judge};
+use plan::{Shape, judge};
 use running::run;
-use settlement::{ENTRIES, Written, write};
+use settlement::{ENTRIES, write};
 
 // What is lent for a page: 2,000 lines of 61 bytes.
 pub const PAGE: usize = 122000;
@@ -25,16 +23,15 @@ pub const PAGE: usize = 122000;
 pub fn settle(input: &[u8], out: &mut [u8; PAGE]) -> usize
     ensures { Wrote out.old 0 (settlement input.now) out.new result }
 {
-    let judged = judge(input);
-    match judged {
-        Judged::Faulty(number, line) => write_refused(number, line, out),
-        Judged::Good(shape) => settle_good(input, shape, out),
+    match judge(input) {
+        Err(fault) => write_refused(u64::from(fault.refusal), fault.line, out),
+        Ok(shape) => settle_good(input, shape, out),
     }
 }
 
 // The same of an input that `judge` found good.
 fn settle_good(input: &[u8], shape: Shape, out: &mut [u8]) -> usize
-    requires { (judged_as input.now ≡ Good shape) × (length out.old ≡ 122000) }
+    requires { (judged_as input.now ≡ Ok shape) × (length out.old ≡ 122000) }
     ensures { Wrote out.old 0 (settlement input.now) out.new result }
 {
     let ended = run(input, shape);
@@ -69,12 +66,11 @@ fn no_entries() -> [u64; ENTRIES]
 
 // Writes the lines. A page that is long enough, with entries in range at a listed price, is not refused.
 fn write_page(price: u64, entries: &[u64; ENTRIES], out: &mut [u8]) -> usize
-    ensures { write_judgement price entries.now out.old ≡ Accepted
+    ensures { write_judgement price entries.now out.old ≡ Ok tt
         → Wrote out.old 0 (layout price entries.now) out.new result }
 {
-    let written = write(price, entries, out);
-    match written {
-        Written::Bytes(count) => count as usize,
-        Written::Refused(_) => 0,
+    match write(price, entries, out) {
+        Ok(count) => count as usize,
+        Err(_) => 0,
     }
 }

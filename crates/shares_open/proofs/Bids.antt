@@ -1,4 +1,5 @@
 -- The n parties' shares of an entry open to its amount, however they are written. Assumes nothing.
+use Rattle.std.specs.Prelude.{Ok, Some}
 use mathlib.Core.Path.{◌≡◌, ap, ◌∙◌, fun_ext}
 use mathlib.Core.List.{List, ◌∷◌, map}
 use Prim.Native.Nat.{ℕ, ◌+◌, ◌-◌, ◌*◌, ◌≤◌, ◌<◌}
@@ -11,13 +12,11 @@ use borrow.Author.Tests.{leb-true}
 use Rattle.ranges.specs.Below.{AllBelow}
 use Rattle.ranges.proofs.Loops.{every_at, same_from}
 use Rattle.ranges.proofs.Ranges.{below_take, below_drop}
-use Rattle.refusal.specs.declared.Judgement.TheVariants.{Accepted}
 use Rattle.fields.specs.Amount.{p, amounts}
 use Rattle.sharing.specs.Polynomial.{value}
 use Rattle.sharing.specs.Scheme.{threshold, points}
 use Rattle.weights.specs.Rows.{amount_scheme}
 use Rattle.openings.specs.Opening.{opened}
-use Rattle.openings.specs.declared.opening.Opening.TheVariants.{Secret}
 use Rattle.openings.proofs.Laws.{amount_fits, opens}
 use Rattle.bid.specs.Table.{most}
 use Rattle.bid.specs.Split.{bid_shares}
@@ -28,7 +27,7 @@ use Rattle.bid.proofs.Entries.{its_place}
 -- t coins hide one amount of a table that is free of faults
 module _ {n k : ℕ} {table coins : List ℕ} (n3 : 3 ≤ n) (n9 : n ≤ 9) (e : ℕ) (there : e < length table) (h : Faultless k table coins) where
   amount_opens : (own_coins : List ℕ) → AllBelow p own_coins → length own_coins ≡ threshold n
-      → opened amount_scheme n (map (value amounts (get_or table e 0 ∷ own_coins)) (points n)) ≡ Secret (get_or table e 0)
+      → opened amount_scheme n (map (value amounts (get_or table e 0 ∷ own_coins)) (points n)) ≡ Some (get_or table e 0)
   amount_opens own_coins below long =
       let amount : get_or table e 0 ≤ most = leb-true _ _ (every_at (λ a. leb a most) table e h.small there) in
       opens amount_fits n (get_or table e 0) own_coins n3 n9 (lt_of_le_of_lt amount (lit< tt)) below long
@@ -36,7 +35,7 @@ module _ {n k : ℕ} {table coins : List ℕ} (n3 : 3 ≤ n) (n9 : n ≤ 9) (e :
 -- what `split` writes for each party
 module _ {n own k : ℕ} {table coins shares : List ℕ} (h : Splits n own k table coins shares) where
   pub entry_opens : (e : ℕ) → e < 2 * k
-      → opened amount_scheme n (map (λ j. get_or (bid_shares (threshold n) j table coins) e 0) (points n)) ≡ Secret (get_or table e 0)
+      → opened amount_scheme n (map (λ j. get_or (bid_shares (threshold n) j table coins) e 0) (points n)) ≡ Some (get_or table e 0)
   entry_opens e l =
       let t = threshold n in
       let there : e < length table = omega (arith, h.table_long) in
@@ -48,8 +47,8 @@ module _ {n own k : ℕ} {table coins shares : List ℕ} (h : Splits n own k tab
 
 -- what `split_entry` writes for each party from the same t words, whatever each slice held before
 pub written_opens : (n k entry : ℕ) (table coins : List ℕ) (lent : ℕ → List ℕ) → 1 ≤ n
-    → ((j : ℕ) → 1 ≤ j → j ≤ n → split_entry_judgement n j k entry table coins (lent j) ≡ Accepted)
-    → opened amount_scheme n (map (λ j. get_or (split_entry_left n j k entry table coins (lent j)) (entry - 1) 0) (points n)) ≡ Secret (get_or table (entry - 1) 0)
+    → ((j : ℕ) → 1 ≤ j → j ≤ n → split_entry_judgement n j k entry table coins (lent j) ≡ Ok tt)
+    → opened amount_scheme n (map (λ j. get_or (split_entry_left n j k entry table coins (lent j)) (entry - 1) 0) (points n)) ≡ Some (get_or table (entry - 1) 0)
 written_opens n k entry table coins lent n1 accepted =
     let h = splits_entry n 1 k entry table coins (lent 1) (accepted 1 (omega arith) n1) in
     let place : ℕ = entry - 1 in

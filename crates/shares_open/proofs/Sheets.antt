@@ -1,4 +1,5 @@
 -- The n parties' words at one place of their sheets open to what the dealer drew for it. Assumes nothing.
+use Rattle.std.specs.Prelude.{Some}
 use mathlib.Core.Path.{◌≡◌, sym, ap, ◌∙◌, fun_ext}
 use mathlib.Core.List.{List, ◌∷◌, ◌++◌, map}
 use Prim.Native.Nat.{ℕ, zero, suc, ◌+◌, ◌-◌, ◌*◌, ◌≤◌, ◌<◌}
@@ -17,8 +18,7 @@ use Rattle.sharing.specs.Polynomial.{value}
 use Rattle.sharing.specs.Scheme.{threshold, points}
 use Rattle.weights.specs.Rows.{Scheme, amount_scheme, byte_scheme}
 use Rattle.openings.specs.Opening.{opened}
-use Rattle.openings.specs.declared.opening.Opening.{Opening}
-use Rattle.openings.specs.declared.opening.Opening.TheVariants.{Secret}
+use Rattle.openings.specs.Opening.{Opening}
 use Rattle.openings.proofs.Laws.{amount_fits, byte_fits, opens}
 use Rattle.ways.specs.Way.{way_of, triples_of}
 use Rattle.ways.proofs.Laws.{drawn_split}
@@ -101,7 +101,7 @@ secrets_below drawn h =
     (alpha, (beta, (byte_field.ring.mul_lt _ _ alpha beta, tt)))
 
 module _ {n own last : ℕ} {words drawn sheet : List ℕ} (h : Deals n own last words drawn sheet) where
-  pub mask_opens : opened_at amount_scheme n last words drawn 0 ≡ Secret (get_or words 0 0)
+  pub mask_opens : opened_at amount_scheme n last words drawn 0 ≡ Some (get_or words 0 0)
   mask_opens =
       let some : 0 < length words = omega (arith, h.words_long) in
       ap (λ (f : ℕ → ℕ). opened amount_scheme n (map f (points n)))
@@ -112,14 +112,14 @@ module _ {n own last : ℕ} {words drawn sheet : List ℕ} (h : Deals n own last
   module _ (small : AllBelow 256 drawn) where
     -- a byte and the t drawn bytes from m on
     shared : (f : ℕ → ℕ) (s m : ℕ) → ((j : ℕ) → f j ≡ value bytes (s ∷ take (threshold n) (drop m drawn)) j) → s < 256 → m + threshold n ≤ length drawn
-        → opened byte_scheme n (map f (points n)) ≡ Secret s
+        → opened byte_scheme n (map f (points n)) ≡ Some s
     shared f s m e hs l =
         ap (λ (f : ℕ → ℕ). opened byte_scheme n (map f (points n))) (fun_ext e)
         ∙ opens byte_fits n s (take (threshold n) (drop m drawn)) h.party.parties_least h.party.parties_most hs
         (below_take 256 (threshold n) (drop m drawn) (below_drop 256 m drawn small))
         (length-take-le (threshold n) (drop m drawn) (omega (arith, length-drop m drawn)))
 
-    pub bit_opens : (i : ℕ) → 1 ≤ i → i ≤ 33 → opened_at byte_scheme n last words drawn i ≡ Secret (bit i (get_or words 0 0))
+    pub bit_opens : (i : ℕ) → 1 ≤ i → i ≤ 33 → opened_at byte_scheme n last words drawn i ≡ Some (bit i (get_or words 0 0))
     unfolding bit
     bit_opens i l l' =
         let r : (i - 1 + 1) * threshold n ≤ 33 * threshold n = mul-le-mul_right (threshold n) (omega arith) in
@@ -127,7 +127,7 @@ module _ {n own last : ℕ} {words drawn sheet : List ℕ} (h : Deals n own last
 
     -- alpha, beta, and gamma, which is their product
     pub triple_opens : (i r : ℕ) → i < triples_of (way_of last) → r < 3
-        → opened_at byte_scheme n last words drawn (34 + 3 * i + r) ≡ Secret (get_or (triple_secrets (from_triple (threshold n) i drawn)) r 0)
+        → opened_at byte_scheme n last words drawn (34 + 3 * i + r) ≡ Some (get_or (triple_secrets (from_triple (threshold n) i drawn)) r 0)
     triple_opens i r l hr =
         let t = threshold n in
         let count = triples_of (way_of last) in

@@ -1,4 +1,5 @@
 -- THE STARRED LINES of document 01, gathered as one list. Assumes nothing.
+use Rattle.std.specs.Prelude.{None, Ok}
 use mathlib.Core.Path.{◌≡◌, refl, sym, ap, ap₂, ◌∙◌}
 use mathlib.Core.Bool.{Bool, true, false, cond, not, ◌&&◌, ◌||◌, true≢false}
 use mathlib.Core.List.{List, [], ◌∷◌}
@@ -18,7 +19,6 @@ use Rattle.ranges.specs.Sizes.{party, listed, long}
 use Rattle.weights.specs.Rows.{amount_scheme}
 use Rattle.weights.specs.Products.{products}
 use Rattle.openings.specs.Opening.{total, moments, readable, settled, opened}
-use Rattle.openings.specs.declared.opening.Opening.TheVariants.{Inconsistent}
 use Rattle.presence.specs.Presence.{how_many, is_present, everyone}
 use Rattle.lowering.specs.Lines.{lowered, descended}
 use Rattle.openings_at.specs.At.{agreed, opened_at}
@@ -42,7 +42,6 @@ use Rattle.record.specs.Updates.{fresh}
 use Rattle.ways.specs.Way.{is_way, way_of, sheet_size, triples_of, width}
 use Rattle.ranges.specs.Lists.{same}
 use Rattle.ranges.proofs.Compared.{same_self}
-use Rattle.refusal.specs.declared.Judgement.TheVariants.{Accepted}
 use Rattle.refusal.proofs.Judging.{kept_new}
 use Rattle.refusal.specs.Judging.{kept}
 use Rattle.stepping.specs.After.{role}
@@ -61,7 +60,7 @@ use Rattle.starred.specs.Starred.{with_73, compared, Compares, Starred}
 
 -- ---- "With 73 last: refusal 10"
 
-inconsistent : opened_by amount_scheme 5 (everyone 5) with_73 ≡ Inconsistent
+inconsistent : opened_by amount_scheme 5 (everyone 5) with_73 ≡ None
 unfolding opened_by sized opened_at agreed descended lowered amount_gap every from
 inconsistent = refl
 
@@ -78,7 +77,7 @@ not_last : (last : ℕ) → is_way last ≡ true → (1 ≡ last → ⊥)
 unfolding is_way
 not_last last h e = true≢false (sym h ∙ ap (λ (z : ℕ). eqb z 33 || eqb z 7) (sym e))
 
-refused : (q : Party) (totals sheets said : List ℕ) → q.n ≡ 5 → q.round ≡ 1 → say_judgement q totals sheets said ≡ Accepted
+refused : (q : Party) (totals sheets said : List ℕ) → q.n ≡ 5 → q.round ≡ 1 → say_judgement q totals sheets said ≡ Ok tt
     → say_left q totals sheets said ≡ get_or with_73 (q.own - 1) 0 ∷ [] → code_of (hear_judgement q totals sheets with_73 (everyone 5)) ≡ 10
 unfolding heard every messages_judgement
 refused q totals sheets said n_is round_is accepted e =

@@ -1,5 +1,5 @@
 -- The starred lines of document 01 ("Checked lines"), in its order, each of the definitions that the contracts cite. Assumes nothing.
-use Rattle.std.specs.Prelude.{◌≡◌, List, [], ◌∷◌, ℕ, ◌+◌, ◌-◌, ◌^◌, get_or, replicate}
+use Rattle.std.specs.Prelude.{◌≡◌, List, [], ◌∷◌, ℕ, ◌+◌, ◌-◌, ◌^◌, get_or, replicate, Ok, Some}
 use Rattle.fields.specs.Amount.{p, amounts}
 use Rattle.fields.specs.Byte.{bytes}
 use Rattle.refusal.specs.Refusal.{code_of}
@@ -7,12 +7,10 @@ use Rattle.sharing.specs.Polynomial.{shares}
 use Rattle.sharing.specs.Scheme.{points}
 use Rattle.weights.specs.Rows.{amount_scheme}
 use Rattle.openings.specs.Opening.{opened}
-use Rattle.openings.specs.declared.opening.Opening.TheVariants.{Secret}
 use Rattle.presence.specs.Presence.{everyone}
 use Rattle.comparison.specs.Rounds.{offset}
 use Rattle.comparison.specs.Probe.{Group, SheetCoins, SheetInRange, Probe, sheet_polynomials, secret, opened_sum, last_polynomial}
 use Rattle.record.specs.declared.Party.{Party}
-use Rattle.refusal.specs.declared.Judgement.TheVariants.{Accepted}
 use Rattle.ways.specs.Way.{Way}
 use Rattle.record.specs.Updates.{fresh}
 use Rattle.saying.specs.Say.{say_judgement, say_left}
@@ -40,9 +38,9 @@ pub record Starred : Type 0 where
   pub byte_product_2 : bytes.mul 0x57 0x13 ≡ 0xfe
   -- "n = 5, secret 7, coefficients 3, 2: 12, 21, 34, 51, 72."
   pub five_shares : shares amounts (7 ∷ 3 ∷ 2 ∷ []) (points 5) ≡ 12 ∷ 21 ∷ 34 ∷ 51 ∷ 72 ∷ []
-  pub five_open : opened amount_scheme 5 (12 ∷ 21 ∷ 34 ∷ 51 ∷ 72 ∷ []) ≡ Secret 7
+  pub five_open : opened amount_scheme 5 (12 ∷ 21 ∷ 34 ∷ 51 ∷ 72 ∷ []) ≡ Some 7
   -- "With 73 last: refusal 10", for whichever of five parties hears them in round 1 with its own word in its place, all five present
-  pub five_refused : (q : Party) (totals sheets said : List ℕ) → q.n ≡ 5 → q.round ≡ 1 → say_judgement q totals sheets said ≡ Accepted
+  pub five_refused : (q : Party) (totals sheets said : List ℕ) → q.n ≡ 5 → q.round ≡ 1 → say_judgement q totals sheets said ≡ Ok tt
       → say_left q totals sheets said ≡ get_or with_73 (q.own - 1) 0 ∷ [] → code_of (hear_judgement q totals sheets with_73 (everyone 5)) ≡ 10
   -- as the first does where the mask's share is 2^59 + 2^32 - 12 and nothing is bid
   pub five_said : say_left (fresh 5 1 1 33) (0 ∷ 0 ∷ []) ((offset - 12) ∷ replicate 253 0) (0 ∷ []) ≡ 12 ∷ []

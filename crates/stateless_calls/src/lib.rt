@@ -9,8 +9,7 @@ ghost use Rattle.settlement.specs.Write.{write_left};
 ghost use Rattle.settlement.specs.Read.{read_left};
 ghost use Rattle.stateless_calls.specs.Calls.{split_code, split_entry_code, deal_code, settlement_write_code, settlement_written, settlement_read_code};
 
-use refusal::{code, number};
-use settlement::Written;
+use refusal::code;
 
 // A party's shares of a bid.
 pub fn split(n: u64, own: u64, k: u64, table: &[u64], coins: &[u64], shares: &mut [u64]) -> u64
@@ -51,11 +50,11 @@ pub fn settlement_write(price: u64, entries: &[u64], page: &mut [u8], written: &
         × (written.new ≡ settlement_written price entries.now page.old written.old) }
 {
     match settlement::write(price, entries, page) {
-        Written::Bytes(count) => {
+        Ok(count) => {
             *written = count;
             0
         }
-        Written::Refused(why) => number(why),
+        Err(why) => u64::from(why),
     }
 }
 

@@ -14,7 +14,7 @@ ghost use Rattle.stepping.specs.After.{role, after, after_level};
 
 use comparison::{first_carry, next_carry};
 use kept_pairs::Pairs;
-use message::{byte_share, triple_share};
+use message::Sheet;
 use record::Party;
 use round::Heard;
 use search::{Search, clears, next};
@@ -26,9 +26,10 @@ pub fn after(q: Party, sheet: &[u64], heard: Heard) -> Party
         × Possible (role q) heard }
     ensures { result ≡ after q sheet.now heard }
 {
+    let sheet = Sheet { words: sheet };
     match heard {
-        Heard::Sum(sum) => in_round(q, 2, sum, begun(q, sum, sheet)),
-        Heard::Factors(d, e) => multiplied(q, sheet, d, e),
+        Heard::Sum(sum) => in_round(q, 2, sum, begun(q, sum, &sheet)),
+        Heard::Factors(d, e) => multiplied(q, &sheet, d, e),
         Heard::Verdict(v) => decided(q, next(q.search, v)),
         Heard::Total(v) => totalled(q, v),
         Heard::Unopened => q,
@@ -36,14 +37,14 @@ pub fn after(q: Party, sheet: &[u64], heard: Heard) -> Party
 }
 
 // The carry that round 1 gives: in seven rounds there is none, and the field stays.
-fn begun(q: Party, sum: u64, sheet: &[u64]) -> u64
-    requires { (every (λ w. ltb w 256) (drop 1 sheet.now) ≡ true) × (1 < length sheet.now) }
-    ensures { result ≡ cond (eqb q.last 7) q.carry (first_carry (on_shares bytes) sum (bit_share sheet.now 1)) }
+fn begun(q: Party, sum: u64, sheet: &Sheet<'_>) -> u64
+    requires { 1 < length sheet.now.words.now }
+    ensures { result ≡ cond (eqb q.last 7) q.carry (first_carry (on_shares bytes) sum (bit_share sheet.now.words.now 1)) }
 {
     if q.last == 7 {
         return q.carry;
     }
-    first_carry(sum, byte_share(sheet, 1)).0 as u64
+    first_carry(sum, sheet.byte_share(1)).0 as u64
 }
 
 // After a level of seven rounds: its pairs are kept.
@@ -51,33 +52,32 @@ pub fn after_level(q: Party, pairs: Pairs) -> Party
     requires { q.round + 1 < 2 ^ 64 }
     ensures { result ≡ after_level q pairs.words }
 {
-    let mut next = q;
-    next.round = q.round + 1;
-    next.pairs = pairs;
-    next
+    Party {
+        round: q.round + 1,
+        pairs,
+        ..q
+    }
 }
 
 // D and E are opened, so every party makes its share of the product with its shares of the triple.
-fn multiplied(q: Party, sheet: &[u64], d: u64, e: u64) -> Party
-    requires { (127 ≤ length sheet.now) × (every (λ w. ltb w 256) (drop 1 sheet.now) ≡ true) × Possible q.round (Heard.Factors d e) }
-    ensures { result ≡ after q sheet.now (Heard.Factors d e) }
+fn multiplied(q: Party, sheet: &Sheet<'_>, d: u64, e: u64) -> Party
+    requires { (127 ≤ length sheet.now.words.now) × Possible q.round (Heard.Factors d e) }
+    ensures { result ≡ after q sheet.now.words.now (Heard.Factors d e) }
 {
     let i = q.round;
-    let alpha = triple_share(sheet, i, 0);
-    let beta = triple_share(sheet, i, 1);
-    let gamma = triple_share(sheet, i, 2);
-    let carry = next_carry(q.sum, i, d as u8, e as u8, alpha, beta, gamma);
+    let carry = next_carry(q.sum, i, d as u8, e as u8, sheet.triple_shares(i));
     in_round(q, i + 1, q.sum, carry.0 as u64)
 }
 
 fn in_round(q: Party, round: u64, sum: u64, carry: u64) -> Party
     ensures { result ≡ in_round q round sum carry q.pairs }
 {
-    let mut next = q;
-    next.round = round;
-    next.sum = sum;
-    next.carry = carry;
-    next
+    Party {
+        round,
+        sum,
+        carry,
+        ..q
+    }
 }
 
 // The searches have moved, and the next probe starts with a round 1 of its own. Where they have ended at a
@@ -85,13 +85,14 @@ fn in_round(q: Party, round: u64, sum: u64, carry: u64) -> Party
 fn decided(q: Party, s: Search) -> Party
     ensures { result ≡ decided q s }
 {
-    let mut next = q;
-    next.search = s;
-    next.round = either(clears(s), 34, 1);
-    next.sum = 0;
-    next.carry = 0;
-    next.pairs = Pairs::none();
-    next
+    Party {
+        search: s,
+        round: either(clears(s), 34, 1),
+        sum: 0,
+        carry: 0,
+        pairs: Pairs::none(),
+        ..q
+    }
 }
 
 // A record is made without a branch: with one, hearing round 1 took 14 ns more.
@@ -106,9 +107,10 @@ fn totalled(q: Party, total: u64) -> Party
     requires { q.round + 1 < 2 ^ 64 }
     ensures { result ≡ totalled q total }
 {
-    let mut next = q;
-    next.round = q.round + 1;
-    next.demand = either(q.round == 34, total, q.demand);
-    next.supply = either(q.round == 34, q.supply, total);
-    next
+    Party {
+        round: q.round + 1,
+        demand: either(q.round == 34, total, q.demand),
+        supply: either(q.round == 34, q.supply, total),
+        ..q
+    }
 }

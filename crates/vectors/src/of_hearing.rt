@@ -2,7 +2,7 @@
 // supply 3, and one price, with masks of 7 and 9. Of the first search three calls are accepted, those
 // of rounds 1, 2 and 33, and of the second those of rounds 1 and 33; every other call changes one of
 // them. In all of these everyone is present. A call prints its refusal's number, or 0.
-ghost use Rattle.std.specs.Prelude.{◌≡◌, ◌≤◌, ◌<◌, length};
+ghost use Rattle.std.specs.Prelude.{◌≤◌, ◌<◌};
 
 use crate::line;
 use fields::P;
@@ -256,36 +256,24 @@ fn crooked() {
 // The least sum, one less, the greatest, one more, and 0.
 fn sums() {
     line::title(b"hear sums:");
-    hears(
-        first(),
+    for messages in [
         [1585267070981897227, 576460756598388757, 1873497451428574238],
-    );
-    hears(
-        first(),
         [432345566375050251, 576460756598388757, 720575946821727263],
-    );
-    hears(
-        first(),
         [576460758745873418, 576460756598388757, 576460754450904096],
-    );
-    hears(
-        first(),
         [1729382263352720394, 576460756598388757, 1729382259057751071],
-    );
-    hears(
-        first(),
         [1441151882906041354, 576460756598388757, 2017612639504430111],
-    );
+    ] {
+        hears(first(), messages);
+    }
     line::end();
 }
 
 // 1, 0, 2 and 255.
 fn verdicts() {
     line::title(b"hear verdicts:");
-    hears(last(), WORDS_33);
-    hears(last(), [157, 33, 188]);
-    hears(last(), [158, 33, 189]);
-    hears(last(), [144, 33, 78]);
+    for messages in [WORDS_33, [157, 33, 188], [158, 33, 189], [144, 33, 78]] {
+        hears(last(), messages);
+    }
     line::end();
 }
 
@@ -333,16 +321,23 @@ fn of_sheets(sheets: &[u64]) {
 // Party 2's sheets, each dealt with bytes that follow a rule.
 pub(crate) fn dealt() -> [u64; 254] {
     let mut sheets = [0u64; 254];
-    deal(&[7, 11], 37, 11, &mut sheets, 0);
-    deal(&[9, 13], 41, 5, &mut sheets, 127);
+    deal::<188>(2, 33, &[7, 11], 37, 11, &mut sheets[..127]);
+    deal::<188>(2, 33, &[9, 13], 41, 5, &mut sheets[127..]);
     sheets
 }
 
-fn deal(words: &[u64], step: u8, start: u8, sheets: &mut [u64], at: usize)
-    requires { (at ≤ 127) × (length sheets.old ≡ 254) }
+// One sheet, from so many drawn bytes.
+pub(crate) fn deal<const BYTES: usize>(
+    own: u64,
+    last: u64,
+    words: &[u64],
+    step: u8,
+    start: u8,
+    sheet: &mut [u64],
+)
+    requires { BYTES ≤ 343 }
 {
-    let mut bytes = [0u8; 188];
+    let mut bytes = [0u8; BYTES];
     fill(&mut bytes, step, start);
-    let to = at + 127;
-    let _ = dealer::deal(3, 2, 33, words, &bytes, &mut sheets[at..to]);
+    let _ = dealer::deal(3, own, last, words, &bytes, sheet);
 }

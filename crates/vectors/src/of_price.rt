@@ -8,7 +8,7 @@ use fields::P;
 use record::Party;
 use worked_party::{code, record, searches};
 
-const MAX: u64 = 0xffff_ffff_ffff_ffff;
+const MAX: u64 = u64::MAX;
 
 // Totals are below it.
 const TOTALS: u64 = 1 << 32;

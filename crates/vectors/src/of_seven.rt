@@ -3,14 +3,13 @@
 // 33. A call prints its refusal's number, or 0.
 ghost use Rattle.std.specs.Prelude.{◌≡◌, ◌≤◌, ◌<◌, length};
 
-use crate::of_hearing::{TOTALS, WORDS_1, WORDS_33};
+use crate::of_hearing::{TOTALS, WORDS_1, WORDS_33, deal};
 use crate::{line, of_hearing};
 use kept_pairs::Pairs;
 use record::Party;
 use worked_party::{code, whole};
-use worked_shares::fill;
 
-const MAX: u64 = 0xffff_ffff_ffff_ffff;
+const MAX: u64 = u64::MAX;
 
 const EVERYONE: [u8; 3] = [1, 1, 1];
 
@@ -169,16 +168,7 @@ fn say(own: u64, messages: &mut [u64], at: usize)
 // A party's sheets, dealt by the rules of `of_hearing`.
 fn dealt(own: u64) -> [u64; 440] {
     let mut sheets = [0u64; 440];
-    deal(own, &[7, 11], 37, 11, &mut sheets, 0);
-    deal(own, &[9, 13], 41, 5, &mut sheets, 220);
+    deal::<343>(own, 7, &[7, 11], 37, 11, &mut sheets[..220]);
+    deal::<343>(own, 7, &[9, 13], 41, 5, &mut sheets[220..]);
     sheets
-}
-
-fn deal(own: u64, words: &[u64], step: u8, start: u8, sheets: &mut [u64], at: usize)
-    requires { (at ≤ 220) × (length sheets.old ≡ 440) }
-{
-    let mut bytes = [0u8; 343];
-    fill(&mut bytes, step, start);
-    let to = at + 220;
-    let _ = dealer::deal(3, own, 7, words, &bytes, &mut sheets[at..to]);
 }

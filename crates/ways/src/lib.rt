@@ -1,4 +1,5 @@
-// The two ways to a verdict: by the last round of a probe, 33 or 7.
+// The two ways to a verdict: by the last round of a probe, 33 or 7. The way is that number and no enum, since
+// `record_words::party_of` reads it from any word, and `record::sound` judges it.
 #![tactic(auto)]
 
 ghost use Rattle.std.specs.Prelude.{◌≡◌, ◌*◌, ◌^◌, ◌≤◌, ◌<◌};

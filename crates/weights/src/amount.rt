@@ -2,6 +2,7 @@
 ghost use Rattle.std.specs.Prelude.{◌≡◌, [], ◌-◌, min, get_or};
 ghost use Rattle.weights.specs.Rows.{amount_rows};
 
+use crate::row::row;
 use fields::P;
 
 // The weights of n parties stand in row n - 3.
@@ -15,23 +16,9 @@ const WEIGHTS: [[u64; 9]; 7] = [
     [9, P - 36, 84, P - 126, 126, P - 84, 36, P - 9, 1],
 ];
 
-// The row of n parties; of fewer than 3 that of 3, of more than 9 that of 9. Each arm reads the table at a
-// place that the compiler knows, so no more than one row is written to the stack.
+// The row of n parties; of fewer than 3 that of 3, of more than 9 that of 9.
 pub fn amount_row(n: u64) -> [u64; 9]
     ensures { result ≡ get_or amount_rows (min (n - 3) 6) [] }
 {
-    let rows = WEIGHTS;
-    if n <= 3 {
-        return rows[0];
-    }
-    if 9 <= n {
-        return rows[6];
-    }
-    match n {
-        4 => rows[1],
-        5 => rows[2],
-        6 => rows[3],
-        7 => rows[4],
-        _ => rows[5],
-    }
+    row(WEIGHTS, n)
 }

@@ -2,6 +2,8 @@
 ghost use Rattle.std.specs.Prelude.{◌≡◌, [], ◌-◌, min, get_or};
 ghost use Rattle.weights.specs.Rows.{byte_rows};
 
+use crate::row::row;
+
 // The weights of n parties stand in row n - 3.
 const WEIGHTS: [[u8; 9]; 7] = [
     [1, 1, 1, 0, 0, 0, 0, 0, 0],
@@ -13,22 +15,9 @@ const WEIGHTS: [[u8; 9]; 7] = [
     [1, 65, 65, 57, 57, 83, 83, 42, 42],
 ];
 
-// As `amount_row`.
+// The row of n parties; of fewer than 3 that of 3, of more than 9 that of 9.
 pub fn byte_row(n: u64) -> [u8; 9]
     ensures { result ≡ get_or byte_rows (min (n - 3) 6) [] }
 {
-    let rows = WEIGHTS;
-    if n <= 3 {
-        return rows[0];
-    }
-    if 9 <= n {
-        return rows[6];
-    }
-    match n {
-        4 => rows[1],
-        5 => rows[2],
-        6 => rows[3],
-        7 => rows[4],
-        _ => rows[5],
-    }
+    row(WEIGHTS, n)
 }

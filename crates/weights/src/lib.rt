@@ -3,6 +3,7 @@
 
 mod amount;
 mod byte;
+mod row;
 
 pub use amount::amount_row;
 pub use byte::byte_row;

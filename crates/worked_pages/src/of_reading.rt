@@ -14,7 +14,7 @@ pub(crate) fn print() {
 // The page of two lines, at 110 pence.
 fn page() -> [u8; 122] {
     let mut page = [0u8; 122];
-    write(110, &two_lines(), &mut page);
+    let _ = write(110, &two_lines(), &mut page);
     page
 }
 

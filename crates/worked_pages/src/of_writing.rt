@@ -1,6 +1,7 @@
 // Pages that are written.
+use refusal::Refusal;
 use report::{end, number, title};
-use settlement::{ENTRIES, Written, write};
+use settlement::{ENTRIES, write};
 
 // Standard output's descriptor.
 const STDOUT_FILENO: i32 = 1;
@@ -20,11 +21,8 @@ pub(crate) fn print() {
 }
 
 // How many bytes were written, or the refusal's number.
-pub(crate) fn told(written: Written) -> u64 {
-    match written {
-        Written::Bytes(count) => count,
-        Written::Refused(why) => refusal::number(why),
-    }
+pub(crate) fn told(written: Result<u64, Refusal>) -> u64 {
+    written.unwrap_or_else(u64::from)
 }
 
 // Bidder 1 buys 15 tenths of the 20 that it wants, and bidder 2 sells its 15, at 110 pence.
@@ -76,10 +74,9 @@ fn smallest() {
 
 fn prices() {
     title(b"settlement prices:");
-    at_price(0);
-    at_price(1);
-    at_price(1_000_000);
-    at_price(1_000_001);
+    for price in [0, 1, 1_000_000, 1_000_001] {
+        at_price(price);
+    }
     end();
 }
 

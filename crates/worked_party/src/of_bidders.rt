@@ -6,7 +6,7 @@ use fields::P;
 use record::Party;
 use roll::Roll;
 
-const MAX: u64 = 0xffff_ffff_ffff_ffff;
+const MAX: u64 = u64::MAX;
 
 pub(crate) fn print() {
     resent();
@@ -59,11 +59,9 @@ fn counts() {
 // and one beside those of every bidder, which makes 1,001.
 fn marks() {
     line::title(b"add marks:");
-    with_mark(1, 1000);
-    with_mark(1, 0);
-    with_mark(1, 1001);
-    with_mark(1, 1023);
-    with_mark(0, 1023);
+    for (bids, place) in [(1, 1000), (1, 0), (1, 1001), (1, 1023), (0, 1023)] {
+        with_mark(bids, place);
+    }
     adds(holding(1001, all_but_500().mark(500).mark(0)), 7);
     line::end();
 }
@@ -98,9 +96,7 @@ fn all_but_500() -> Roll {
 // 14, if that is the number of every bidder's bid.
 fn every(q: Party) {
     let mut same = true;
-    let mut bidder = 0;
-    while bidder < 1000 {
-        bidder += 1;
+    for bidder in 1..=1000 {
         same = same & (number_of(q, bidder, P - 1, 1) == 14);
     }
     if same {

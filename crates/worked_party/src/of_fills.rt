@@ -2,10 +2,9 @@
 // refusals, a call prints its refusal's number, or 0.
 use crate::line;
 use crate::records::{at_price, fresh, no_price, second};
-use filling::Filled;
 use record::Party;
 
-const MAX: u64 = 0xffff_ffff_ffff_ffff;
+const MAX: u64 = u64::MAX;
 
 // The largest amount, and a thousand bids of it.
 const MOST: u64 = 4_194_303;
@@ -28,11 +27,9 @@ pub(crate) fn print() {
 // Of a demand of 7 five are supplied. To bids of 3, 3 and 1 they come to 2, 2 and 0, and one is left over.
 fn sevenths() {
     line::title(b"fills, 5 of 7:");
-    filled(7, 5, 0);
-    filled(7, 5, 1);
-    filled(7, 5, 3);
-    filled(7, 5, 6);
-    filled(7, 5, 7);
+    for amount in [0, 1, 3, 6, 7] {
+        filled(7, 5, amount);
+    }
     line::end();
 }
 
@@ -81,12 +78,9 @@ fn rounds() {
 }
 
 fn each_round(q: Party) {
-    in_round(q, 1);
-    in_round(q, 33);
-    in_round(q, 34);
-    in_round(q, 35);
-    in_round(q, 36);
-    in_round(q, 37);
+    for round in [1, 33, 34, 35, 36, 37] {
+        in_round(q, round);
+    }
     line::end();
 }
 
@@ -98,9 +92,9 @@ fn in_round(q: Party, round: u64) {
 
 fn amounts() {
     line::title(b"fill amounts:");
-    fills(36, 7, 5, MOST);
-    fills(36, 7, 5, MOST + 1);
-    fills(36, 7, 5, MAX);
+    for amount in [MOST, MOST + 1, MAX] {
+        fills(36, 7, 5, amount);
+    }
     line::end();
 }
 
@@ -123,11 +117,8 @@ fn opened(round: u64, demand: u64, supply: u64) -> Party {
 
 fn filled(demand: u64, supply: u64, amount: u64) {
     match filling::fill(opened(36, demand, supply), amount) {
-        Filled::Hours(got, left) => {
-            line::number(got);
-            line::number(left);
-        }
-        Filled::Refused(_) => line::word(b"refused"),
+        Ok(hours) => line::numbers(&[hours.got, hours.remainder]),
+        Err(_) => line::word(b"refused"),
     }
 }
 
@@ -136,8 +127,5 @@ fn fills(round: u64, demand: u64, supply: u64, amount: u64) {
 }
 
 fn number_of(q: Party, amount: u64) -> u64 {
-    match filling::fill(q, amount) {
-        Filled::Hours(_, _) => 0,
-        Filled::Refused(why) => refusal::number(why),
-    }
+    refusal::code(filling::fill(q, amount).map(|_| ()))
 }

@@ -203,8 +203,8 @@ pub(crate) fn said_code(q: Party, totals: &[u64], sheets: &[u64]) {
 pub(crate) fn said(q: Party, totals: &[u64], sheets: &[u64]) {
     let mut word = [0u64; 1];
     match saying::say(q, totals, sheets, &mut word) {
-        Judgement::Accepted => line::numbers(&word),
-        Judgement::Refused(_) => line::word(b"refused"),
+        Ok(()) => line::numbers(&word),
+        Err(_) => line::word(b"refused"),
     }
 }
 

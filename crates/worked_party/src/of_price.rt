@@ -9,7 +9,7 @@ use fields::P;
 use record::Party;
 use search::Search;
 
-const MAX: u64 = 0xffff_ffff_ffff_ffff;
+const MAX: u64 = u64::MAX;
 
 // Demand at the seven prices, then supply.
 const TOTALS: [u64; 14] = [11, 12, 13, 14, 15, 16, 17, 21, 22, 23, 24, 25, 26, 27];
@@ -104,11 +104,9 @@ fn holds(round: u64, demand: u64, supply: u64) {
 // Rounds 33 to 37.
 fn answers() {
     line::title(b"answers at the price:");
-    answer(at_two(33));
-    answer(at_two(34));
-    answer(at_two(35));
-    answer(at_two(36));
-    answer(at_two(37));
+    for round in 33..38 {
+        answer(at_two(round));
+    }
     line::end();
 }
 

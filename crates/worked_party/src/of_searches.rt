@@ -2,10 +2,9 @@
 // refusal 1 that bounds them is broken, by a record that differs from a sound one in one place. Asking
 // judges the record, and prints 1; or 3, where it is sound and not over; or 0.
 use crate::line;
-use crate::records::{answer, fresh, searches};
+use crate::records::{answer, asked, fresh, searches};
 use record::Party;
 use search::Search;
-use session::Answer;
 
 pub(crate) fn print() {
     firsts();
@@ -105,12 +104,16 @@ fn finished() {
 // The first gave 7, and the lowest is 4, 3, or none; it gave 0; the second goes on, and the first.
 fn answers() {
     line::title(b"answers of seven prices:");
-    answer(searching(searches(2, 3, 4, 6, 7, 3)));
-    answer(searching(searches(2, 2, 3, 6, 7, 3)));
-    answer(searching(searches(2, 7, 8, 6, 7, 3)));
-    answer(searching(searches(2, 0, 1, 3, 0, 3)));
-    answer(searching(searches(2, 2, 4, 5, 7, 3)));
-    answer(searching(searches(1, 4, 8, 1, 0, 0)));
+    for s in [
+        searches(2, 3, 4, 6, 7, 3),
+        searches(2, 2, 3, 6, 7, 3),
+        searches(2, 7, 8, 6, 7, 3),
+        searches(2, 0, 1, 3, 0, 3),
+        searches(2, 2, 4, 5, 7, 3),
+        searches(1, 4, 8, 1, 0, 0),
+    ] {
+        answer(searching(s));
+    }
     line::end();
 }
 
@@ -126,8 +129,5 @@ fn searching(s: Search) -> Party {
 }
 
 fn asks(s: Search) {
-    match session::answer(searching(s)) {
-        Answer::Cleared(_, _) => line::number(0),
-        Answer::Refused(why) => line::number(refusal::number(why)),
-    }
+    asked(searching(s));
 }

@@ -3,12 +3,12 @@
 ghost use Rattle.std.specs.Prelude.{◌<◌, ◌≤◌};
 
 use crate::line;
-use crate::records::{at_price, code, fresh, no_price, whole};
+use crate::records::{asked, at_price, code, fresh, no_price, whole};
 use kept_pairs::Pairs;
 use record::Party;
-use session::Answer;
+use worked_shares::fill;
 
-const MAX: u64 = 0xffff_ffff_ffff_ffff;
+const MAX: u64 = u64::MAX;
 
 // T: bits 1 to 33 are not all 0, nor all 1.
 const SUM: u64 = 0x0765_4321_9abc_def1;
@@ -26,13 +26,9 @@ pub(crate) fn print() {
 // 33 and 7, and five others.
 fn opens() {
     line::title(b"open last rounds:");
-    opening(33);
-    opening(7);
-    opening(8);
-    opening(6);
-    opening(32);
-    opening(34);
-    opening(0);
+    for last in [33, 7, 8, 6, 32, 34, 0] {
+        opening(last);
+    }
     line::end();
 
     line::title(b"opened for seven rounds:");
@@ -51,26 +47,17 @@ fn opening(last: u64) {
 // round would be 8.
 fn records() {
     line::title(b"answer records of seven rounds:");
-    in_round(fresh(), 0);
-    in_round(fresh(), 1);
-    in_round(fresh(), 7);
-    in_round(fresh(), 8);
-    in_round(fresh(), 33);
-    in_round(fresh(), 34);
-    in_round(at_price(1), 33);
-    in_round(at_price(1), 34);
-    in_round(at_price(1), 35);
-    in_round(at_price(1), 36);
-    in_round(at_price(1), 37);
+    for round in [0, 1, 7, 8, 33, 34] {
+        asked(seven(fresh(), round));
+    }
+    for round in 33..38 {
+        asked(seven(at_price(1), round));
+    }
     let mut q = fresh();
     q.last = 8;
     q.round = 8;
     asked(q);
     line::end();
-}
-
-fn in_round(q: Party, round: u64) {
-    asked(seven(q, round));
 }
 
 // A pair share is at most 255, in seven rounds and in 33.
@@ -97,14 +84,6 @@ fn keeping(last: u64, at: usize, share: u64)
     q.last = last;
     q.pairs = pairs;
     asked(q);
-}
-
-// The record is judged first, and then whether the session is over.
-fn asked(q: Party) {
-    match session::answer(q) {
-        Answer::Cleared(_, _) => line::number(0),
-        Answer::Refused(why) => line::number(refusal::number(why)),
-    }
 }
 
 // In round 2 the pairs are read from T and the sheet, and what is kept is not looked at.
@@ -139,17 +118,6 @@ fn says(round: u64, said: &mut [u64]) {
     line::number(refusal::code(judgement));
     line::numbers(&said[..]);
     line::end();
-}
-
-// Word i is start + i * step, modulo 256.
-fn fill(words: &mut [u64], step: u8, start: u8) {
-    let mut next = start;
-    let mut i = 0;
-    while i < words.len() {
-        words[i] = next as u64;
-        next = std::num::wrapping_add_u8(next, step);
-        i += 1;
-    }
 }
 
 // In each round as many words as it has, one fewer, and one more. Then where the session is over, at a price

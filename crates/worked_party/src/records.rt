@@ -69,17 +69,14 @@ pub(crate) fn two() -> Roll {
 }
 
 pub fn code(reply: Reply) -> u64 {
-    let judgement = reply.judgement;
-    refusal::code(judgement)
+    refusal::code(reply.judgement)
 }
 
 // The record that an accepted call gives.
 pub fn record(reply: Reply) {
-    let judgement = reply.judgement;
-    let q = reply.party;
-    match judgement {
-        Judgement::Accepted => party(q),
-        Judgement::Refused(_) => line::word(b"refused"),
+    match reply.judgement {
+        Ok(()) => party(reply.party),
+        Err(_) => line::word(b"refused"),
     }
 }
 
@@ -87,45 +84,44 @@ pub fn record(reply: Reply) {
 pub fn whole(reply: Reply) {
     record(reply);
     let q = reply.party;
-    let pairs = q.pairs;
-    let kept = pairs.words;
     line::number(q.last);
-    line::numbers(&kept);
+    line::numbers(&q.pairs.words);
 }
 
 // The index and the probes.
 pub(crate) fn answer(q: Party) {
     match session::answer(q) {
-        Answer::Cleared(index, probes) => {
-            line::number(index);
-            line::number(probes);
+        Ok(answer) => {
+            line::number(answer.price);
+            line::number(answer.probes);
         }
-        Answer::Refused(why) => {
+        Err(why) => {
             line::word(b"refused");
-            line::number(refusal::number(why));
+            line::number(u64::from(why));
         }
     }
+}
+
+// The record is judged first, and then whether the session is over.
+pub(crate) fn asked(q: Party) {
+    line::number(refusal::code(session::answer(q).map(|_| ())));
 }
 
 // Ten numbers, the 16 words of its roll, what the ten leave out of its searches, and the totals.
 pub(crate) fn party(q: Party) {
     let s = q.search;
-    line::number(q.n);
-    line::number(q.own);
-    line::number(q.k);
-    line::number(q.bids);
-    line::number(s.bracket.lo);
-    line::number(s.bracket.hi);
-    line::number(s.probes);
-    line::number(q.round);
-    line::number(q.sum);
-    line::number(q.carry);
-    let roll = q.roll;
-    let words = roll.words;
-    line::numbers(&words);
-    line::number(s.which);
-    line::number(s.first);
-    line::number(s.spent);
-    line::number(q.demand);
-    line::number(q.supply);
+    line::numbers(&[
+        q.n,
+        q.own,
+        q.k,
+        q.bids,
+        s.bracket.lo,
+        s.bracket.hi,
+        s.probes,
+        q.round,
+        q.sum,
+        q.carry,
+    ]);
+    line::numbers(&q.roll.words);
+    line::numbers(&[s.which, s.first, s.spent, q.demand, q.supply]);
 }

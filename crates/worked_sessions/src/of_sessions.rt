@@ -5,7 +5,7 @@
 // not. `differ` stands where the parties do not agree, and `refused` where the first gives no answer.
 // In seven rounds a line has the words of its own, and all else is what it is in 33.
 //
-// An array that a call gives is bound before it is stored: the checker has no rule for both at once.
+// The array that a round gives is bound before it is stored: the checker has no rule for both at once.
 ghost use Rattle.std.specs.Prelude.{◌≡◌, ◌*◌, ◌≤◌, ◌<◌, length};
 ghost use Rattle.ways.specs.Way.{way_of, sheet_size};
 
@@ -14,13 +14,12 @@ use fields::AmountShare;
 use panel::{add_all, deal_each, open_all};
 use panel_rounds::{hear_all, say_all};
 use record::Party;
-use roll::Roll;
 use search::Search;
 use session::Answer;
 use sharing::threshold;
 use ways::{drawn_bytes, sheets_words, width};
 
-const MAX: u64 = 0xffff_ffff_ffff_ffff;
+const MAX: u64 = u64::MAX;
 
 #[derive(Clone, Copy)]
 struct Bid {
@@ -202,13 +201,10 @@ fn add_bids(
 {
     let first = bids[0];
     let mut now = parties;
-    let mut bid = 0;
-    while bid < count {
-        let added = add_bid(n, now, totals, bids[bid], bid as u64 + 1);
+    for (i, bid) in bids[..count].iter().enumerate() {
+        let added = add_bid(n, now, totals, *bid, i as u64 + 1);
         again(added[0], first.bidder);
-        let left = add_bid(n, added, totals, first, 1);
-        now = left;
-        bid += 1;
+        now = add_bid(n, added, totals, first, 1);
     }
     now
 }
@@ -229,21 +225,17 @@ fn add_bid(n: u64, parties: [Party; 9], totals: &mut [u64], bid: Bid, seed: u64)
 fn again(q: Party, bidder: u64) {
     let mut totals = [0u64; 8];
     let reply = session::add(q, &mut totals, bidder, &[1; 8]);
-    let judgement = reply.judgement;
     report::word(b"again");
-    report::number(refusal::code(judgement));
+    report::number(refusal::code(reply.judgement));
 }
 
 // Every probe has a sheet from draws of its own.
 fn deal_all(n: u64, last: u64, sheets: &mut [u64])
     requires { (3 ≤ n) × (n ≤ 9) × (length sheets.old ≡ n * (sheet_size (way_of last) * 6)) }
 {
-    deal_probe(n, last, 0, sheets);
-    deal_probe(n, last, 1, sheets);
-    deal_probe(n, last, 2, sheets);
-    deal_probe(n, last, 3, sheets);
-    deal_probe(n, last, 4, sheets);
-    deal_probe(n, last, 5, sheets);
+    for probe in 0..6 {
+        deal_probe(n, last, probe, sheets);
+    }
 }
 
 fn deal_probe(n: u64, last: u64, probe: usize, sheets: &mut [u64])
@@ -282,15 +274,13 @@ fn probe_all(
     requires { (1 ≤ n) × (n ≤ 9) × (length totals.now ≡ n * 8) × (length sheets.now ≡ n * (sheet_size (way_of kind.last) * 6)) }
 {
     let mut now = parties;
-    let mut probe: usize = 0;
-    while probe < 6 {
+    for _ in 0..6 {
         let first = now[0];
         if !search::finished(first.search) {
             let heard = rounds(n, kind, now, totals, sheets, digest);
             now = heard;
             probed(n as usize, now, first.search);
         }
-        probe += 1;
     }
     now
 }
@@ -326,35 +316,26 @@ fn verdict(which: u64, after: Search, index: u64) {
     } else {
         after.bracket.lo
     };
-    if moved == index {
-        report::number(1);
-    } else {
-        report::number(0);
-    }
+    report::number(u64::from(moved == index));
 }
 
 // Whether each stands where q does.
 fn all_at(n: usize, parties: [Party; 9], q: Party) -> bool
     requires { n ≤ 9 }
 {
-    let mut same = true;
-    let mut i = 0;
-    while i < n {
-        same = same & stands(parties[i], q);
-        i += 1;
-    }
-    same
+    parties[..n].iter().all(|p| stands(*p, q))
 }
 
 fn stands(p: Party, q: Party) -> bool {
     same_search(p.search, q.search)
         & (p.round == q.round)
         & (p.bids == q.bids)
-        & same_roll(p.roll, q.roll)
+        & (p.roll.words == q.roll.words)
         & (p.demand == q.demand)
         & (p.supply == q.supply)
 }
 
+// Field by field: a search derives no equality.
 fn same_search(s: Search, r: Search) -> bool {
     (s.which == r.which)
         & (s.bracket.lo == r.bracket.lo)
@@ -362,18 +343,6 @@ fn same_search(s: Search, r: Search) -> bool {
         & (s.probes == r.probes)
         & (s.first == r.first)
         & (s.spent == r.spent)
-}
-
-fn same_roll(r: Roll, s: Roll) -> bool {
-    let a = r.words;
-    let b = s.words;
-    let mut same = true;
-    let mut i = 0;
-    while i < 16 {
-        same = same & (a[i] == b[i]);
-        i += 1;
-    }
-    same
 }
 
 // A probe's rounds.
@@ -388,11 +357,9 @@ fn rounds(
     requires { (1 ≤ n) × (n ≤ 9) × (length totals.now ≡ n * 8) × (length sheets.now ≡ n * (sheet_size (way_of kind.last) * 6)) }
 {
     let mut now = parties;
-    let mut round: u64 = 0;
-    while round < kind.last {
+    for _ in 0..kind.last {
         let heard = say_and_hear(n, kind, now, totals, sheets, digest);
         now = heard;
-        round += 1;
     }
     now
 }
@@ -499,10 +466,8 @@ fn who_is_there(n: u64, away: bool) -> usize
 
 // In the place of the others stands what nobody could have said.
 fn silence(messages: &mut [u64], spoken: usize) {
-    let mut i = spoken;
-    while i < messages.len() {
-        messages[i] = MAX;
-        i += 1;
+    for message in messages.iter_mut().skip(spoken) {
+        *message = MAX;
     }
 }
 
@@ -511,21 +476,15 @@ fn marks(there: usize) -> [u8; 9]
     requires { there ≤ 9 }
 {
     let mut present = [0u8; 9];
-    let mut i = 0;
-    while i < there {
-        present[i] = 1;
-        i += 1;
-    }
+    present[..there].fill(1);
     present
 }
 
 // The digest after these words.
 fn digested(digest: u64, words: &[u64]) -> u64 {
     let mut after = digest;
-    let mut i = 0;
-    while i < words.len() {
-        after = with_word(after, words[i]);
-        i += 1;
+    for word in words {
+        after = with_word(after, *word);
     }
     after
 }
@@ -542,36 +501,30 @@ fn answer_all(n: usize, parties: [Party; 9])
     requires { n ≤ 9 }
 {
     match session::answer(parties[0]) {
-        Answer::Cleared(index, probes) => {
+        Ok(answer) => {
             report::word(b"clears");
-            if all_cleared(n, parties, index, probes) {
-                report::number(index);
+            if all_cleared(n, parties, answer) {
+                report::number(answer.price);
                 report::word(b"probes");
-                report::number(probes);
+                report::number(answer.probes);
             } else {
                 report::word(b"differ");
             }
         }
-        Answer::Refused(_) => report::word(b"refused"),
+        Err(_) => report::word(b"refused"),
     }
 }
 
-fn all_cleared(n: usize, parties: [Party; 9], index: u64, probes: u64) -> bool
+fn all_cleared(n: usize, parties: [Party; 9], answer: Answer) -> bool
     requires { n ≤ 9 }
 {
-    let mut same = true;
-    let mut i = 0;
-    while i < n {
-        same = same & cleared(parties[i], index, probes);
-        i += 1;
-    }
-    same
+    parties[..n].iter().all(|q| cleared(*q, answer))
 }
 
-fn cleared(q: Party, index: u64, probes: u64) -> bool {
+fn cleared(q: Party, answer: Answer) -> bool {
     match session::answer(q) {
-        Answer::Cleared(at, made) => (at == index) & (made == probes),
-        Answer::Refused(_) => false,
+        Ok(given) => (given.price == answer.price) & (given.probes == answer.probes),
+        Err(_) => false,
     }
 }
 
@@ -597,9 +550,7 @@ fn totals_all(n: usize, parties: [Party; 9])
 fn end(q: Party, digest: u64) {
     report::word(b"bidders");
     let roll = q.roll;
-    let mut bidder = 0;
-    while bidder < 1000 {
-        bidder += 1;
+    for bidder in 1..=1000 {
         if roll.marked(bidder) {
             report::number(bidder);
         }

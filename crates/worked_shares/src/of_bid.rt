@@ -4,7 +4,7 @@ ghost use Rattle.std.specs.Prelude.{◌≤◌, length};
 
 use fields::P;
 
-const MAX: u64 = 0xffff_ffff_ffff_ffff;
+const MAX: u64 = u64::MAX;
 
 pub(crate) fn print() {
     amounts();

@@ -153,14 +153,12 @@ fn seven() {
     report::end();
 }
 
-// Byte i is start + i * step, modulo 256.
-pub fn fill(bytes: &mut [u8], step: u8, start: u8) {
+// Place i holds start + i * step, modulo 256, as a byte or as a word.
+pub fn fill<T: From<u8> + Copy>(places: &mut [T], step: u8, start: u8) {
     let mut next = start;
-    let mut i = 0;
-    while i < bytes.len() {
-        bytes[i] = next;
-        next = std::num::wrapping_add_u8(next, step);
-        i += 1;
+    for place in places.iter_mut() {
+        *place = T::from(next);
+        next = next.wrapping_add(step);
     }
 }
 

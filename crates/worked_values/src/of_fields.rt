@@ -1,8 +1,8 @@
 // FIPS 197's worked sums and products, further ones, and amounts at the edges of their range.
 use byte_rows::multiples;
-use fields::{AmountShare, BitShare, P, exponent, log, log_table, power, power_table};
+use fields::{AmountShare, BitShare, ByteTables, P, exponent};
 
-const MAX: u64 = 0xffff_ffff_ffff_ffff;
+const MAX: u64 = u64::MAX;
 
 pub(crate) fn print() {
     worked_products();
@@ -17,12 +17,9 @@ pub(crate) fn print() {
 fn worked_products() {
     report::title(b"FIPS 197 sum, products:");
     report::byte(BitShare(0x57).add(BitShare(0x83)).0);
-    product(0x57, 0x83);
-    product(0x57, 0x02);
-    product(0x57, 0x04);
-    product(0x57, 0x08);
-    product(0x57, 0x10);
-    product(0x57, 0x13);
+    for b in [0x83, 0x02, 0x04, 0x08, 0x10, 0x13] {
+        product(0x57, b);
+    }
     report::end();
 }
 
@@ -42,49 +39,32 @@ fn byte_products() {
 
 // The last power is the first again. The exponent of a product may be 255 as well as 0.
 fn powers_and_logarithms() {
+    let tables = ByteTables::new();
     report::title(b"powers of 03h:");
-    power_of(0);
-    power_of(1);
-    power_of(2);
-    power_of(25);
-    power_of(254);
-    power_of(255);
+    for n in [0, 1, 2, 25, 254, 255] {
+        report::byte(tables.power(n));
+    }
     report::end();
 
     report::title(b"their logarithms:");
-    logarithm_of(0x01);
-    logarithm_of(0x03);
-    logarithm_of(0x05);
-    logarithm_of(0x02);
-    logarithm_of(0xf6);
-    logarithm_of(power(&power_table(), 255));
+    for a in [0x01, 0x03, 0x05, 0x02, 0xf6, tables.power(255)] {
+        report::number(u64::from(tables.log(a)));
+    }
     report::end();
 
     report::title(b"exponents of products:");
-    report::number(exponent(0, 0) as u64);
-    report::number(exponent(200, 55) as u64);
-    report::number(exponent(200, 56) as u64);
-    report::number(exponent(254, 254) as u64);
+    for (a, b) in [(0, 0), (200, 55), (200, 56), (254, 254)] {
+        report::number(u64::from(exponent(a, b)));
+    }
     report::end();
-}
-
-fn power_of(n: u8) {
-    report::byte(power(&power_table(), n));
-}
-
-fn logarithm_of(a: u8) {
-    report::number(log(&log_table(), a) as u64);
 }
 
 fn rows() {
     report::title(b"multiples of 57h by 0, 1, 2, 19, 131, 255:");
     let row = multiples(0x57);
-    report::byte(row[0]);
-    report::byte(row[1]);
-    report::byte(row[2]);
-    report::byte(row[0x13]);
-    report::byte(row[0x83]);
-    report::byte(row[0xff]);
+    for i in [0, 1, 2, 0x13, 0x83, 0xff] {
+        report::byte(row[i]);
+    }
     report::end();
 }
 
@@ -101,11 +81,9 @@ fn amount_sums() {
 
 fn amount_differences() {
     report::title(b"amount differences:");
-    difference(0, 0);
-    difference(0, 1);
-    difference(P, P - 1);
-    difference(1, MAX);
-    difference(MAX, 0);
+    for (a, b) in [(0, 0), (0, 1), (P, P - 1), (1, MAX), (MAX, 0)] {
+        difference(a, b);
+    }
     report::end();
 }
 

@@ -4,7 +4,7 @@ ghost use Rattle.std.specs.Prelude.{◌≡◌, ◌+◌, ◌<◌};
 
 use search::{Bracket, Search};
 
-const MAX: u64 = 0xffff_ffff_ffff_ffff;
+const MAX: u64 = u64::MAX;
 
 pub(crate) fn print() {
     limits();
@@ -22,50 +22,35 @@ pub(crate) fn print() {
 
 fn limits() {
     report::title(b"probe limits:");
-    limit(0);
-    limit(1);
-    limit(2);
-    limit(3);
-    limit(4);
-    limit(7);
-    limit(8);
-    limit(1023);
-    limit(1024);
-    limit(MAX);
+    for k in [0, 1, 2, 3, 4, 7, 8, 1023, 1024, MAX] {
+        report::number(search::limit(k));
+    }
     report::end();
 }
 
 // 2P.
 fn most() {
     report::title(b"probe limits of both searches:");
-    report::number(search::most_probes(0));
-    report::number(search::most_probes(1));
-    report::number(search::most_probes(4));
-    report::number(search::most_probes(1024));
-    report::number(search::most_probes(MAX));
+    for k in [0, 1, 4, 1024, MAX] {
+        report::number(search::most_probes(k));
+    }
     report::end();
 }
 
 fn middles() {
     report::title(b"middles:");
-    middle(0, 5);
-    middle(2, 5);
-    middle(3, 4);
-    middle(MAX, MAX);
-    middle(MAX - 1, MAX);
-    middle(9, 2);
+    for (lo, hi) in [(0, 5), (2, 5), (3, 4), (MAX, MAX), (MAX - 1, MAX), (9, 2)] {
+        report::number(search::middle(Bracket { lo, hi }));
+    }
     report::end();
 }
 
 // Neighbours; further apart; the same; and the wrong way round.
 fn ends() {
     report::title(b"brackets:");
-    over(0, 1);
-    over(MAX - 1, MAX);
-    over(0, 2);
-    over(0, MAX);
-    over(2, 2);
-    over(2, 1);
+    for (lo, hi) in [(0, 1), (MAX - 1, MAX), (0, 2), (0, MAX), (2, 2), (2, 1)] {
+        end_word(search::over(Bracket { lo, hi }));
+    }
     report::end();
 }
 
@@ -119,10 +104,14 @@ fn other_verdicts() {
 // The second, where its ends are neighbours and where they are not; and no other search.
 fn finishes() {
     report::title(b"finished:");
-    end_word(search::finished(searches(2, 1, 2, 4, 2, 2)));
-    end_word(search::finished(searches(2, 1, 3, 3, 2, 2)));
-    end_word(search::finished(searches(1, 1, 2, 4, 2, 2)));
-    end_word(search::finished(searches(3, 1, 2, 4, 2, 2)));
+    for s in [
+        searches(2, 1, 2, 4, 2, 2),
+        searches(2, 1, 3, 3, 2, 2),
+        searches(1, 1, 2, 4, 2, 2),
+        searches(3, 1, 2, 4, 2, 2),
+    ] {
+        end_word(search::finished(s));
+    }
     report::end();
 }
 
@@ -130,11 +119,9 @@ fn finishes() {
 // where the sum is too large for a u64.
 fn prices() {
     report::title(b"price indices:");
-    price(7, 4);
-    price(7, 3);
-    price(7, 7);
-    price(7, 1);
-    price(7, 8);
+    for hi in [4, 3, 7, 1, 8] {
+        price(7, hi);
+    }
     price(0, 1);
     price(MAX, MAX);
     price(MAX, 1);
@@ -145,32 +132,16 @@ fn prices() {
 // and the first is on.
 fn clearances() {
     report::title(b"ended at a price:");
-    clears(searches(2, 1, 2, 4, 2, 2));
-    clears(searches(2, 2, 3, 4, 2, 2));
-    clears(searches(2, 0, 1, 2, 0, 2));
-    clears(searches(2, 1, 3, 3, 2, 2));
-    clears(searches(1, 1, 2, 4, 2, 2));
-    report::end();
-}
-
-fn limit(k: u64) {
-    report::number(search::limit(k));
-}
-
-fn middle(lo: u64, hi: u64) {
-    report::number(search::middle(Bracket { lo, hi }));
-}
-
-fn over(lo: u64, hi: u64) {
-    end_word(search::over(Bracket { lo, hi }));
-}
-
-fn clears(s: Search) {
-    if search::clears(s) {
-        report::word(b"yes");
-    } else {
-        report::word(b"no");
+    for s in [
+        searches(2, 1, 2, 4, 2, 2),
+        searches(2, 2, 3, 4, 2, 2),
+        searches(2, 0, 1, 2, 0, 2),
+        searches(2, 1, 3, 3, 2, 2),
+        searches(1, 1, 2, 4, 2, 2),
+    ] {
+        report::yes_or_no(search::clears(s));
     }
+    report::end();
 }
 
 fn price(first: u64, hi: u64) {

@@ -85,32 +85,27 @@ fn opened_pairs() {
 
 fn pair(n: u64, words: &[u64]) {
     let both = openings::open_pair(n, words);
-    let low = both.low;
-    let high = both.high;
-    opened(low);
-    opened(high);
+    opened(both.low);
+    opened(both.high);
 }
 
 // Parties 1 to n.
 fn amount_shares(secret: u64, coins: &[u64], n: u64) {
-    let mut party = 0;
-    while party < n {
-        party += 1;
+    for party in 1..=n {
         report::number(sharing::share_amount(secret, coins, party).0);
     }
 }
 
+// The same of bytes. Secret, coins, points and print are of other types, so one function would take three closures.
 fn byte_shares(secret: u8, coins: &[u8], n: u8) {
-    let mut party = 0;
-    while party < n {
-        party += 1;
+    for party in 1..=n {
         report::byte(sharing::share_byte(secret, coins, party).0);
     }
 }
 
 fn opened(o: Opening) {
     match o {
-        Opening::Secret(v) => report::number(v),
-        Opening::Inconsistent => report::word(b"none"),
+        Some(v) => report::number(v),
+        None => report::word(b"none"),
     }
 }

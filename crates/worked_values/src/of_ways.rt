@@ -1,7 +1,5 @@
 // What is counted by the last round of a probe, 33 or 7: the words of a sheet, the bytes drawn for it,
 // and the words that a party says in a round.
-ghost use Rattle.std.specs.Prelude.{◌≤◌};
-
 pub(crate) fn print() {
     lasts();
     sheets();
@@ -11,13 +9,9 @@ pub(crate) fn print() {
 // 33 and 7, their neighbours, and 0.
 fn lasts() {
     report::title(b"last rounds:");
-    last(33);
-    last(7);
-    last(32);
-    last(34);
-    last(6);
-    last(8);
-    last(0);
+    for round in [33, 7, 32, 34, 6, 8, 0] {
+        report::yes_or_no(ways::is_way(round));
+    }
     report::end();
 }
 
@@ -46,32 +40,15 @@ fn widths() {
     report::end();
 }
 
-fn last(round: u64) {
-    if ways::is_way(round) {
-        report::word(b"yes");
-    } else {
-        report::word(b"no");
+fn sheet(last: u64) {
+    report::number(ways::sheet_words(last) as u64);
+    for t in 1..5 {
+        report::number(ways::drawn_bytes(last, t) as u64);
     }
 }
 
-fn sheet(last: u64) {
-    report::number(ways::sheet_words(last) as u64);
-    bytes(last, 1);
-    bytes(last, 2);
-    bytes(last, 3);
-    bytes(last, 4);
-}
-
-fn bytes(last: u64, t: usize)
-    requires { t ≤ 4 }
-{
-    report::number(ways::drawn_bytes(last, t) as u64);
-}
-
 fn said(last: u64, from: u64, to: u64) {
-    let mut round = from;
-    while round < to {
+    for round in from..to {
         report::number(ways::width(last, round) as u64);
-        round += 1;
     }
 }

@@ -1,7 +1,7 @@
 -- `multiples` meets its contract: the products by less than `size`, a power of 2, are there, and `doubled` is the product by it.
 -- Assumes nothing.
 use mathlib.Core.Path.{◌≡◌, refl, sym, ap, ◌∙◌}
-use Prim.Native.Nat.{ℕ, suc, ◌+◌, ◌-◌, ◌*◌}
+use Prim.Native.Nat.{ℕ, suc, ◌+◌, ◌*◌}
 use native.Mathlib.Nat.{pow-succ'}
 use native.Mathlib.Omega.{arith}
 use lib.ListN.{take, length-set}
@@ -20,7 +20,7 @@ pub loop-i-init : goal.loop-i-init
 loop-i-init c =
     let l = c.loop-size in
     let e : l.size ≡ l.size + 0 = omega arith in
-    (omega arith, l.invariant.long, ap (λ (n : ℕ). take n l.row) (sym e) ∙ l.invariant.made ∙ ap (λ (n : ℕ). take n (multiples c.args.a)) e)
+    (l.invariant.long, ap (λ (n : ℕ). take n l.row) (sym e) ∙ l.invariant.made ∙ ap (λ (n : ℕ). take n (multiples c.args.a)) e)
 
 pub bounds-row-size : goal.bounds-row-size
 bounds-row-size c =
@@ -33,9 +33,8 @@ unfolding xor
 loop-i-preserved c =
     let l = c.loop-size in
     let m = c.loop-i in (
-      omega arith,
-      simp length-set m.invariant.1,
-      row_more _ l.invariant.power l.size m.i l.doubled m.row l.invariant.size_is l.invariant.top_is (omega arith) c.loop-i-test.true m.invariant.1 m.invariant.2,
+      simp length-set m.invariant.0,
+      row_more _ l.invariant.power l.size m.i l.doubled m.row l.invariant.size_is l.invariant.top_is (omega arith) c.loop-i-test.true m.invariant.0 m.invariant.1,
     )
 
 pub xtime-doubled-requires : goal.xtime-doubled-requires
@@ -55,8 +54,8 @@ loop-size-preserved c =
       power = suc l.invariant.power;
       size_is = ap (λ (n : ℕ). 2 * n) l.invariant.size_is ∙ sym (pow-succ' 2 l.invariant.power);
       top_is = c.xtime-doubled.ensures ∙ ap xtimes l.invariant.top_is ∙ doubled_more l.invariant.power _;
-      long = m.invariant.1;
-      made = rw e m.invariant.2;
+      long = m.invariant.0;
+      made = rw e m.invariant.1;
     }
 
 pub returns : goal.returns

@@ -1,7 +1,7 @@
 -- What holds at each turn of the loops of `multiples`. Assumes nothing.
 use mathlib.Core.Path.{◌≡◌}
 use mathlib.Core.List.{List}
-use Prim.Native.Nat.{ℕ, ◌+◌, ◌-◌, ◌^◌, ◌≤◌}
+use Prim.Native.Nat.{ℕ, ◌+◌, ◌-◌, ◌^◌}
 use lib.ListN.{length, take}
 use Rattle.byte_rows.specs.Row.{multiples}
 use Rattle.byte_rows.proofs.Rows.{doubled}
@@ -16,10 +16,7 @@ pub record Begun (a top size : ℕ) (row : List ℕ) : Type 0 where
   pub made : take size row ≡ take size (multiples a)
 
 abbrev pub invariant-loop-i : goal.invariant-loop-i
-invariant-loop-i l = (l.i ≤ l.size) × (length l.row ≡ 256) × (take (l.size + l.i) l.row ≡ take (l.size + l.i) (multiples l.a))
-
-abbrev pub decreases-loop-i : goal.decreases-loop-i
-decreases-loop-i l = l.size - l.i
+invariant-loop-i l = (length l.row ≡ 256) × (take (l.size + l.i) l.row ≡ take (l.size + l.i) (multiples l.a))
 
 abbrev pub invariant-loop-size : goal.invariant-loop-size
 invariant-loop-size l = Begun l.a l.doubled l.size l.row

@@ -12,4 +12,4 @@ pub returns : goal.returns
 returns c =
     let a = c.args in
     let long : a.from + a.t - a.from ≡ a.t = omega arith in
-    c.share_by.ensures ∙ ap (λ (m : ℕ). value bytes (a.secret ∷ take m (drop a.from a.drawn.now)) a.point) long
+    c.share_by.ensures ∙ ap (λ (m : ℕ). value bytes (a.secret ∷ take m (drop a.from a.drawn.now)) a.row.now.byte) long

@@ -6,7 +6,6 @@ use native.Mathlib.Omega.{arith}
 use lib.ListN.{length, take, drop, get_or, set, length-drop, length-take, length-set, drop_of_length-le}
 use lib.Seq.{length-take-le, take_all, take_at, take-suc-set, drop-drop}
 use borrow.Rule.Slice.PartMut.{put_mid, same_len_mid}
-use borrow.Author.Rules.{rules}
 use Rattle.fields.specs.Amount.{amounts}
 use Rattle.sharing.specs.Polynomial.{value}
 use Rattle.dealer.specs.Deal.{byte_shares, mask_bits, triples, preprocessing}
@@ -82,7 +81,7 @@ slice_bounds-write_triples-start-2 c =
 
 pub write_triples-requires : goal.write_triples-requires
 write_triples-requires c =
-    (simp (length-take, length-drop) (omega (arith, c.requires)), left c.args.m c.args.sheet.now (bit_words (goal.at.write_triples-requires c).After-write_bits) (mask_word (goal.at.write_triples-requires c).After-write_bits) c.requires.3 (some_bits (goal.at.write_triples-requires c).After-write_bits), search rules, c.requires.4, c.requires.5)
+    (simp (length-take, length-drop) (omega (arith, c.requires)), left c.args.m c.args.sheet.now (bit_words (goal.at.write_triples-requires c).After-write_bits) (mask_word (goal.at.write_triples-requires c).After-write_bits) c.requires.3 (some_bits (goal.at.write_triples-requires c).After-write_bits), c.requires.4, c.requires.5)
 
 pub shape_of-sheet : goal.shape_of-sheet
 shape_of-sheet c =
@@ -92,7 +91,8 @@ shape_of-sheet c =
 pub returns : goal.returns
 returns c =
     let a = c.args in
+    let e = c.new-row.ensures in
     let triple_words = c.write_triples.new.shares in
     put c.args.m c.args.sheet.now (bit_words (goal.at.returns c).After-write_bits) (mask_word (goal.at.returns c).After-write_bits) c.requires.3 (some_bits (goal.at.returns c).After-write_bits) triple_words
     ∙ whole a.m a.t a.own (mask_word (goal.at.returns c).After-write_bits) a.words.now a.bytes.now (bit_words (goal.at.returns c).After-write_bits) triple_words
-    (omega (arith, c.requires)) c.share_amount.ensures c.write_bits.ensures c.write_triples.ensures
+    (omega (arith, c.requires)) c.share_amount.ensures (rw e at c.write_bits.ensures) (rw e at c.write_triples.ensures)

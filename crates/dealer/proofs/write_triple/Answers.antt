@@ -26,5 +26,5 @@ three t point drawn (a ∷ b ∷ d ∷ []) gamma x y z l eg ex ey ez = simp (ex,
 pub returns : goal.returns
 returns c =
     let a = c.args in
-    three a.t a.point a.drawn.now a.shares.now _ c.share_from.result c.share_from-2.result c.share_from-3.result
-    c.requires.1 c.product_by-gamma.ensures c.share_from.ensures c.share_from-2.ensures c.share_from-3.ensures
+    three a.t a.row.now.byte a.drawn.now a.shares.now _ c.share_from.result c.share_from-2.result c.share_from-3.result
+    c.requires.1 c.product-gamma.ensures c.share_from.ensures c.share_from-2.ensures c.share_from-3.ensures

@@ -1,9 +1,9 @@
--- `write_triples` meets its contract: 3 i words are written, and the other triples are still to be made of the bytes from `at` on.
--- Assumes nothing.
+-- `write_triples` meets its contract: 3 i words are written, and the other triples are still to be made of the bytes after those
+-- of i. Assumes nothing.
 use mathlib.Core.Path.{◌≡◌, sym, ap, ap₂, ◌∙◌}
 use mathlib.Core.List.{List, ◌++◌, append_assoc, append-nil}
 use Prim.Native.Nat.{ℕ, suc, ◌+◌, ◌-◌, ◌*◌, ◌≤◌, ◌<◌}
-use native.Mathlib.Nat.{mul-le-mul_right}
+use native.Mathlib.Nat.{zero-mul, mul-le-mul_right}
 use native.Mathlib.Omega.{arith}
 use lib.ListN.{length, take, drop, length-drop, length-take, length-append}
 use lib.Seq.{length-take-le, take_all, take_at, drop-drop}
@@ -15,11 +15,11 @@ use Rattle.dealer.proofs.write_triples.Goals as goal
 use Rattle.dealer.proofs.write_triples.Goals.{In-loop-i}
 
 -- the bytes of a triple are there
-fits : (c : In-loop-i) → c.loop-i.at + (2 + 3 * c.args.t) ≤ length c.args.drawn.now
+fits : (c : In-loop-i) → c.loop-i.i * (2 + 3 * c.args.t) + (2 + 3 * c.args.t) ≤ length c.args.drawn.now
 fits c =
     let l = c.loop-i in
     let r : (l.i + 1) * (2 + 3 * c.args.t) ≤ c.args.m * (2 + 3 * c.args.t) = mul-le-mul_right (2 + 3 * c.args.t) (omega arith) in
-    omega (arith, l.invariant.1, c.requires.0)
+    omega (arith, c.requires.0)
 
 -- one triple more
 module _ (m t point i at : ℕ) (shares part drawn : List ℕ) (long : length shares ≡ 3 * m) (more : i < m) (made : part ≡ triple t point (drop at drawn)) where
@@ -56,7 +56,10 @@ all_put m t point i shares drawn whole l e w =
 pub loop-i-init : goal.loop-i-init
 loop-i-init c =
     let a = c.args in
-    (omega arith, omega arith, c.requires.1, ap (λ (k : ℕ). triples a.t a.point k a.drawn.now) (omega arith))
+    ap₂ (λ (k n : ℕ). triples a.t a.row.now.byte k (drop n a.drawn.now)) (omega arith) (zero-mul (2 + 3 * a.t))
+
+pub overflow_mul-at : goal.overflow_mul-at
+overflow_mul-at c = omega (arith, fits (goal.at.overflow_mul-at c).In-loop-i, c.well_formed)
 
 pub slice_bounds-write_triple-count : goal.slice_bounds-write_triple-count
 slice_bounds-write_triple-count c = omega (arith, fits c)
@@ -66,28 +69,22 @@ slice_bounds-write_triple-start c = search (rules, fits c)
 
 pub write_triple-requires : goal.write_triple-requires
 write_triple-requires c =
-    let l = c.loop-i in
     let f = fits (goal.at.write_triple-requires c).In-loop-i in
-    (simp (length-take, length-drop) (omega arith), simp (length-take, length-drop) (omega arith), c.requires.2, (c.log_table-logs.ensures, c.power_table-powers.ensures))
-
-pub overflow_add-at : goal.overflow_add-at
-overflow_add-at c = omega (arith, fits (goal.at.overflow_add-at c).In-loop-i, c.well_formed)
+    (simp (length-take, length-drop) (omega arith), simp (length-take, length-drop) (omega arith))
 
 pub loop-i-preserved : goal.loop-i-preserved
 loop-i-preserved c =
     let l = c.loop-i in
     let a = c.args in
     let h : l.i < a.m = c.loop-i-test.true in
-    let rest = take_all (length a.drawn.now - l.at) (drop l.at a.drawn.now) (omega (arith, length-drop l.at a.drawn.now)) in
-    let made = c.write_triple.ensures ∙ ap (triple a.t a.point) rest in (
-      omega arith,
-      omega arith,
-      put_length a.m a.t a.point l.i l.at l.shares c.write_triple.new.shares a.drawn.now l.invariant.2 h made,
-      sym (put_more a.m a.t a.point l.i l.at l.shares c.write_triple.new.shares a.drawn.now l.invariant.2 h made) ∙ l.invariant.3,
-    )
+    let at = l.i * (2 + 3 * a.t) in
+    let rest = take_all (length a.drawn.now - at) (drop at a.drawn.now) (omega (arith, length-drop at a.drawn.now)) in
+    let made = c.write_triple.ensures ∙ ap (triple a.t a.row.now.byte) rest in
+    let next : (l.i + 1) * (2 + 3 * a.t) ≡ at + (2 + 3 * a.t) = omega arith in
+    rw next (sym (put_more a.m a.t a.row.now.byte l.i at l.shares c.write_triple.new.shares a.drawn.now (omega arith) h made) ∙ l.invariant)
 
 pub returns : goal.returns
 returns c =
     let l = c.loop-i in
     let a = c.args in
-    all_put a.m a.t a.point l.i l.shares _ _ l.invariant.2 (omega arith) l.invariant.3
+    all_put a.m a.t a.row.now.byte l.i l.shares _ _ (omega arith) (omega arith) l.invariant

@@ -2,6 +2,7 @@
 use mathlib.Core.Path.{◌≡◌, sym, ap, ◌∙◌}
 use mathlib.Core.Bool.{false, not}
 use native.Mathlib.Omega.{arith}
+use Rattle.std.proofs.Common.{Ok}
 use borrow.Author.Tests.{not-false, lt-ltb, le-ltb}
 use Rattle.refusal.proofs.Judging.{refuses, passes, all_passed}
 use Rattle.record.specs.Record.{sound}
@@ -14,11 +15,11 @@ use Rattle.filling.proofs.fill_judged.Goals.{Else-not-whole}
 
 pub returns-then-not-whole : goal.returns-then-not-whole
 unfolding fill_judgement
-returns-then-not-whole c = sym (filled_refused _ _ _ _ (refuses _ _ _ (ap not (sym c.requires) ∙ c.if-not-whole.true-raw)))
+returns-then-not-whole c = sym (filled_refused _ _ _ _ (refuses _ _ _ (ap not (sym c.requires ∙ c.if-not-whole.true))))
 
 -- the record passed
 whole : (c : Else-not-whole) → not (sound c.args.q) ≡ false
-whole c = ap not (sym c.requires) ∙ c.if-not-whole.false-raw
+whole c = ap not (sym c.requires ∙ c.if-not-whole.false)
 
 facts : (c : Else-not-whole) → Sound c.args.q
 facts c = sound_facts _ (not-false _ (whole c))
@@ -42,6 +43,6 @@ share_out-requires c =
 pub returns : goal.returns
 unfolding fill_judgement
 returns c =
-    c.share_out.ensures
+    ap Ok c.share_out.ensures
     ∙ sym (filled_accepted _ _ _
     (passes _ _ _ (whole (goal.at.returns c).Else-not-whole) ∙ passes _ _ _ (opened _ (facts (goal.at.returns c).Else-not-whole) c.if-q-ne-OPEN.false) ∙ passes _ _ _ (le-ltb _ _ c.if-amount-gt-MOST.false) ∙ all_passed))

@@ -1,12 +1,18 @@
 -- `by_level` meets its contract. Assumes nothing.
-use mathlib.Core.Path.{◌≡◌, sym, ap, ◌∙◌}
+use mathlib.Core.Path.{◌≡◌, refl, sym, ap, ◌∙◌}
 use mathlib.Core.Bool.{Bool, true, false, cond}
 use mathlib.Core.List.{List}
 use Prim.Native.Nat.{ℕ, ◌+◌, ◌*◌}
 use native.Mathlib.Omega.{arith}
-use lib.ListN.{replicate}
 use borrow.Author.Rules.{rules}
-use borrow.Author.Tests.{not-false, not-true}
+use Rattle.std.proofs.Common.{Option, Some, None, Result, Err}
+use Rattle.std.specs.Option.{ok_or}
+use Rattle.std.specs.Result.{result_ok}
+use Rattle.std.proofs.lemmas.Option.{cond_some}
+use Rattle.std.proofs.lemmas.Result.{err_from_is_err_and}
+use Rattle.kept_pairs.specs.declared.Pairs.{Pairs}
+use Rattle.refusal.specs.declared.Refusal.{Refusal}
+use Rattle.refusal.specs.declared.Refusal.TheVariants.{Inconsistent}
 use Rattle.refusal.proofs.Judging.{kept_new, kept_old}
 use Rattle.presence.specs.Presence.{all_or}
 use Rattle.record.specs.declared.Party.{Party}
@@ -14,8 +20,8 @@ use Rattle.record.specs.Updates.{in_round}
 use Rattle.record.proofs.Soundness.{Sound, sound_facts, few_rounds}
 use Rattle.record_words.specs.Words.{words_of, party_of}
 use Rattle.round.specs.declared.Heard.TheVariants.{Factors, Unopened}
-use Rattle.level.specs.Level.{Ready, level_kept}
-use Rattle.level_round.specs.Columns.{level_opened, level_sides}
+use Rattle.level.specs.Level.{Ready}
+use Rattle.level_round.specs.Columns.{level_opened}
 use Rattle.stepping.specs.After.{after_level}
 use Rattle.message.specs.Message.{in_level}
 use Rattle.message.proofs.Messages.{level_wide, level_ready}
@@ -66,28 +72,43 @@ module _ (c : After-read-q) where
   judges b e =
       ap (opening_judgement q.round q.demand q.supply) (level_opening q messages present in_it ∙ ap (λ (x : Bool). cond x (Factors 0 0) Unopened) e)
 
-pub slice_bounds-hear_level-end : goal.slice_bounds-hear_level-end
-slice_bounds-hear_level-end c = search (rules, (ready (goal.at.slice_bounds-hear_level-end c).After-read-q).kept_long)
+pub slice_bounds-level-end : goal.slice_bounds-level-end
+slice_bounds-level-end c = search (rules, (ready (goal.at.slice_bounds-level-end c).After-read-q).kept_long)
 
-pub hear_level-level-requires : goal.hear_level-level-requires
-hear_level-level-requires c = (
-  ready (goal.at.hear_level-level-requires c).After-read-q,
-  (facts (goal.at.hear_level-level-requires c).After-read-q).listed.parties_least,
-  (facts (goal.at.hear_level-level-requires c).After-read-q).listed.parties_most,
-  c.requires.3 ∙ ap (λ (x : Party). x.n * width_of x) (sym (read_is (goal.at.hear_level-level-requires c).After-read-q)) ∙ ap (λ (w : ℕ). (q (goal.at.hear_level-level-requires c).After-read-q).n * w) (level_wide (q (goal.at.hear_level-level-requires c).After-read-q) (in_it (goal.at.hear_level-level-requires c).After-read-q)),
-)
+pub invariant_of-level : goal.invariant_of-level
+invariant_of-level c = record { ready = ready (goal.at.invariant_of-level c).After-read-q }
 
-pub returns-then-not-level : goal.returns-then-not-level
-returns-then-not-level c =
-    let e = judges (goal.at.returns-then-not-level c).After-read-q false (sym c.hear_level-level.ensures.0 ∙ not-true _ c.if-not-level.true) ∙ level_refused (q (goal.at.returns-then-not-level c).After-read-q).round (q (goal.at.returns-then-not-level c).After-read-q).demand (q (goal.at.returns-then-not-level c).After-read-q).supply in (
-      sym e ∙ judged_same (q (goal.at.returns-then-not-level c).After-read-q) _ (read_is (goal.at.returns-then-not-level c).After-read-q) c.args.all (sheet (goal.at.returns-then-not-level c).After-read-q) (messages (goal.at.returns-then-not-level c).After-read-q) c.args.present.now (words (goal.at.returns-then-not-level c).After-read-q),
-      sym (kept_old _ (words_of (heard_next (q (goal.at.returns-then-not-level c).After-read-q) (sheet (goal.at.returns-then-not-level c).After-read-q) (messages (goal.at.returns-then-not-level c).After-read-q) (present (goal.at.returns-then-not-level c).After-read-q))) (words (goal.at.returns-then-not-level c).After-read-q) _ e)
-          ∙ left_same (q (goal.at.returns-then-not-level c).After-read-q) _ (read_is (goal.at.returns-then-not-level c).After-read-q) c.args.all (sheet (goal.at.returns-then-not-level c).After-read-q) (messages (goal.at.returns-then-not-level c).After-read-q) c.args.present.now (words (goal.at.returns-then-not-level c).After-read-q),
+pub hear_level-requires : goal.hear_level-requires
+hear_level-requires c =
+    let r = (goal.at.hear_level-requires c).After-read-q in
+    let l = (facts r).listed in (
+      l.parties_least,
+      l.parties_most,
+      c.requires.3 ∙ ap (λ (x : Party). x.n * width_of x) (sym (read_is r)) ∙ ap (λ (w : ℕ). (q r).n * w) (level_wide (q r) (in_it r)),
+    )
+
+-- whether the level opened, by what was given
+shut : (b : Bool) (x : Pairs) → cond b (Some x) None ≡ None → b ≡ false
+shut true x e = cc
+shut false x e = refl
+
+reason : (why other : Refusal) → ◌≡◌ {A = Result Pairs Refusal} (Err why) (Err other) → why ≡ other
+reason why other e = cc
+
+pub returns-in_err-next : goal.returns-in_err-next
+returns-in_err-next c =
+    let r = (goal.at.returns-in_err-next c).After-read-q in
+    let none : c.hear_level.result ≡ None = c.ok_or.ensures.ok_part ∙ ap result_ok c.in_err-next.was in
+    let why = reason _ _ (sym c.in_err-next.was ∙ c.ok_or.ensures.value ∙ ap (λ (o : Option Pairs). ok_or o Inconsistent) none) in
+    let p = err_from_is_err_and c.from_residual.result c.from_residual.ensures.1 in
+    let e = judges r false (shut _ _ (sym c.hear_level.ensures ∙ none)) ∙ level_refused (q r).round (q r).demand (q r).supply in (
+      p.1 ∙ ap Err (p.2 ∙ why) ∙ sym e ∙ judged_same (q r) _ (read_is r) c.args.all (sheet r) (messages r) c.args.present.now (words r),
+      sym (kept_old _ (words_of (heard_next (q r) (sheet r) (messages r) (present r))) (words r) _ e)
+          ∙ left_same (q r) _ (read_is r) c.args.all (sheet r) (messages r) c.args.present.now (words r),
     )
 
 pub overflow_add-q : goal.overflow_add-q
-overflow_add-q c =
-    omega (arith, few_rounds (q (goal.at.overflow_add-q c).After-read-q) (facts (goal.at.overflow_add-q c).After-read-q))
+overflow_add-q c = let r = (goal.at.overflow_add-q c).After-read-q in omega (arith, few_rounds (q r) (facts r))
 
 pub store_level-requires : goal.store_level-requires
 store_level-requires c = c.requires.0
@@ -99,16 +120,15 @@ stepped q p kept e = ap (λ (r : Party). in_round r (q.round + 1) r.sum r.carry 
 
 pub returns : goal.returns
 returns c =
-    let clear : opens (goal.at.returns c).After-read-q ≡ true = sym c.hear_level-level.ensures.0 ∙ not-false _ c.if-not-level.false in
-    let e = judges (goal.at.returns c).After-read-q true clear ∙ level_accepted (q (goal.at.returns c).After-read-q).round (q (goal.at.returns c).After-read-q).demand (q (goal.at.returns c).After-read-q).supply in
-    let kept = level_kept (q (goal.at.returns c).After-read-q).round (q (goal.at.returns c).After-read-q).sum (q (goal.at.returns c).After-read-q).pairs.words (sheet (goal.at.returns c).After-read-q) (level_sides (q (goal.at.returns c).After-read-q).n (q (goal.at.returns c).After-read-q).round (present (goal.at.returns c).After-read-q) (messages (goal.at.returns c).After-read-q)) in
-    let made = c.hear_level-level.ensures.1 ∙ ap (λ (b : Bool). cond b kept (replicate 32 0)) clear in
-    let left =
-    c.store_level.ensures
+    let r = (goal.at.returns c).After-read-q in
+    let given : c.hear_level.result ≡ Some c.in_ok-next.next = c.ok_or.ensures.ok_part ∙ ap result_ok c.in_ok-next.was in
+    let o = cond_some _ _ _ (sym c.hear_level.ensures ∙ given) in
+    let e = judges r true o.0 ∙ level_accepted (q r).round (q r).demand (q r).supply in
+    let left = c.store_level.ensures
     ∙ ap words_of
-    (stepped (q (goal.at.returns c).After-read-q) _ c.hear_level-level.result.pairs.words (sym (read_is (goal.at.returns c).After-read-q)) ∙ ap (after_level (q (goal.at.returns c).After-read-q)) made
-    ∙ sym (level_next (q (goal.at.returns c).After-read-q) (sheet (goal.at.returns c).After-read-q) (messages (goal.at.returns c).After-read-q) (present (goal.at.returns c).After-read-q) (in_it (goal.at.returns c).After-read-q)))
-    ∙ sym (kept_new _ _ (words (goal.at.returns c).After-read-q) e) in (
-      sym e ∙ judged_same (q (goal.at.returns c).After-read-q) _ (read_is (goal.at.returns c).After-read-q) c.args.all (sheet (goal.at.returns c).After-read-q) (messages (goal.at.returns c).After-read-q) c.args.present.now (words (goal.at.returns c).After-read-q),
-      left ∙ left_same (q (goal.at.returns c).After-read-q) _ (read_is (goal.at.returns c).After-read-q) c.args.all (sheet (goal.at.returns c).After-read-q) (messages (goal.at.returns c).After-read-q) c.args.present.now (words (goal.at.returns c).After-read-q),
+    (stepped (q r) _ c.in_ok-next.next.words (sym (read_is r)) ∙ ap (λ (x : Pairs). after_level (q r) x.words) (sym o.1)
+    ∙ sym (level_next (q r) (sheet r) (messages r) (present r) (in_it r)))
+    ∙ sym (kept_new _ _ (words r) e) in (
+      sym e ∙ judged_same (q r) _ (read_is r) c.args.all (sheet r) (messages r) c.args.present.now (words r),
+      left ∙ left_same (q r) _ (read_is r) c.args.all (sheet r) (messages r) c.args.present.now (words r),
     )

@@ -4,6 +4,8 @@ use mathlib.Core.Bool.{false, cond}
 use mathlib.Core.List.{List}
 use Prim.Native.Nat.{ℕ}
 use lib.Dec.{eqb}
+use Rattle.std.proofs.Common.{Err}
+use Rattle.std.proofs.lemmas.Result.{err_from_is_err_and}
 use Rattle.refusal.proofs.Judging.{kept_new, kept_old, passed}
 use Rattle.presence.specs.Presence.{all_or}
 use Rattle.kept_pairs.specs.Pairs.{none}
@@ -12,7 +14,7 @@ use Rattle.record.proofs.Soundness.{sound_facts}
 use Rattle.record_words.specs.Words.{words_of, party_of}
 use Rattle.round.specs.Round.{heard, unopened, Possible}
 use Rattle.round.specs.declared.Heard.{Heard}
-use Rattle.refusal.specs.declared.Judgement.{Judgement}
+use Rattle.refusal.specs.Refusal.{Judgement}
 use Rattle.round.proofs.Opened.{heard_possible}
 use Rattle.stepping.specs.After.{role, after}
 use Rattle.message.specs.Message.{in_level}
@@ -24,7 +26,7 @@ use Rattle.heard_round.proofs.Left.{after_roll, after_pairs}
 use Rattle.heard_round.proofs.Same.{judged_same, left_same}
 use Rattle.heard_round.proofs.Left.{one_next}
 use Rattle.heard_round.proofs.by_one.Goals as goal
-use Rattle.heard_round.proofs.by_one.Goals.{After-read-q, In-Accepted}
+use Rattle.heard_round.proofs.by_one.Goals.{After-read-q, In_ok-judge}
 
 module _ (c : After-read-q) where
   abbrev words : List ℕ
@@ -61,34 +63,42 @@ module _ (c : After-read-q) where
 
 pub after-requires : goal.after-requires
 after-requires c =
-    let h = has (goal.at.after-requires c).After-read-q in
-    (h.sound, h.sheet_long, h.sheet_bytes, possible (goal.at.after-requires c).After-read-q _ c.open_single-opened.ensures)
+    let r = (goal.at.after-requires c).After-read-q in
+    let h = has r in
+    (h.sound, h.sheet_long, h.sheet_bytes, possible r _ c.open_single-opened.ensures)
 
 -- the words open where the round is accepted
-opened : (c : In-Accepted) → unopened c.open_single-opened.result ≡ false
-opened c =
-    (passed _ _ _ (sym c.judge.ensures ∙ c.in-Accepted.is)).0
+opened : (c : In_ok-judge) → unopened c.open_single-opened.result ≡ false
+opened c = (passed _ _ _ (sym c.judge.ensures ∙ c.in_ok-judge.was)).0
 
 pub store_heard-requires : goal.store_heard-requires
 store_heard-requires c =
+    let r = (goal.at.store_heard-requires c).After-read-q in
     let made = c.after.ensures in (
       c.requires.0,
-      ap (λ (x : Party). x.roll) made ∙ after_roll (q (goal.at.store_heard-requires c).After-read-q) (sheet (goal.at.store_heard-requires c).After-read-q) c.open_single-opened.result ∙ ap (λ (x : Party). x.roll) (read_is (goal.at.store_heard-requires c).After-read-q),
+      ap (λ (x : Party). x.roll) made ∙ after_roll (q r) (sheet r) c.open_single-opened.result ∙ ap (λ (x : Party). x.roll) (read_is r),
       ap (λ (x : Party). x.pairs) made
-          ∙ after_pairs (q (goal.at.store_heard-requires c).After-read-q) (sheet (goal.at.store_heard-requires c).After-read-q) c.open_single-opened.result (sound_facts (q (goal.at.store_heard-requires c).After-read-q) (has (goal.at.store_heard-requires c).After-read-q).sound) (possible (goal.at.store_heard-requires c).After-read-q _ c.open_single-opened.ensures) (opened (goal.at.store_heard-requires c).In-Accepted)
-          ∙ ap (λ (x : Party). cond (eqb (q (goal.at.store_heard-requires c).After-read-q).round (q (goal.at.store_heard-requires c).After-read-q).last) none x.pairs) (read_is (goal.at.store_heard-requires c).After-read-q),
+          ∙ after_pairs (q r) (sheet r) c.open_single-opened.result (sound_facts (q r) (has r).sound) (possible r _ c.open_single-opened.ensures) (opened (goal.at.store_heard-requires c).In_ok-judge)
+          ∙ ap (λ (x : Party). cond (eqb (q r).round (q r).last) none x.pairs) (read_is r),
     )
 
-pub returns-in-Accepted : goal.returns-in-Accepted
-returns-in-Accepted c =
-    let e = judges (goal.at.returns-in-Accepted c).After-read-q _ _ c.open_single-opened.ensures c.judge.ensures ∙ c.in-Accepted.is in
+pub returns : goal.returns
+returns c =
+    let r = (goal.at.returns c).After-read-q in
+    let e = judges r _ _ c.open_single-opened.ensures c.judge.ensures ∙ c.in_ok-judge.was in
     let left = c.store_heard.ensures
-    ∙ ap words_of
-    (c.after.ensures ∙ ap (after (q (goal.at.returns-in-Accepted c).After-read-q) (sheet (goal.at.returns-in-Accepted c).After-read-q)) c.open_single-opened.ensures ∙ sym (one_next (q (goal.at.returns-in-Accepted c).After-read-q) (sheet (goal.at.returns-in-Accepted c).After-read-q) (messages (goal.at.returns-in-Accepted c).After-read-q) (present (goal.at.returns-in-Accepted c).After-read-q) (single (goal.at.returns-in-Accepted c).After-read-q)))
-    ∙ sym (kept_new _ _ (words (goal.at.returns-in-Accepted c).After-read-q) e) in
-    (sym e ∙ judged_same (q (goal.at.returns-in-Accepted c).After-read-q) _ (read_is (goal.at.returns-in-Accepted c).After-read-q) c.args.all (sheet (goal.at.returns-in-Accepted c).After-read-q) (messages (goal.at.returns-in-Accepted c).After-read-q) c.args.present.now (words (goal.at.returns-in-Accepted c).After-read-q), left ∙ left_same (q (goal.at.returns-in-Accepted c).After-read-q) _ (read_is (goal.at.returns-in-Accepted c).After-read-q) c.args.all (sheet (goal.at.returns-in-Accepted c).After-read-q) (messages (goal.at.returns-in-Accepted c).After-read-q) c.args.present.now (words (goal.at.returns-in-Accepted c).After-read-q))
+    ∙ ap words_of (c.after.ensures ∙ ap (after (q r) (sheet r)) c.open_single-opened.ensures ∙ sym (one_next (q r) (sheet r) (messages r) (present r) (single r)))
+    ∙ sym (kept_new _ _ (words r) e) in (
+      sym e ∙ judged_same (q r) _ (read_is r) c.args.all (sheet r) (messages r) c.args.present.now (words r),
+      left ∙ left_same (q r) _ (read_is r) c.args.all (sheet r) (messages r) c.args.present.now (words r),
+    )
 
-pub returns-in-Refused : goal.returns-in-Refused
-returns-in-Refused c =
-    let e = judges (goal.at.returns-in-Refused c).After-read-q _ _ c.open_single-opened.ensures c.judge.ensures ∙ c.in-Refused.is in
-    (sym e ∙ judged_same (q (goal.at.returns-in-Refused c).After-read-q) _ (read_is (goal.at.returns-in-Refused c).After-read-q) c.args.all (sheet (goal.at.returns-in-Refused c).After-read-q) (messages (goal.at.returns-in-Refused c).After-read-q) c.args.present.now (words (goal.at.returns-in-Refused c).After-read-q), sym (kept_old _ (words_of (heard_next (q (goal.at.returns-in-Refused c).After-read-q) (sheet (goal.at.returns-in-Refused c).After-read-q) (messages (goal.at.returns-in-Refused c).After-read-q) (present (goal.at.returns-in-Refused c).After-read-q))) (words (goal.at.returns-in-Refused c).After-read-q) _ e) ∙ left_same (q (goal.at.returns-in-Refused c).After-read-q) _ (read_is (goal.at.returns-in-Refused c).After-read-q) c.args.all (sheet (goal.at.returns-in-Refused c).After-read-q) (messages (goal.at.returns-in-Refused c).After-read-q) c.args.present.now (words (goal.at.returns-in-Refused c).After-read-q))
+pub returns-in_err-judge : goal.returns-in_err-judge
+returns-in_err-judge c =
+    let r = (goal.at.returns-in_err-judge c).After-read-q in
+    let p = err_from_is_err_and c.from_residual.result c.from_residual.ensures.1 in
+    let e = judges r _ _ c.open_single-opened.ensures c.judge.ensures ∙ c.in_err-judge.was in (
+      p.1 ∙ ap Err p.2 ∙ sym e ∙ judged_same (q r) _ (read_is r) c.args.all (sheet r) (messages r) c.args.present.now (words r),
+      sym (kept_old _ (words_of (heard_next (q r) (sheet r) (messages r) (present r))) (words r) _ e)
+          ∙ left_same (q r) _ (read_is r) c.args.all (sheet r) (messages r) c.args.present.now (words r),
+    )

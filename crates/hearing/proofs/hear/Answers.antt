@@ -1,11 +1,11 @@
 -- `hear` meets its contract: the record is written as its words, stepped where they stand, and read again. Assumes nothing.
+use Rattle.std.specs.Prelude.{Err, Ok}
 use mathlib.Core.Path.{◌≡◌, refl, sym, ap, ap₂, ◌∙◌}
 use mathlib.Core.List.{List}
 use Prim.Native.Nat.{ℕ}
 use lib.ListN.{length}
 use borrow.Author.Rules.{rules}
-use Rattle.refusal.specs.declared.Judgement.{Judgement}
-use Rattle.refusal.specs.declared.Judgement.TheVariants.{Accepted, Refused}
+use Rattle.refusal.specs.Refusal.{Judgement}
 use Rattle.refusal.proofs.Judging.{kept_new, kept_old}
 use Rattle.roll.specs.declared.Roll.{Roll}
 use Rattle.record.specs.declared.Party.{Party}
@@ -24,14 +24,14 @@ module _ (q : Party) (totals sheets messages present : List ℕ) (long : length 
   reply = hear_reply q totals sheets messages present
 
   read_again : (j : Judgement) → hear_judgement q totals sheets messages present ≡ j → party_of (stored reply (words_of q)) ≡ reply.party
-  read_again Accepted e =
+  read_again (Ok tt) e =
       let made = next_accepted _ _ _ e in
       let h = hears q totals sheets messages present e in
       ap (λ (r : Reply). party_of (stored r (words_of q))) made
       ∙ ap party_of (kept_new _ _ _ refl)
       ∙ reads_back _ (ap (λ (r : Roll). length r.words) (heard_roll q totals sheets messages present) ∙ long) (heard_pairs q totals sheets messages present h many)
       ∙ ap (λ (r : Reply). r.party) (sym made)
-  read_again (Refused why) e =
+  read_again (Err why) e =
       let made = next_refused _ _ _ why e in
       ap (λ (r : Reply). party_of (stored r (words_of q))) made ∙ ap party_of (kept_old _ _ _ why refl) ∙ reads_back q long many ∙ ap (λ (r : Reply). r.party) (sym made)
 

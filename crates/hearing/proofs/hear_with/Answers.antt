@@ -1,11 +1,12 @@
 -- `hear_with` meets its contract: what is judged before the words are opened, and then a level, or a round of single words. Assumes nothing.
+use Rattle.std.proofs.Common.{Ok, Err}
+use Rattle.std.proofs.lemmas.Result.{err_from_is_err_and}
 use mathlib.Core.Path.{◌≡◌, refl, sym, ap, ap₂, ◌∙◌}
 use mathlib.Core.List.{List}
 use Prim.Native.Nat.{ℕ}
 use lib.Dec.{eqb}
 use Rattle.refusal.specs.Judging.{kept, then}
-use Rattle.refusal.specs.declared.Judgement.{Judgement}
-use Rattle.refusal.specs.declared.Judgement.TheVariants.{Accepted}
+use Rattle.refusal.specs.Refusal.{Judgement}
 use Rattle.refusal.proofs.Judging.{kept_old}
 use Rattle.presence.specs.Presence.{all_or}
 use Rattle.presence.proofs.Laws.{all_counted}
@@ -65,16 +66,16 @@ module _ (c : After-read-q) where
       ∙ all_counted said.n present c.requires.1.marks_long
 
   -- where it goes on
-  on : listening_judgement q totals sheet messages present ≡ Accepted
+  on : listening_judgement q totals sheet messages present ≡ Ok tt
       → opened_judgement said whoever messages ≡ messages_judgement said totals sheet messages present
-  on e = ap (λ (P : List ℕ). opened_judgement said P messages) all_here ∙ sym (judged_by _ Accepted refl e)
+  on e = ap (λ (P : List ℕ). opened_judgement said P messages) all_here ∙ sym (judged_by _ (Ok tt) refl e)
 
-  leaves : listening_judgement q totals sheet messages present ≡ Accepted
+  leaves : listening_judgement q totals sheet messages present ≡ Ok tt
       → kept (opened_judgement said whoever messages) (words_of (heard_next said sheet messages whoever)) words
       ≡ kept (messages_judgement said totals sheet messages present) (words_of (heard_next said sheet messages present)) words
   leaves e = ap₂ (λ (j : Judgement) (P : List ℕ). kept j (words_of (heard_next said sheet messages P)) words) (on e) all_here
 
-  has_sheet : listening_judgement q totals sheet messages present ≡ Accepted → HasSheet said sheet
+  has_sheet : listening_judgement q totals sheet messages present ≡ Ok tt → HasSheet said sheet
   has_sheet e =
       let h = c.requires.1 in
       record {
@@ -88,24 +89,30 @@ listens-requires c =
     let h = has (goal.at.listens-requires c).After-read-q in
     (h.sound, h.going, h.totals_long, h.sheet_long, h.counted, h.messages_long, h.marks_long)
 
-pub returns-in-Refused : goal.returns-in-Refused
-returns-in-Refused c =
-    let e = judged_by (goal.at.returns-in-Refused c).After-read-q _ _ c.listens.ensures c.in-Refused.is in
-    (sym e, sym (kept_old _ _ _ _ e))
+pub returns-in_err-listens : goal.returns-in_err-listens
+returns-in_err-listens c =
+    let p = err_from_is_err_and c.from_residual.result c.from_residual.ensures.1 in
+    let e = judged_by (goal.at.returns-in_err-listens c).After-read-q _ _ c.listens.ensures c.in_err-listens.was in
+    (p.1 ∙ ap Err p.2 ∙ sym e, sym (kept_old _ _ _ _ e))
 
 pub by_level-requires : goal.by_level-requires
 by_level-requires c =
-    let h = c.requires in
-    (h.0, has_sheet (goal.at.by_level-requires c).After-read-q (sym c.listens.ensures ∙ c.in-Accepted.is), ap in_level (sym (read_is (goal.at.by_level-requires c).After-read-q)) ∙ sym c.in_level.ensures ∙ c.if-in_level.true, h.1.messages_long)
+    let r = (goal.at.by_level-requires c).After-read-q in
+    (c.requires.0, has_sheet r (sym c.listens.ensures ∙ c.in_ok-listens.was), ap in_level (sym (read_is r)) ∙ sym c.in_level.ensures ∙ c.if-in_level.true, c.requires.1.messages_long)
 
 pub returns-then-in_level : goal.returns-then-in_level
 returns-then-in_level c =
-    (c.by_level.ensures.0 ∙ on (goal.at.returns-then-in_level c).After-read-q (sym c.listens.ensures ∙ c.in-Accepted.is), c.by_level.ensures.1 ∙ leaves (goal.at.returns-then-in_level c).After-read-q (sym c.listens.ensures ∙ c.in-Accepted.is))
+    let r = (goal.at.returns-then-in_level c).After-read-q in
+    let e = sym c.listens.ensures ∙ c.in_ok-listens.was in
+    (c.by_level.ensures.0 ∙ on r e, c.by_level.ensures.1 ∙ leaves r e)
 
 pub by_one-requires : goal.by_one-requires
 by_one-requires c =
-    (c.requires.0, has_sheet (goal.at.by_one-requires c).After-read-q (sym c.listens.ensures ∙ c.in-Accepted.is), ap in_level (sym (read_is (goal.at.by_one-requires c).After-read-q)) ∙ sym c.in_level.ensures ∙ c.if-in_level.false)
+    let r = (goal.at.by_one-requires c).After-read-q in
+    (c.requires.0, has_sheet r (sym c.listens.ensures ∙ c.in_ok-listens.was), ap in_level (sym (read_is r)) ∙ sym c.in_level.ensures ∙ c.if-in_level.false)
 
 pub returns : goal.returns
 returns c =
-    (c.by_one.ensures.0 ∙ on (goal.at.returns c).After-read-q (sym c.listens.ensures ∙ c.in-Accepted.is), c.by_one.ensures.1 ∙ leaves (goal.at.returns c).After-read-q (sym c.listens.ensures ∙ c.in-Accepted.is))
+    let r = (goal.at.returns c).After-read-q in
+    let e = sym c.listens.ensures ∙ c.in_ok-listens.was in
+    (c.by_one.ensures.0 ∙ on r e, c.by_one.ensures.1 ∙ leaves r e)

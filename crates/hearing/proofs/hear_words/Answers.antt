@@ -1,4 +1,7 @@
 -- `hear_words` meets its contract: whether it is the party's turn, and then the messages. Assumes nothing.
+use Rattle.std.proofs.Common.{Ok, Err, Some, None, Option, is_some}
+use Rattle.std.proofs.lemmas.Option.{same_Some}
+use Rattle.std.proofs.lemmas.Result.{err_from_is_err_and}
 use mathlib.Core.Path.{◌≡◌, refl, sym, ap, subst, ◌∙◌}
 use mathlib.Core.Bool.{Bool, true, cond, ◌&&◌}
 use mathlib.Core.List.{List}
@@ -7,8 +10,7 @@ use lib.Dec.{leb}
 use lib.ListN.{length}
 use borrow.Author.Tests.{eqb-true, le-leb}
 use Rattle.refusal.specs.Judging.{kept}
-use Rattle.refusal.specs.declared.Judgement.{Judgement}
-use Rattle.refusal.specs.declared.Judgement.TheVariants.{Accepted, Refused}
+use Rattle.refusal.specs.Refusal.{Judgement}
 use Rattle.refusal.proofs.Judging.{kept_old}
 use Rattle.ranges.specs.Sizes.{long}
 use Rattle.ranges.proofs.Loops.{and-true}
@@ -25,7 +27,7 @@ use Rattle.saying.proofs.Laws.{InTurn, turns}
 use Rattle.listening.specs.Listen.{width_of, messages_judgement}
 use Rattle.heard_round.specs.Next.{heard_next}
 use Rattle.hearing.specs.Hear.{HasTurn, hear_judgement}
-use Rattle.hearing.proofs.Hears.{turn_of, turn_whole, no_turn, by_messages}
+use Rattle.hearing.proofs.Hears.{counted, turn_of, turn_whole, no_turn, by_messages}
 use Rattle.hearing.proofs.hear_words.Goals as goal
 use Rattle.hearing.proofs.hear_words.Goals.{After-turn}
 
@@ -33,8 +35,8 @@ use Rattle.hearing.proofs.hear_words.Goals.{After-turn}
 stored_by : (judgement : Judgement) (next old : Party) (words : List ℕ)
     → stored (replied judgement next old) words ≡ kept judgement (words_of next) words
 unfolding kept
-stored_by Accepted next old words = ap (λ (r : Reply). stored r words) (next_accepted Accepted next old refl)
-stored_by (Refused why) next old words = ap (λ (r : Reply). stored r words) (next_refused (Refused why) next old why refl)
+stored_by (Ok tt) next old words = ap (λ (r : Reply). stored r words) (next_accepted (Ok tt) next old refl)
+stored_by (Err why) next old words = ap (λ (r : Reply). stored r words) (next_refused (Err why) next old why refl)
 
 module _ (c : After-turn) where
   abbrev words : List ℕ
@@ -68,67 +70,81 @@ module _ (c : After-turn) where
       let n = (sound_facts q (and-true (sound q) (are_marks present) e).0).listed.parties_most in
       ap (λ (b : Bool). b && fits) (le-leb q.n 9 n)
 
+  marks : c.is_some.result ≡ are_marks present
+  marks = c.is_some.ensures ∙ ap is_some c.count_marks-count.ensures ∙ counted _ _
+
   turn_is : c.turn.result ≡ turn_of q totals sheets messages present
   turn_is =
       let whole = c.is_sound-whole.ensures ∙ ap sound (sym read_is) in
       c.turn.ensures
-      ∙ (λ k. turn_judgement q (whole k && c.count_marks-tally.ensures.0 k) totals sheets (c.are_messages-long.ensures k))
+      ∙ (λ k. turn_judgement q (whole k && marks k) totals sheets (c.are_messages-long.ensures k))
       ∙ turn_whole q (sound q && are_marks present) (leb q.n 9 && fits) fits totals sheets few
 
   -- where it is the party's turn
   in_turn : (j : Judgement) → c.turn.result ≡ j → turn_of q totals sheets messages present ≡ j
   in_turn j e = sym turn_is ∙ e
 
-  facts : turn_of q totals sheets messages present ≡ Accepted → InTurn q totals sheets
+  facts : turn_of q totals sheets messages present ≡ Ok tt → InTurn q totals sheets
   facts e = (turns q totals sheets _ _ e).0
 
-  lengths : turn_of q totals sheets messages present ≡ Accepted → (length messages ≡ q.n * width_of q) × (length present ≡ q.n)
+  lengths : turn_of q totals sheets messages present ≡ Ok tt → (length messages ≡ q.n * width_of q) × (length present ≡ q.n)
   lengths e =
       let l = and-true _ _ (turns q totals sheets _ _ e).2 in
       (eqb-true _ _ l.0, eqb-true _ _ l.1)
 
-  count_is : turn_of q totals sheets messages present ≡ Accepted → c.count_marks-tally.result.count ≡ how_many present
+  count_is : turn_of q totals sheets messages present ≡ Ok tt → c.count_marks-count.result ≡ Some (how_many present)
   count_is e =
-      c.count_marks-tally.ensures.1
-      ∙ ap (λ (b : Bool). cond b (how_many present) 0) (turns q totals sheets _ _ e).1
+      c.count_marks-count.ensures
+      ∙ ap (λ (b : Bool). cond b (Some (how_many present)) None) (turns q totals sheets _ _ e).1
 
-pub returns-in-Refused : goal.returns-in-Refused
-returns-in-Refused c =
-    let e = ap (λ (r : Party). hear_judgement r (totals (goal.at.returns-in-Refused c).After-turn) (sheets (goal.at.returns-in-Refused c).After-turn) (messages (goal.at.returns-in-Refused c).After-turn) (present (goal.at.returns-in-Refused c).After-turn)) (sym (read_is (goal.at.returns-in-Refused c).After-turn))
-    ∙ no_turn (q (goal.at.returns-in-Refused c).After-turn) (totals (goal.at.returns-in-Refused c).After-turn) (sheets (goal.at.returns-in-Refused c).After-turn) (messages (goal.at.returns-in-Refused c).After-turn) (present (goal.at.returns-in-Refused c).After-turn) _ (sym (turn_is (goal.at.returns-in-Refused c).After-turn) ∙ c.in-Refused.is) in
-    (sym e, sym (stored_by _ _ _ (words (goal.at.returns-in-Refused c).After-turn) ∙ kept_old _ _ _ _ e))
+pub returns-in_err-turn : goal.returns-in_err-turn
+returns-in_err-turn c =
+    let r = (goal.at.returns-in_err-turn c).After-turn in
+    let p = err_from_is_err_and c.from_residual.result c.from_residual.ensures.1 in
+    let e = ap (λ (x : Party). hear_judgement x (totals r) (sheets r) (messages r) (present r)) (sym (read_is r))
+    ∙ no_turn (q r) (totals r) (sheets r) (messages r) (present r) _ (in_turn r _ c.in_err-turn.was) in
+    (p.1 ∙ ap Err p.2 ∙ sym e, sym (stored_by _ _ _ (words r) ∙ kept_old _ _ _ _ e))
 
 pub current-requires : goal.current-requires
 current-requires c =
-    let f = facts (goal.at.current-requires c).After-turn (in_turn (goal.at.current-requires c).After-turn _ c.in-Accepted.is) in
-    current_there (q (goal.at.current-requires c).After-turn) f.sound f.going (sheets (goal.at.current-requires c).After-turn) f.sheets_long
+    let r = (goal.at.current-requires c).After-turn in
+    let f = facts r (in_turn r _ c.in_ok-turn.was) in
+    current_there (q r) f.sound f.going (sheets r) f.sheets_long
+
+pub unwrap-requires : goal.unwrap-requires
+unwrap-requires c =
+    let r = (goal.at.unwrap-requires c).After-turn in
+    ap is_some (count_is r (in_turn r _ c.in_ok-turn.was))
 
 pub hear_with-requires : goal.hear_with-requires
 hear_with-requires c =
-    let f = facts (goal.at.hear_with-requires c).After-turn (in_turn (goal.at.hear_with-requires c).After-turn _ c.in-Accepted.is) in
-    let has : HasTurn (q (goal.at.hear_with-requires c).After-turn) (totals (goal.at.hear_with-requires c).After-turn) c.current.result.now c.count_marks-tally.result.count (messages (goal.at.hear_with-requires c).After-turn) (present (goal.at.hear_with-requires c).After-turn) =
+    let r = (goal.at.hear_with-requires c).After-turn in
+    let on = in_turn r _ c.in_ok-turn.was in
+    let f = facts r on in
+    let has : HasTurn (q r) (totals r) c.current.result.now c.unwrap.result (messages r) (present r) =
     record {
-      sound = sound_of (q (goal.at.hear_with-requires c).After-turn) f.sound;
+      sound = sound_of (q r) f.sound;
       going = f.going;
       totals_long = f.totals_long;
-      sheet_long = ap length c.current.ensures ∙ current_long (q (goal.at.hear_with-requires c).After-turn) f.sound f.going (sheets (goal.at.hear_with-requires c).After-turn) f.sheets_long;
-      counted = count_is (goal.at.hear_with-requires c).After-turn (in_turn (goal.at.hear_with-requires c).After-turn _ c.in-Accepted.is);
-      messages_long = (lengths (goal.at.hear_with-requires c).After-turn (in_turn (goal.at.hear_with-requires c).After-turn _ c.in-Accepted.is)).0;
-      marks_long = (lengths (goal.at.hear_with-requires c).After-turn (in_turn (goal.at.hear_with-requires c).After-turn _ c.in-Accepted.is)).1;
-    } in (
-      c.requires,
-      subst (λ (x : Party). HasTurn x (totals (goal.at.hear_with-requires c).After-turn) c.current.result.now c.count_marks-tally.result.count (messages (goal.at.hear_with-requires c).After-turn) (present (goal.at.hear_with-requires c).After-turn)) (read_is (goal.at.hear_with-requires c).After-turn) has,
-    )
+      sheet_long = ap length c.current.ensures ∙ current_long (q r) f.sound f.going (sheets r) f.sheets_long;
+      counted = same_Some _ _ (sym c.unwrap.ensures ∙ count_is r on);
+      messages_long = (lengths r on).0;
+      marks_long = (lengths r on).1;
+    } in
+    (c.requires, subst (λ (x : Party). HasTurn x (totals r) c.current.result.now c.unwrap.result (messages r) (present r)) (read_is r) has)
 
 pub returns : goal.returns
 returns c =
-    let p = party_of (words (goal.at.returns c).After-turn) in
-    let is : c.current.result.now ≡ current p (sheets (goal.at.returns c).After-turn) = c.current.ensures ∙ ap (λ (r : Party). current r (sheets (goal.at.returns c).After-turn)) (read_is (goal.at.returns c).After-turn) in
-    let judged_as : messages_judgement p (totals (goal.at.returns c).After-turn) (current p (sheets (goal.at.returns c).After-turn)) (messages (goal.at.returns c).After-turn) (present (goal.at.returns c).After-turn) ≡ hear_judgement p (totals (goal.at.returns c).After-turn) (sheets (goal.at.returns c).After-turn) (messages (goal.at.returns c).After-turn) (present (goal.at.returns c).After-turn) =
-    sym (by_messages p (totals (goal.at.returns c).After-turn) (sheets (goal.at.returns c).After-turn) (messages (goal.at.returns c).After-turn) (present (goal.at.returns c).After-turn) (ap (λ (r : Party). turn_of r (totals (goal.at.returns c).After-turn) (sheets (goal.at.returns c).After-turn) (messages (goal.at.returns c).After-turn) (present (goal.at.returns c).After-turn)) (sym (read_is (goal.at.returns c).After-turn)) ∙ in_turn (goal.at.returns c).After-turn _ c.in-Accepted.is)) in (
-      c.hear_with.ensures.0 ∙ ap (λ (sheet : List ℕ). messages_judgement p (totals (goal.at.returns c).After-turn) sheet (messages (goal.at.returns c).After-turn) (present (goal.at.returns c).After-turn)) is ∙ judged_as,
+    let r = (goal.at.returns c).After-turn in
+    let p = party_of (words r) in
+    let is : c.current.result.now ≡ current p (sheets r) = c.current.ensures ∙ ap (λ (x : Party). current x (sheets r)) (read_is r) in
+    let judged_as : messages_judgement p (totals r) (current p (sheets r)) (messages r) (present r) ≡ hear_judgement p (totals r) (sheets r) (messages r) (present r) =
+    sym
+    (by_messages p (totals r) (sheets r) (messages r) (present r)
+    (ap (λ (x : Party). turn_of x (totals r) (sheets r) (messages r) (present r)) (sym (read_is r)) ∙ in_turn r _ c.in_ok-turn.was)) in (
+      c.hear_with.ensures.0 ∙ ap (λ (sheet : List ℕ). messages_judgement p (totals r) sheet (messages r) (present r)) is ∙ judged_as,
       c.hear_with.ensures.1
-          ∙ ap (λ (sheet : List ℕ). kept (messages_judgement p (totals (goal.at.returns c).After-turn) sheet (messages (goal.at.returns c).After-turn) (present (goal.at.returns c).After-turn)) (words_of (heard_next p sheet (messages (goal.at.returns c).After-turn) (present (goal.at.returns c).After-turn))) (words (goal.at.returns c).After-turn)) is
-          ∙ ap (λ (j : Judgement). kept j (words_of (heard_next p (current p (sheets (goal.at.returns c).After-turn)) (messages (goal.at.returns c).After-turn) (present (goal.at.returns c).After-turn))) (words (goal.at.returns c).After-turn)) judged_as
-          ∙ sym (stored_by _ _ _ (words (goal.at.returns c).After-turn)),
+          ∙ ap (λ (sheet : List ℕ). kept (messages_judgement p (totals r) sheet (messages r) (present r)) (words_of (heard_next p sheet (messages r) (present r))) (words r)) is
+          ∙ ap (λ (j : Judgement). kept j (words_of (heard_next p (current p (sheets r)) (messages r) (present r))) (words r)) judged_as
+          ∙ sym (stored_by _ _ _ (words r)),
     )

@@ -1,7 +1,6 @@
 -- What holds at each turn of the loops of `write_kept`. Assumes nothing.
 use mathlib.Core.Path.{◌≡◌}
 use mathlib.Core.List.{map}
-use Prim.Native.Nat.{◌-◌, ◌≤◌}
 use lib.ListN.{length, take}
 use Rattle.ways.specs.Way.{tree, width}
 use Rattle.level.specs.Level.{level_kept}
@@ -10,8 +9,5 @@ use Rattle.level_round.proofs.write_kept.Given as goal
 
 abbrev pub invariant-loop-j : goal.invariant-loop-j
 invariant-loop-j l =
-    (l.j ≤ length l.words) × (length l.words ≡ width tree l.round)
-    × (take l.j l.words ≡ take l.j (level_kept l.round l.sum l.kept l.sheet (map word_sides l.products)))
-
-abbrev pub decreases-loop-j : goal.decreases-loop-j
-decreases-loop-j l = length l.words - l.j
+    (length l.words ≡ width tree l.level.round)
+    × (take l.j l.words ≡ take l.j (level_kept l.level.round l.level.sum l.level.kept.now l.level.sheet.now (map word_sides l.products)))

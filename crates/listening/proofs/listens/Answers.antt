@@ -47,12 +47,12 @@ judged_as q present totals sheet d s r e f g =
 
 judges : (c : After-are_shares) → in_field c.args.q (here c.args.q c.args.present.now) c.args.totals.now c.args.sheet.now ≡ c.are_shares.result
 judges c =
-    judged_as c.args.q c.args.present.now c.args.totals.now c.args.sheet.now _ _ _ c.are_shares.ensures c.demand_share-demand.ensures c.supply_share-supply.ensures
+    judged_as c.args.q c.args.present.now c.args.totals.now c.args.sheet.now _ _ _ c.are_shares.ensures c.totals_at.ensures.demand c.totals_at.ensures.supply
 
 module _ (c : Else-not-are_shares) where
   in_range : in_field c.args.q (here c.args.q c.args.present.now) c.args.totals.now c.args.sheet.now ≡ true
   in_range =
-      judged_as c.args.q c.args.present.now c.args.totals.now c.args.sheet.now _ _ _ c.are_shares.ensures c.demand_share-demand.ensures c.supply_share-supply.ensures
+      judged_as c.args.q c.args.present.now c.args.totals.now c.args.sheet.now _ _ _ c.are_shares.ensures c.totals_at.ensures.demand c.totals_at.ensures.supply
       ∙ c.if-not-are_shares.false
 
   sheet_bytes : every (λ w. ltb w 256) (drop 1 c.args.sheet.now) ≡ true

@@ -26,15 +26,18 @@ module _ (c : Then-in_level) where
   ready : Ready c.args.q.round c.args.q.pairs.words c.args.sheet.now
   ready = level_ready c.args.q c.args.sheet.now (sound_facts c.args.q c.requires.0) in_it c.requires.3 c.requires.4
 
-pub slice_bounds-says_level-end : goal.slice_bounds-says_level-end
-slice_bounds-says_level-end c = search (rules, (ready (goal.at.slice_bounds-says_level-end c).Then-in_level).kept_long)
+pub slice_bounds-level-end : goal.slice_bounds-level-end
+slice_bounds-level-end c = search (rules, (ready (goal.at.slice_bounds-level-end c).Then-in_level).kept_long)
+
+pub invariant_of-level : goal.invariant_of-level
+invariant_of-level c = record { ready = ready (goal.at.invariant_of-level c).Then-in_level }
 
 pub says_level-requires : goal.says_level-requires
 says_level-requires c =
     let q = c.args.q in
     let l = (sound_facts c.args.q c.requires.0).listed in
     let e = ap (λ (w : ℕ). q.n * w) (level_wide q (in_it (goal.at.says_level-requires c).Then-in_level)) in
-    (ready (goal.at.says_level-requires c).Then-in_level, l.own_least, omega (arith, l.own_most, l.parties_most), omega (arith, c.requires.5, e, mul-le-mul_right (width tree q.round) l.own_most))
+    (l.own_least, omega (arith, l.own_most, l.parties_most), omega (arith, c.requires.5, e, mul-le-mul_right (width tree q.round) l.own_most))
 
 pub returns-then-in_level : goal.returns-then-in_level
 returns-then-in_level c =

@@ -1,5 +1,5 @@
 -- `says_level` meets its contract. Assumes nothing.
-use mathlib.Core.Path.{◌≡◌, refl, sym, ap, ap₂, ◌∙◌}
+use mathlib.Core.Path.{◌≡◌, sym, ap, ap₂, ◌∙◌}
 use mathlib.Core.List.{List, ◌++◌}
 use Prim.Native.Nat.{ℕ, ◌+◌, ◌-◌, ◌*◌, ◌≤◌}
 use native.Mathlib.Omega.{arith}
@@ -7,27 +7,26 @@ use native.Mathlib.Nat.{mul-le-mul_right}
 use lib.ListN.{length, take, drop, replicate, length-replicate, length-append}
 use lib.Seq.{length-take-le, take_at}
 use Rattle.ranges.specs.Lists.{same}
-use Rattle.ways.specs.Way.{Way, tree, width}
-use Rattle.ways.proofs.Laws.{way_tree}
+use Rattle.ways.specs.Way.{tree, width}
 use Rattle.level.proofs.Laws.{words_many, wide as width-facts}
 use Rattle.listening.proofs.says_level.Goals as goal
 use Rattle.listening.proofs.says_level.Goals.{After-width-w, After-write_words}
 
 -- how many words, and where the own ones stand
-width_is : (c : After-width-w) → c.width-w.result ≡ width tree c.args.round
-width_is c = c.width-w.ensures ∙ ap (λ (w : Way). width w c.args.round) (way_tree 7 refl)
+width_is : (c : After-width-w) → c.width-w.result ≡ width tree c.args.level.now.round
+width_is c = c.width-w.ensures
 
 wide : (c : After-width-w) → c.width-w.result ≤ 32
 wide c =
-    let r = c.requires.0 in
-    let w = width-facts c.args.round r.least r.most in
+    let l = c.args.level.now in
+    let w = width-facts l.round l.ready.least l.ready.most in
     omega (arith, width_is c, w.twice, w.most)
 
 stands : (c : After-width-w) → ((c.args.own - 1) * c.width-w.result ≤ 9 * c.width-w.result) × ((c.args.own - 1) * c.width-w.result + c.width-w.result ≤ length c.args.messages.now)
 stands c =
-    let a : c.args.own - 1 ≤ 9 = omega (arith, c.requires.2) in
-    let b : (c.args.own - 1 + 1) * c.width-w.result ≡ c.args.own * width tree c.args.round = ap₂ ◌*◌ (omega (arith, c.requires.1)) (width_is c) in
-    (mul-le-mul_right c.width-w.result a, omega (arith, b, c.requires.3))
+    let a : c.args.own - 1 ≤ 9 = omega (arith, c.requires.1) in
+    let b : (c.args.own - 1 + 1) * c.width-w.result ≡ c.args.own * width tree c.args.level.now.round = ap₂ ◌*◌ (omega (arith, c.requires.0)) (width_is c) in
+    (mul-le-mul_right c.width-w.result a, omega (arith, b, c.requires.2))
 
 -- the words that are said
 abbrev words : After-write_words → List ℕ
@@ -35,8 +34,8 @@ words c = c.write_words.new.said
 
 words_long : (c : After-write_words) → length (words c) ≡ c.width-w.result
 words_long c =
-    let a = c.args in
-    ap length c.write_words.ensures ∙ words_many a.round a.sum a.kept.now a.sheet.now c.requires.0 ∙ sym (c.width-w.ensures ∙ ap (λ (w : Way). width w a.round) (way_tree 7 refl))
+    let l = c.args.level.now in
+    ap length c.write_words.ensures ∙ words_many l.round l.sum l.kept.now l.sheet.now l.ready ∙ sym c.width-w.ensures
 
 part : (from w : ℕ) (xs : List ℕ) → take (from + w - from) (drop from xs) ≡ take w (drop from xs)
 part from w xs =
@@ -47,7 +46,7 @@ more : (xs ys : List ℕ) → length xs ≤ length (xs ++ ys)
 more xs ys = omega (arith, length-append xs ys)
 
 pub overflow_sub-from : goal.overflow_sub-from
-overflow_sub-from c = c.requires.1
+overflow_sub-from c = c.requires.0
 
 pub overflow_mul-from : goal.overflow_mul-from
 overflow_mul-from c = omega (arith, (stands c).0, wide c)
@@ -65,8 +64,7 @@ pub slice_bounds-write_words-end : goal.slice_bounds-write_words-end
 slice_bounds-write_words-end c = sym (lent (goal.at.slice_bounds-write_words-end c).After-width-w)
 
 pub write_words-requires : goal.write_words-requires
-write_words-requires c =
-    (c.requires.0, lent (goal.at.write_words-requires c).After-width-w ∙ width_is (goal.at.write_words-requires c).After-width-w)
+write_words-requires c = lent (goal.at.write_words-requires c).After-width-w ∙ width_is (goal.at.write_words-requires c).After-width-w
 
 pub offset_bounds-messages-from : goal.offset_bounds-messages-from
 offset_bounds-messages-from c =

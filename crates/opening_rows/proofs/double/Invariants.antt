@@ -1,14 +1,11 @@
 -- What holds at each turn of the loops of `double`. Assumes nothing.
 use mathlib.Core.Path.{◌≡◌}
-use Prim.Native.Nat.{ℕ, ◌+◌, ◌-◌, ◌≤◌, ◌<◌}
-use lib.ListN.{length, get_or}
+use Prim.Native.Nat.{ℕ, ◌+◌, ◌<◌}
+use lib.ListN.{get_or}
 use Rattle.fields.specs.Byte.{xor}
 use Rattle.opening_rows.proofs.double.Given as goal
 
 abbrev pub invariant-loop-k : goal.invariant-loop-k
 invariant-loop-k l =
-    (l.k ≤ l.size) × (length l.row ≡ length l.initial.row) × ((i : ℕ) → i < l.size → get_or l.row i 0 ≡ get_or l.initial.row i 0)
+    ((i : ℕ) → i < l.size → get_or l.row i 0 ≡ get_or l.initial.row i 0)
     × ((i : ℕ) → i < l.k → get_or l.row (l.size + i) 0 ≡ xor (get_or l.initial.row i 0) l.term)
-
-abbrev pub decreases-loop-k : goal.decreases-loop-k
-decreases-loop-k l = l.size - l.k

@@ -1,11 +1,7 @@
 -- What holds at each turn of the loops of `fill_rows`. Assumes nothing.
-use Prim.Native.Nat.{◌-◌, ◌≤◌}
 use Rattle.opening_rows.specs.Rows.{RowsTo}
 use Rattle.opening_rows.proofs.fill_rows.Given as goal
 
 abbrev pub invariant-loop-i : goal.invariant-loop-i
 invariant-loop-i l =
-    (l.i ≤ l.n) × RowsTo l.i l.n l.rows
-
-abbrev pub decreases-loop-i : goal.decreases-loop-i
-decreases-loop-i l = l.n - l.i
+    RowsTo l.i l.n l.rows

@@ -13,7 +13,7 @@ use Rattle.record_calls.proofs.add.Goals as goal
 
 pub returns-then-not-is_record : goal.returns-then-not-is_record
 returns-then-not-is_record c =
-    let no = ap not (sym c.is_record.ensures) ∙ c.if-not-is_record.true-raw in (
+    let no = ap not (sym c.is_record.ensures ∙ c.if-not-is_record.true) in (
       c.without_record.ensures ∙ ap code_without c.is_bidder.ensures ∙ sym (no_record_code c.args.words.now _ _ no),
       sym (no_record c.args.words.now _ _ no),
       sym (no_record c.args.words.now _ _ no),
@@ -21,18 +21,18 @@ returns-then-not-is_record c =
 
 pub is_sound-whole-requires : goal.is_sound-whole-requires
 is_sound-whole-requires c =
-    lent_long c.args.words.now (ap not (sym c.is_record.ensures) ∙ c.if-not-is_record.false-raw)
+    lent_long c.args.words.now (ap not (sym c.is_record.ensures ∙ c.if-not-is_record.false))
 
 pub read-requires : goal.read-requires
 read-requires c =
-    lent_long c.args.words.now (ap not (sym c.is_record.ensures) ∙ c.if-not-is_record.false-raw)
+    lent_long c.args.words.now (ap not (sym c.is_record.ensures ∙ c.if-not-is_record.false))
 
 pub add_judged-requires : goal.add_judged-requires
 add_judged-requires c = c.is_sound-whole.ensures ∙ ap sound (sym c.read.ensures)
 
 pub returns : goal.returns
 returns c =
-    let lent = ap not (sym c.is_record.ensures) ∙ c.if-not-is_record.false-raw in
+    let lent = ap not (sym c.is_record.ensures ∙ c.if-not-is_record.false) in
     let s = c.store.ensures in
     let given : c.add_judged.result ≡ add_reply (party_of c.args.words.now) c.args.totals.now c.args.bidder c.args.shares.now =
     c.add_judged.ensures.0 ∙ ap (λ (q : Party). add_reply q c.args.totals.now c.args.bidder c.args.shares.now) c.read.ensures in (

@@ -5,8 +5,7 @@ use Prim.Native.Nat.{ℕ}
 use mathlib.Core.List.{List}
 use Rattle.ranges.specs.Sizes.{long}
 use Rattle.record.specs.Record.{sound}
-use Rattle.session.specs.declared.reply.Answer.{Answer}
-use Rattle.session.specs.Answer.{answer_reply, answer_number, cleared_index, cleared_probes}
+use Rattle.session.specs.Answer.{Answered, answer_reply, answer_number, cleared_index, cleared_probes}
 use Rattle.record_calls.specs.Calls.{answer_code, answer_index, answer_probes}
 use Rattle.record_words.specs.Words.{record_size, party_of}
 use Rattle.record_words.proofs.Lent.{lent_long, with_record, no_record}
@@ -16,14 +15,14 @@ use Rattle.record_calls.proofs.answer.Goals.{After-answer_judged}
 pub returns-then-not-is_record : goal.returns-then-not-is_record
 returns-then-not-is_record c =
     let words = c.args.words.now in
-    let no = ap not (sym c.is_record.ensures) ∙ c.if-not-is_record.true-raw in
-    (c.number.ensures ∙ sym (no_record words _ _ no), sym (no_record words _ _ no), sym (no_record words _ _ no))
+    let no = ap not (sym c.is_record.ensures ∙ c.if-not-is_record.true) in
+    (c.from.ensures ∙ sym (no_record words _ _ no), sym (no_record words _ _ no), sym (no_record words _ _ no))
 
 pub is_sound-whole-requires : goal.is_sound-whole-requires
-is_sound-whole-requires c = lent_long c.args.words.now (ap not (sym c.is_record.ensures) ∙ c.if-not-is_record.false-raw)
+is_sound-whole-requires c = lent_long c.args.words.now (ap not (sym c.is_record.ensures ∙ c.if-not-is_record.false))
 
 pub read-requires : goal.read-requires
-read-requires c = lent_long c.args.words.now (ap not (sym c.is_record.ensures) ∙ c.if-not-is_record.false-raw)
+read-requires c = lent_long c.args.words.now (ap not (sym c.is_record.ensures ∙ c.if-not-is_record.false))
 
 pub answer_judged-requires : goal.answer_judged-requires
 answer_judged-requires c = c.is_sound-whole.ensures ∙ ap sound (sym c.read.ensures)
@@ -34,27 +33,29 @@ module _ (c : After-answer_judged) where
   words = c.args.words.now
 
   lent : not (long record_size words) ≡ false
-  lent = ap not (sym c.is_record.ensures) ∙ c.if-not-is_record.false-raw
+  lent = ap not (sym c.is_record.ensures ∙ c.if-not-is_record.false)
 
   -- the answer, as it was matched
-  given : (a : Answer) → c.answer_judged.result ≡ a → answer_reply (party_of words) ≡ a
+  given : (a : Answered) → c.answer_judged.result ≡ a → answer_reply (party_of words) ≡ a
   given a e = sym (c.answer_judged.ensures ∙ ap answer_reply c.read.ensures) ∙ e
 
-  number : (a : Answer) → c.answer_judged.result ≡ a → answer_code words ≡ answer_number a
+  number : (a : Answered) → c.answer_judged.result ≡ a → answer_code words ≡ answer_number a
   number a e = with_record words _ _ lent ∙ ap answer_number (given a e)
 
-  index : (a : Answer) (old : ℕ) → c.answer_judged.result ≡ a → answer_index words old ≡ cleared_index a old
-  index a old e = with_record words _ _ lent ∙ ap (λ (r : Answer). cleared_index r old) (given a e)
+  index : (a : Answered) (old : ℕ) → c.answer_judged.result ≡ a → answer_index words old ≡ cleared_index a old
+  index a old e = with_record words _ _ lent ∙ ap (λ (r : Answered). cleared_index r old) (given a e)
 
-  made : (a : Answer) (old : ℕ) → c.answer_judged.result ≡ a → answer_probes words old ≡ cleared_probes a old
-  made a old e = with_record words _ _ lent ∙ ap (λ (r : Answer). cleared_probes r old) (given a e)
+  made : (a : Answered) (old : ℕ) → c.answer_judged.result ≡ a → answer_probes words old ≡ cleared_probes a old
+  made a old e = with_record words _ _ lent ∙ ap (λ (r : Answered). cleared_probes r old) (given a e)
 
-pub returns-in-Cleared : goal.returns-in-Cleared
-returns-in-Cleared c =
-    let e = c.in-Cleared.is in
-    (sym (number (goal.at.returns-in-Cleared c).After-answer_judged _ e), sym (index (goal.at.returns-in-Cleared c).After-answer_judged _ _ e), sym (made (goal.at.returns-in-Cleared c).After-answer_judged _ _ e))
+pub returns-in-Ok : goal.returns-in-Ok
+returns-in-Ok c =
+    let r = (goal.at.returns-in-Ok c).After-answer_judged in
+    let e = c.in-Ok.is in
+    (sym (number r _ e), sym (index r _ _ e), sym (made r _ _ e))
 
-pub returns-in-Refused : goal.returns-in-Refused
-returns-in-Refused c =
-    let e = c.in-Refused.is in
-    (c.number-in-Refused.ensures ∙ sym (number (goal.at.returns-in-Refused c).After-answer_judged _ e), sym (index (goal.at.returns-in-Refused c).After-answer_judged _ _ e), sym (made (goal.at.returns-in-Refused c).After-answer_judged _ _ e))
+pub returns-in-Err : goal.returns-in-Err
+returns-in-Err c =
+    let r = (goal.at.returns-in-Err c).After-answer_judged in
+    let e = c.in-Err.is in
+    (c.from-in-Err.ensures ∙ sym (number r _ e), sym (index r _ _ e), sym (made r _ _ e))

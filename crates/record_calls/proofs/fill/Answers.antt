@@ -6,7 +6,9 @@ use mathlib.Core.List.{List}
 use Rattle.ranges.specs.Sizes.{long}
 use Rattle.record.specs.Record.{sound}
 use Rattle.record.specs.declared.Party.{Party}
-use Rattle.filling.specs.declared.Filled.{Filled}
+use Rattle.std.proofs.Common.{Result}
+use Rattle.refusal.specs.declared.Refusal.{Refusal}
+use Rattle.filling.specs.declared.Hours.{Hours}
 use Rattle.filling.specs.Fill.{fill_reply, filled_number, filled_hours, filled_remainder}
 use Rattle.record_calls.specs.Calls.{fill_code, fill_hours, fill_remainder}
 use Rattle.record_words.specs.Words.{record_size, party_of}
@@ -17,17 +19,20 @@ use Rattle.record_calls.proofs.fill.Goals.{After-fill_judged}
 pub returns-then-not-is_record : goal.returns-then-not-is_record
 returns-then-not-is_record c =
     let words = c.args.words.now in
-    let no = ap not (sym c.is_record.ensures) ∙ c.if-not-is_record.true-raw in
-    (c.number.ensures ∙ sym (no_record words _ _ no), sym (no_record words _ _ no), sym (no_record words _ _ no))
+    let no = ap not (sym c.is_record.ensures ∙ c.if-not-is_record.true) in
+    (c.from.ensures ∙ sym (no_record words _ _ no), sym (no_record words _ _ no), sym (no_record words _ _ no))
 
 pub is_sound-whole-requires : goal.is_sound-whole-requires
-is_sound-whole-requires c = lent_long c.args.words.now (ap not (sym c.is_record.ensures) ∙ c.if-not-is_record.false-raw)
+is_sound-whole-requires c = lent_long c.args.words.now (ap not (sym c.is_record.ensures ∙ c.if-not-is_record.false))
 
 pub read-requires : goal.read-requires
-read-requires c = lent_long c.args.words.now (ap not (sym c.is_record.ensures) ∙ c.if-not-is_record.false-raw)
+read-requires c = lent_long c.args.words.now (ap not (sym c.is_record.ensures ∙ c.if-not-is_record.false))
 
 pub fill_judged-requires : goal.fill_judged-requires
 fill_judged-requires c = c.is_sound-whole.ensures ∙ ap sound (sym c.read.ensures)
+
+abbrev Filled : Type 0
+Filled = Result Hours Refusal
 
 -- where `fill` has been called
 module _ (c : After-fill_judged) where
@@ -38,7 +43,7 @@ module _ (c : After-fill_judged) where
   amount = c.args.amount
 
   lent : not (long record_size words) ≡ false
-  lent = ap not (sym c.is_record.ensures) ∙ c.if-not-is_record.false-raw
+  lent = ap not (sym c.is_record.ensures ∙ c.if-not-is_record.false)
 
   -- the fill, as it was matched
   given : (f : Filled) → c.fill_judged.result ≡ f → fill_reply (party_of words) amount ≡ f
@@ -53,12 +58,14 @@ module _ (c : After-fill_judged) where
   left_over : (f : Filled) (old : ℕ) → c.fill_judged.result ≡ f → fill_remainder words amount old ≡ filled_remainder f old
   left_over f old e = with_record words _ _ lent ∙ ap (λ (r : Filled). filled_remainder r old) (given f e)
 
-pub returns-in-Hours : goal.returns-in-Hours
-returns-in-Hours c =
-    let e = c.in-Hours.is in
-    (sym (number (goal.at.returns-in-Hours c).After-fill_judged _ e), sym (hours (goal.at.returns-in-Hours c).After-fill_judged _ _ e), sym (left_over (goal.at.returns-in-Hours c).After-fill_judged _ _ e))
+pub returns-in-Ok : goal.returns-in-Ok
+returns-in-Ok c =
+    let r = (goal.at.returns-in-Ok c).After-fill_judged in
+    let e = c.in-Ok.is in
+    (sym (number r _ e), sym (hours r _ _ e), sym (left_over r _ _ e))
 
-pub returns-in-Refused : goal.returns-in-Refused
-returns-in-Refused c =
-    let e = c.in-Refused.is in
-    (c.number-in-Refused.ensures ∙ sym (number (goal.at.returns-in-Refused c).After-fill_judged _ e), sym (hours (goal.at.returns-in-Refused c).After-fill_judged _ _ e), sym (left_over (goal.at.returns-in-Refused c).After-fill_judged _ _ e))
+pub returns-in-Err : goal.returns-in-Err
+returns-in-Err c =
+    let r = (goal.at.returns-in-Err c).After-fill_judged in
+    let e = c.in-Err.is in
+    (c.from-in-Err.ensures ∙ sym (number r _ e), sym (hours r _ _ e), sym (left_over r _ _ e))

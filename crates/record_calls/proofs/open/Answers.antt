@@ -18,7 +18,7 @@ module _ (c : After-is_record) where
 
 pub returns-then-not-is_record : goal.returns-then-not-is_record
 returns-then-not-is_record c =
-    let no = ap not (sym c.is_record.ensures) ∙ c.if-not-is_record.true-raw in (
+    let no = ap not (sym c.is_record.ensures ∙ c.if-not-is_record.true) in (
       c.without_record.ensures ∙ ap code_without (ap₂ ◌&&◌ c.on_list.ensures c.is_way.ensures) ∙ sym (no_record_code (words (goal.at.returns-then-not-is_record c).After-is_record) _ _ no),
       sym (no_record (words (goal.at.returns-then-not-is_record c).After-is_record) _ _ no),
       sym (no_record (words (goal.at.returns-then-not-is_record c).After-is_record) _ _ no),
@@ -27,7 +27,7 @@ returns-then-not-is_record c =
 pub returns : goal.returns
 returns c =
     let a = c.args in
-    let lent = ap not (sym c.is_record.ensures) ∙ c.if-not-is_record.false-raw in
+    let lent = ap not (sym c.is_record.ensures ∙ c.if-not-is_record.false) in
     let given = (goal.at.returns c).After-open.«open».ensures in
     let s = c.store.ensures in (
       s.0 ∙ ap (λ (r : Reply). number_on (words (goal.at.returns c).After-is_record) (code_of r.judgement)) given.0 ∙ opens (words (goal.at.returns c).After-is_record) lent a.n a.own a.k a.last a.totals.now,

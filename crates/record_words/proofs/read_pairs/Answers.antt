@@ -7,4 +7,4 @@ use Rattle.record_words.proofs.read_pairs.Goals as goal
 
 pub returns : goal.returns
 returns c =
-    ap (λ (ws : List ℕ). record { words = ws }) (c.copy.ensures ∙ pairs_part c.args.words.now c.requires)
+    ap (λ (ws : List ℕ). record { words = ws }) (c.copy_from_slice.ensures.after ∙ pairs_part c.args.words.now c.requires)

@@ -7,4 +7,4 @@ use Rattle.record_words.proofs.read_roll.Goals as goal
 
 pub returns : goal.returns
 returns c =
-    ap (λ (ws : List ℕ). record { words = ws }) (c.copy.ensures ∙ roll_part c.args.words.now c.requires)
+    ap (λ (ws : List ℕ). record { words = ws }) (c.copy_from_slice.ensures.after ∙ roll_part c.args.words.now c.requires)

@@ -15,7 +15,7 @@ pub returns-then-not-is_record : goal.returns-then-not-is_record
 returns-then-not-is_record c =
     let words = c.args.words.now in
     let no = ap not (sym c.is_record.ensures) ∙ c.if-not-is_record.true-raw in
-    (c.number.ensures ∙ sym (no_record words _ _ no), sym (no_record words _ _ no))
+    (c.from.ensures ∙ sym (no_record words _ _ no), sym (no_record words _ _ no))
 
 -- where a record is lent
 lent : (words : List ℕ) (here : Bool) → here ≡ long record_size words → here ≡ true → not (long record_size words) ≡ false
@@ -25,20 +25,20 @@ pub write-requires : goal.write-requires
 write-requires c =
     eqb-true _ _ (not-false _ (lent c.args.words.now _ c.is_record.ensures c.if-not-is_record.false))
 
-pub returns-in-Accepted : goal.returns-in-Accepted
-returns-in-Accepted c =
-    let e = c.in-Accepted.is in
+pub returns-in-Ok : goal.returns-in-Ok
+returns-in-Ok c =
+    let e = c.in-Ok.is in
     let words = c.args.words.now in
     let here = lent words _ c.is_record.ensures c.if-not-is_record.false in (
       sym (ap code_of e) ∙ sym (with_record words _ _ here),
       c.write.ensures ∙ sym (kept_new _ _ _ e) ∙ sym (with_record words _ _ here),
     )
 
-pub returns-in-Refused : goal.returns-in-Refused
-returns-in-Refused c =
-    let e = c.in-Refused.is in
+pub returns-in-Err : goal.returns-in-Err
+returns-in-Err c =
+    let e = c.in-Err.is in
     let words = c.args.words.now in
     let here = lent words _ c.is_record.ensures c.if-not-is_record.false in (
-      c.number-in-Refused.ensures ∙ sym (ap code_of e) ∙ sym (with_record words _ _ here),
+      c.into.ensures ∙ sym (ap code_of e) ∙ sym (with_record words _ _ here),
       sym (kept_old _ _ _ _ e) ∙ sym (with_record words _ _ here),
     )

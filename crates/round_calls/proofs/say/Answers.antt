@@ -13,14 +13,14 @@ use Rattle.round_calls.proofs.say.Goals as goal
 pub returns-then-not-is_record : goal.returns-then-not-is_record
 returns-then-not-is_record c =
     let words = c.args.words.now in
-    let no = ap not (sym c.is_record.ensures) ∙ c.if-not-is_record.true-raw in
-    (c.number.ensures ∙ sym (no_record words _ _ no), sym (no_record words _ _ no))
+    let no = ap not (sym c.is_record.ensures ∙ c.if-not-is_record.true) in
+    (c.from.ensures ∙ sym (no_record words _ _ no), sym (no_record words _ _ no))
 
 pub is_sound-whole-requires : goal.is_sound-whole-requires
-is_sound-whole-requires c = lent_long c.args.words.now (ap not (sym c.is_record.ensures) ∙ c.if-not-is_record.false-raw)
+is_sound-whole-requires c = lent_long c.args.words.now (ap not (sym c.is_record.ensures ∙ c.if-not-is_record.false))
 
 pub read-requires : goal.read-requires
-read-requires c = lent_long c.args.words.now (ap not (sym c.is_record.ensures) ∙ c.if-not-is_record.false-raw)
+read-requires c = lent_long c.args.words.now (ap not (sym c.is_record.ensures ∙ c.if-not-is_record.false))
 
 pub say_judged-requires : goal.say_judged-requires
 say_judged-requires c = c.is_sound-whole.ensures ∙ ap sound (sym c.read.ensures)
@@ -29,7 +29,7 @@ pub returns : goal.returns
 returns c =
     let a = c.args in
     let words = a.words.now in
-    let lent : not (long record_size words) ≡ false = ap not (sym c.is_record.ensures) ∙ c.if-not-is_record.false-raw in (
+    let lent : not (long record_size words) ≡ false = ap not (sym c.is_record.ensures ∙ c.if-not-is_record.false) in (
       c.code.ensures
           ∙ ap code_of (c.say_judged.ensures.0 ∙ ap (λ (q : Party). say_judgement q a.totals.now a.sheets.now a.messages.now) c.read.ensures)
           ∙ sym (with_record words _ _ lent),

@@ -1,25 +1,23 @@
 -- `say_with` meets its contract: a level's words, or a single one. Assumes nothing.
+use Rattle.std.proofs.Common.{Ok}
 use mathlib.Core.Path.{◌≡◌, refl, sym, ap, ap₂, ◌∙◌}
-use mathlib.Core.Bool.{true, not}
+use mathlib.Core.Bool.{Bool, true, not}
 use mathlib.Core.List.{List, [], ◌∷◌}
 use Prim.Native.Nat.{ℕ}
 use native.Mathlib.Omega.{arith}
 use lib.Dec.{ltb}
 use lib.ListN.{length, drop, set}
-use borrow.Author.Tests.{not-false}
-use Rattle.refusal.specs.declared.Judgement.TheVariants.{Accepted}
 use Rattle.refusal.proofs.Judging.{refuses, passes, all_passed, kept_new, kept_old}
 use Rattle.ranges.specs.Lists.{every}
+use Rattle.record.specs.declared.Party.{Party}
 use Rattle.record.proofs.Soundness.{sound_facts}
-use Rattle.level.specs.Level.{Ready}
-use Rattle.message.specs.Message.{are_shares, in_field, in_level}
+use Rattle.message.specs.Message.{demand_share, supply_share, are_shares, in_field, in_level}
 use Rattle.message.proofs.Sheets.{probe_words, total_words, in_field_bytes}
 use Rattle.message.proofs.Messages.{level_wide, level_ready, single_wide, level_message, single_message}
 use Rattle.saying.specs.Say.{words_judgement}
 use borrow.Author.Rules.{rules}
-use Rattle.saying.proofs.say_with.Lts.View as view
 use Rattle.saying.proofs.say_with.Goals as goal
-use Rattle.saying.proofs.say_with.Goals.{After-are_shares, After-single, Else-not-are_shares, Then-in_level}
+use Rattle.saying.proofs.say_with.Goals.{After-single, Else-not-are_shares, Then-in_level}
 
 -- one word is written
 only : (said : List ℕ) (w : ℕ) → length said ≡ 1 → set said 0 w ≡ w ∷ []
@@ -27,13 +25,10 @@ only [] w e = absurd (omega (arith, e))
 only (x ∷ []) w e = refl
 only (x ∷ y ∷ ys) w e = absurd (omega (arith, e))
 
--- once the words are judged
-module _ (c : After-are_shares) where
-  judges : c.are_shares.result ≡ in_field c.args.q true c.args.totals.now c.args.sheet.now
-  judges =
-      let q = c.args.q in
-      c.are_shares.ensures
-      ∙ ap₂ (λ (d s : ℕ). are_shares q.round true d s c.args.sheet.now) c.demand_share-demand.ensures c.supply_share-supply.ensures
+-- how the words are judged, by what the calls return
+judged_as : (q : Party) (totals sheet : List ℕ) (d s : ℕ) (r : Bool) → r ≡ are_shares q.round true d s sheet → d ≡ demand_share q totals → s ≡ supply_share q totals
+    → in_field q true totals sheet ≡ r
+judged_as q totals sheet d s r e f g = sym (e ∙ ap₂ (λ (d s : ℕ). are_shares q.round true d s sheet) f g)
 
 pub are_shares-requires : goal.are_shares-requires
 are_shares-requires c =
@@ -42,36 +37,39 @@ are_shares-requires c =
 pub returns-then-not-are_shares : goal.returns-then-not-are_shares
 unfolding words_judgement
 returns-then-not-are_shares c =
-    let e = refuses _ _ _ (ap not (sym (judges (goal.at.returns-then-not-are_shares c).After-are_shares)) ∙ c.if-not-are_shares.true-raw) in
+    let e = refuses _ _ _ (ap not (judged_as c.args.q c.args.totals.now c.args.sheet.now _ _ _ c.are_shares.ensures c.totals_at.ensures.demand c.totals_at.ensures.supply ∙ c.if-not-are_shares.true)) in
     (sym e, sym (kept_old _ _ _ _ e))
 
 -- where the words are shares
 module _ (c : Else-not-are_shares) where
   shares : in_field c.args.q true c.args.totals.now c.args.sheet.now ≡ true
-  shares = sym (judges (view.up-After-are_shares _ _ _ c.before.before)) ∙ not-false _ c.if-not-are_shares.false-raw
+  shares =
+      judged_as c.args.q c.args.totals.now c.args.sheet.now _ _ _ c.are_shares.ensures c.totals_at.ensures.demand c.totals_at.ensures.supply
+      ∙ c.if-not-are_shares.false
 
   words : every (λ w. ltb w 256) (drop 1 c.args.sheet.now) ≡ true
   words = in_field_bytes c.args.q true c.args.totals.now c.args.sheet.now shares
 
-  accepted : words_judgement c.args.q c.args.totals.now c.args.sheet.now ≡ Accepted
+  accepted : words_judgement c.args.q c.args.totals.now c.args.sheet.now ≡ Ok tt
   unfolding words_judgement
   accepted = passes _ _ _ (ap not shares) ∙ all_passed
 
--- in a level
-module _ (c : Then-in_level) where
-  in_it : in_level c.args.q ≡ true
-  in_it = sym c.in_level.ensures ∙ c.if-in_level.true
+in_it : (c : Then-in_level) → in_level c.args.q ≡ true
+in_it c = sym c.in_level.ensures ∙ c.if-in_level.true
 
-  ready : let a = c.args in Ready a.q.round a.q.pairs.words a.sheet.now
-  ready =
-      level_ready c.args.q c.args.sheet.now (sound_facts c.args.q c.requires.0) in_it c.requires.3 (words (view.up-Else-not-are_shares _ _ _ c.before.before.before))
+pub slice_bounds-level-end : goal.slice_bounds-level-end
+slice_bounds-level-end c =
+    let at = goal.at.slice_bounds-level-end c in
+    let ready = level_ready c.args.q c.args.sheet.now (sound_facts c.args.q c.requires.0) (in_it at.Then-in_level) c.requires.3 (words at.Else-not-are_shares) in
+    search (rules, ready.kept_long)
 
-pub slice_bounds-write_words-end : goal.slice_bounds-write_words-end
-slice_bounds-write_words-end c = search (rules, (ready (goal.at.slice_bounds-write_words-end c).Then-in_level).kept_long)
+pub invariant_of-level : goal.invariant_of-level
+invariant_of-level c =
+    let at = goal.at.invariant_of-level c in
+    record { ready = level_ready c.args.q c.args.sheet.now (sound_facts c.args.q c.requires.0) (in_it at.Then-in_level) c.requires.3 (words at.Else-not-are_shares) }
 
 pub write_words-requires : goal.write_words-requires
-write_words-requires c =
-    (ready (goal.at.write_words-requires c).Then-in_level, c.requires.4 ∙ level_wide c.args.q (in_it (goal.at.write_words-requires c).Then-in_level))
+write_words-requires c = c.requires.4 ∙ level_wide c.args.q (in_it (goal.at.write_words-requires c).Then-in_level)
 
 pub returns-then-in_level : goal.returns-then-in_level
 returns-then-in_level c =

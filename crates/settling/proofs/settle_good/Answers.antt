@@ -11,7 +11,7 @@ use Rattle.settling.proofs.Page.{zeros_left}
 use Rattle.settling.proofs.Settled.{Settles, settles}
 use borrow.Author.Rules.{rules}
 use Rattle.settling.proofs.settle_good.Goals as goal
-use Rattle.settling.proofs.settle_good.Goals.{After-no_entries-entries, After-run-ended}
+use Rattle.settling.proofs.settle_good.Goals.{After-run-ended}
 
 known : (c : After-run-ended) → Settles c.args.input.now c.args.shape c.run-ended.result.course.answer c.run-ended.result.party
 known c =

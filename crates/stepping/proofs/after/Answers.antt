@@ -46,14 +46,13 @@ pub begun-requires : goal.begun-requires
 begun-requires c =
     let first : role c.args.q ≡ 1 = rw c.in-Sum.is at c.requires.3 in
     let one : c.args.q.round ≡ 1 = sym (role_is c.args.q (omega (arith, first))) ∙ first in
-    (c.requires.2, omega (arith, sheet_at_least c.args.q c.args.sheet.now (omega (arith, one)) c.requires.1))
+    omega (arith, sheet_at_least c.args.q c.args.sheet.now (omega (arith, one)) c.requires.1)
 
 pub multiplied-requires : goal.multiplied-requires
 multiplied-requires c =
     let possible : Possible (role c.args.q) (Factors _ _) = rw c.in-Factors.is at c.requires.3 in
     let e = role_is c.args.q possible.1 in (
       sheet_at_least c.args.q c.args.sheet.now (omega (arith, possible.1, e)) c.requires.1,
-      c.requires.2,
       (omega (arith, possible.0, e), omega (arith, possible.1, e), possible.2, possible.3),
     )
 

@@ -4,4 +4,4 @@ use Rattle.stepping.proofs.decided.Goals as goal
 
 pub returns : goal.returns
 unfolding decided
-returns c = rw (c.either.ensures, c.clears.ensures, c.none-next.ensures)
+returns c = rw (c.either.ensures, c.clears.ensures, c.none.ensures)

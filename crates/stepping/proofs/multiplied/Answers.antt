@@ -22,5 +22,5 @@ made q sheet d e alpha beta gamma carry h a b g = rw (h, a, b, g)
 pub returns : goal.returns
 returns c =
     c.in_round.ensures
-    ∙ made c.args.q c.args.sheet.now c.args.d c.args.e _ _ _ _ c.next_carry-carry.ensures c.triple_share-alpha.ensures
-    c.triple_share-beta.ensures c.triple_share-gamma.ensures
+    ∙ made c.args.q c.args.sheet.now.words.now c.args.d c.args.e _ _ _ _ c.next_carry-carry.ensures c.triple_shares.ensures.alpha
+    c.triple_shares.ensures.beta c.triple_shares.ensures.gamma

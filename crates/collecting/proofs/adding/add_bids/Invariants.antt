@@ -1,8 +1,8 @@
 -- What holds at each turn of the loops of `add_bids`. Assumes nothing.
 use mathlib.Core.Path.{◌≡◌}
 use mathlib.Core.List.{zip}
-use Prim.Native.Nat.{◌-◌, ◌≤◌}
-use lib.ListN.{length, drop}
+use Prim.Native.Nat.{◌-◌}
+use lib.ListN.{drop}
 use Rattle.sharing.specs.Scheme.{threshold}
 use Rattle.auction.specs.Auction.{IsAuction}
 use Rattle.auction.proofs.Closed.{totals_after, no_totals}
@@ -17,15 +17,10 @@ use Rattle.collecting.proofs.adding.add_bids.Given as goal
 
 abbrev pub invariant-loop-i : goal.invariant-loop-i
 invariant-loop-i l =
-    (l.i ≤ l.bids)
-    × Word l.so_far.state
-    × (length l.totals ≡ length l.initial.totals)
+    Word l.so_far.state
     × (after_bids (threshold l.n) l.k (l.bids - l.i) l.so_far.state ≡ after_bids (threshold l.n) l.k l.bids l.state)
     × (IsAuction (auction_of l.n l.k l.bids (drop l.at l.input))
     → Holds (auction_of l.n l.k l.bids (drop l.at l.input)) empty (no_totals (auction_of l.n l.k l.bids (drop l.at l.input))) l.initial.so_far.parties l.initial.totals
     → Bidding (auction_of l.n l.k l.bids (drop l.at l.input)) l.bids l.input
     (totals_after (zip (numbered 1 (tables l.k l.bids (drop l.at l.input))) (bid_coins (threshold l.n) l.k l.bids l.state)) (no_totals (auction_of l.n l.k l.bids (drop l.at l.input))))
     l.so_far.parties l.totals l.so_far.at l.so_far.state l.i)
-
-abbrev pub decreases-loop-i : goal.decreases-loop-i
-decreases-loop-i l = l.bids - l.i

@@ -1,20 +1,14 @@
 -- `grown` meets its contract: a byte that is no digit, and one that is. Assumes nothing.
-use native.Mathlib.Omega.{arith}
-use borrow.Author.Tests.{le-leb, lt-leb}
-use Rattle.lines.specs.Lines.{grown}
+use Rattle.std.proofs.Common.{sym, ap, ◌∙◌, cond, ◌-◌}
+use Rattle.lines.specs.Lines.{grown, with_digit}
+use Rattle.lines.specs.declared.line.Part.TheVariants.{Bad}
 use Rattle.lines.proofs.line.grown.Goals as goal
 
-pub with_digit-requires : goal.with_digit-requires
-with_digit-requires c = omega arith
-
-pub returns-then-b-lt48 : goal.returns-then-b-lt48
+pub returns-then-is_ascii_digit : goal.returns-then-is_ascii_digit
 unfolding grown
-returns-then-b-lt48 c = rw (lt-leb _ _ c.if-b-lt48.true)
+returns-then-is_ascii_digit c =
+    c.with_digit.ensures ∙ sym (ap (λ t. cond t (with_digit c.args.part (c.args.b - 48)) Bad) (sym c.is_ascii_digit.ensures.value ∙ c.if-is_ascii_digit.true))
 
-pub returns-then-b-gt57 : goal.returns-then-b-gt57
+pub returns-else-is_ascii_digit : goal.returns-else-is_ascii_digit
 unfolding grown
-returns-then-b-gt57 c = rw (le-leb _ _ c.if-b-lt48.false, lt-leb _ _ c.if-b-gt57.true)
-
-pub returns-else-b-gt57 : goal.returns-else-b-gt57
-unfolding grown
-returns-else-b-gt57 c = rw (le-leb _ _ c.if-b-lt48.false, le-leb _ _ c.if-b-gt57.false) c.with_digit.ensures
+returns-else-is_ascii_digit c = sym (ap (λ t. cond t (with_digit c.args.part (c.args.b - 48)) Bad) (sym c.is_ascii_digit.ensures.value ∙ c.if-is_ascii_digit.false))

@@ -1,14 +1,11 @@
--- What holds at each turn of the loops of `read_numbers`. Assumes nothing.
+-- What holds at each turn of the loop of `read_numbers`. Assumes nothing.
 use mathlib.Core.Path.{◌≡◌}
-use Prim.Native.Nat.{◌+◌, ◌-◌, ◌≤◌}
-use lib.ListN.{length, take, drop}
+use Prim.Native.Nat.{◌+◌}
+use lib.ListN.{take, drop}
 use Rattle.lines.specs.Lines.{numbers, bytes_of, formed as formed-of}
 use Rattle.lines.proofs.numbers.read_numbers.Given as goal
 
 abbrev pub invariant-loop-i : goal.invariant-loop-i
 invariant-loop-i l =
-    (l.i ≤ length l.initial.into) × (length l.into ≡ length l.initial.into) × (take l.i l.into ≡ numbers l.i (drop l.at l.input))
+    (take l.i l.into ≡ numbers l.i (drop l.at l.input))
     × (l.next ≡ l.at + bytes_of l.i (drop l.at l.input)) × (l.formed ≡ formed-of l.i (drop l.at l.input))
-
-abbrev pub decreases-loop-i : goal.decreases-loop-i
-decreases-loop-i l = length l.initial.into - l.i

@@ -20,8 +20,8 @@ use Rattle.message.proofs.word.are_shares.Goals.{Else-last_round-eq7, Then-last_
 pub returns-then-round-gt33 : goal.returns-then-round-gt33
 returns-then-round-gt33 c =
     let a = c.args in
-    ap (λ (w : ℕ). not a.used || ltb w p) c.either_total.ensures
-    ∙ sym (late_shares a.round a.used a.demand a.supply a.sheet.now c.if-round-gt33.true (c.requires.1 c.if-round-gt33.true))
+    ap (λ (w : ℕ). not a.used || ltb w p) c.opened_in.ensures
+    ∙ sym (late_shares a.round a.used a.totals.demand a.totals.supply a.sheet.now c.if-round-gt33.true (c.requires.1 c.if-round-gt33.true))
 
 -- the length of the sheet, in a probe
 seven : (c : Then-last_round-eq7) → length c.args.sheet.now ≡ 220
@@ -54,8 +54,8 @@ slice_bounds-all_below-end c = search (rules, seven c)
 pub returns-then-last_round-eq7 : goal.returns-then-last_round-eq7
 returns-then-last_round-eq7 c =
     let a = c.args in
-    judged a.used a.round a.demand a.supply a.sheet.now _ (c.all_below.ensures ∙ rest a.sheet.now 219 (seven (goal.at.returns-then-last_round-eq7 c).Then-last_round-eq7))
-    ∙ sym (probe_shares a.round a.used a.demand a.supply a.sheet.now (omega (arith, c.if-round-gt33.false)))
+    judged a.used a.round a.totals.demand a.totals.supply a.sheet.now _ (c.all_below.ensures ∙ rest a.sheet.now 219 (seven (goal.at.returns-then-last_round-eq7 c).Then-last_round-eq7))
+    ∙ sym (probe_shares a.round a.used a.totals.demand a.totals.supply a.sheet.now (omega (arith, c.if-round-gt33.false)))
 
 pub slice_bounds-all_below-end-2 : goal.slice_bounds-all_below-end-2
 slice_bounds-all_below-end-2 c = search (rules, other c)
@@ -63,5 +63,5 @@ slice_bounds-all_below-end-2 c = search (rules, other c)
 pub returns : goal.returns
 returns c =
     let a = c.args in
-    judged a.used a.round a.demand a.supply a.sheet.now _ (c.all_below-2.ensures ∙ rest a.sheet.now 126 (other (goal.at.returns c).Else-last_round-eq7))
-    ∙ sym (probe_shares a.round a.used a.demand a.supply a.sheet.now (omega (arith, c.if-round-gt33.false)))
+    judged a.used a.round a.totals.demand a.totals.supply a.sheet.now _ (c.all_below-2.ensures ∙ rest a.sheet.now 126 (other (goal.at.returns c).Else-last_round-eq7))
+    ∙ sym (probe_shares a.round a.used a.totals.demand a.totals.supply a.sheet.now (omega (arith, c.if-round-gt33.false)))

@@ -36,24 +36,18 @@ module _ (c : After-struct_known-1) where
   long : c.args.q.round ≤ 33 → 127 ≤ length c.args.sheet.now
   long l = sheet_at_least c.args.q c.args.sheet.now l c.requires.3
 
-  demand_is : c.demand_share-demand.result ≡ demand_share c.args.q c.args.totals.now
-  demand_is = c.demand_share-demand.ensures
-
-  supply_is : c.supply_share-supply.result ≡ supply_share c.args.q c.args.totals.now
-  supply_is = c.supply_share-supply.ensures
-
 pub single_word-requires : goal.single_word-requires
 single_word-requires c =
-    ((facts (goal.at.single_word-requires c).After-struct_known-1).round.least, lit< tt, long (goal.at.single_word-requires c).After-struct_known-1, c.requires.4)
+    ((facts (goal.at.single_word-requires c).After-struct_known-1).round.least, lit< tt, long (goal.at.single_word-requires c).After-struct_known-1)
 
 pub returns-then-q-eq7 : goal.returns-then-q-eq7
 returns-then-q-eq7 c =
     let a = c.args in
     let q = a.q in
     c.single_word.ensures
-    ∙ ap (λ (x : ℕ). single_word q.round 7 q.sum x q.search.which c.demand_share-demand.result c.supply_share-supply.result a.sheet.now)
+    ∙ ap (λ (x : ℕ). single_word q.round 7 q.sum x q.search.which c.totals_at-totals.result.demand c.totals_at-totals.result.supply a.sheet.now)
     c.last_bottom-bottom.ensures
-    ∙ ap₂ (λ (d s : ℕ). single_word q.round 7 q.sum (get_or q.pairs.words 1 0) q.search.which d s a.sheet.now) (demand_is (goal.at.returns-then-q-eq7 c).After-struct_known-1) (supply_is (goal.at.returns-then-q-eq7 c).After-struct_known-1)
+    ∙ ap₂ (λ (d s : ℕ). single_word q.round 7 q.sum (get_or q.pairs.words 1 0) q.search.which d s a.sheet.now) c.totals_at-totals.ensures.demand c.totals_at-totals.ensures.supply
     ∙ of_seven q a.totals.now a.sheet.now c.if-q-eq7.true
 
 pub overflow_cast-carry : goal.overflow_cast-carry
@@ -61,12 +55,12 @@ overflow_cast-carry c = omega (arith, (facts (goal.at.overflow_cast-carry c).Aft
 
 pub single_word-requires-2 : goal.single_word-requires-2
 single_word-requires-2 c =
-    ((facts (goal.at.single_word-requires-2 c).After-struct_known-1).round.least, last_most c.args.q.last (facts (goal.at.single_word-requires-2 c).After-struct_known-1).way, long (goal.at.single_word-requires-2 c).After-struct_known-1, c.requires.4)
+    ((facts (goal.at.single_word-requires-2 c).After-struct_known-1).round.least, last_most c.args.q.last (facts (goal.at.single_word-requires-2 c).After-struct_known-1).way, long (goal.at.single_word-requires-2 c).After-struct_known-1)
 
 pub returns : goal.returns
 returns c =
     let a = c.args in
     let q = a.q in
     c.single_word-2.ensures
-    ∙ ap₂ (λ (d s : ℕ). single_word q.round q.last q.sum q.carry q.search.which d s a.sheet.now) (demand_is (goal.at.returns c).After-struct_known-1) (supply_is (goal.at.returns c).After-struct_known-1)
+    ∙ ap₂ (λ (d s : ℕ). single_word q.round q.last q.sum q.carry q.search.which d s a.sheet.now) c.totals_at-totals.ensures.demand c.totals_at-totals.ensures.supply
     ∙ of_others q a.totals.now a.sheet.now c.if-q-eq7.false

@@ -44,21 +44,21 @@ bounds-sheet-0 c =
 pub returns-then-round-eq1 : goal.returns-then-round-eq1
 returns-then-round-eq1 c =
     let a = c.args in
-    c.compared.ensures ∙ sym (first a.round a.last_round a.sum a.carry.0 a.which a.demand a.supply a.sheet.now c.if-round-eq1.true)
+    c.compared.ensures ∙ sym (first a.round a.last_round a.sum a.carry.0 a.which a.totals.demand a.totals.supply a.sheet.now.words.now c.if-round-eq1.true)
 
 pub byte_share-requires : goal.byte_share-requires
 byte_share-requires c =
-    (c.requires.3, omega arith, omega (arith, c.requires.2 (omega (arith, c.if-round-last_round.true, c.requires.1))))
+    (omega arith, omega (arith, c.requires.2 (omega (arith, c.if-round-last_round.true, c.requires.1))))
 
 pub returns-then-round-last_round : goal.returns-then-round-last_round
 returns-then-round-last_round c =
     let a = c.args in
     c.last.ensures
     ∙ ap (λ (b : ℕ). last (on_shares bytes) a.sum b a.carry.0) c.byte_share.ensures
-    ∙ sym (in_last a.round a.last_round a.sum a.carry.0 a.which a.demand a.supply a.sheet.now c.if-round-eq1.false c.if-round-last_round.true)
+    ∙ sym (in_last a.round a.last_round a.sum a.carry.0 a.which a.totals.demand a.totals.supply a.sheet.now.words.now c.if-round-eq1.false c.if-round-last_round.true)
 
 -- in a round from 2 to 32
-long : (c : Then-round-le32) → 127 ≤ length c.args.sheet.now
+long : (c : Then-round-le32) → 127 ≤ length c.args.sheet.now.words.now
 long c = c.requires.2 (omega (arith, c.if-round-le32.true))
 
 least : (c : Then-round-le32) → 2 ≤ c.args.round
@@ -66,30 +66,26 @@ least c = omega (arith, c.requires.0, c.if-round-eq1.false)
 
 pub byte_share-mask_bit-requires : goal.byte_share-mask_bit-requires
 byte_share-mask_bit-requires c =
-    (c.requires.3, c.requires.0, omega (arith, long c, c.if-round-le32.true))
+    (c.requires.0, omega (arith, long c, c.if-round-le32.true))
 
-pub triple_share-alpha-requires : goal.triple_share-alpha-requires
-triple_share-alpha-requires c =
-    (long (goal.at.triple_share-alpha-requires c).Then-round-le32, c.requires.3, least (goal.at.triple_share-alpha-requires c).Then-round-le32, c.if-round-le32.true, omega arith)
-
-pub triple_share-beta-requires : goal.triple_share-beta-requires
-triple_share-beta-requires c =
-    (long (goal.at.triple_share-beta-requires c).Then-round-le32, c.requires.3, least (goal.at.triple_share-beta-requires c).Then-round-le32, c.if-round-le32.true, omega arith)
+pub triple_shares-requires : goal.triple_shares-requires
+triple_shares-requires c =
+    (long (goal.at.triple_shares-requires c).Then-round-le32, least (goal.at.triple_shares-requires c).Then-round-le32, c.if-round-le32.true)
 
 pub returns-then-round-le32 : goal.returns-then-round-le32
 returns-then-round-le32 c =
     let a = c.args in
     c.factors.ensures
-    ∙ ap₂ both (ap₂ (left (on_shares bytes) a.sum a.round) c.byte_share-mask_bit.ensures c.triple_share-alpha.ensures)
-    (ap (right (on_shares bytes) a.sum a.round a.carry.0) c.triple_share-beta.ensures)
+    ∙ ap₂ both (ap₂ (left (on_shares bytes) a.sum a.round) c.byte_share-mask_bit.ensures c.triple_shares.ensures.alpha)
+    (ap (right (on_shares bytes) a.sum a.round a.carry.0) c.triple_shares.ensures.beta)
     ∙ sym
-    (between a.round a.last_round a.sum a.carry.0 a.which a.demand a.supply a.sheet.now c.if-round-eq1.false c.if-round-last_round.false
+    (between a.round a.last_round a.sum a.carry.0 a.which a.totals.demand a.totals.supply a.sheet.now.words.now c.if-round-eq1.false c.if-round-last_round.false
     c.if-round-le32.true)
 
 pub returns : goal.returns
 returns c =
     let a = c.args in
-    c.either_total.ensures
+    c.opened_in.ensures
     ∙ sym
-    (of_totals a.round a.last_round a.sum a.carry.0 a.which a.demand a.supply a.sheet.now c.if-round-eq1.false c.if-round-last_round.false
+    (of_totals a.round a.last_round a.sum a.carry.0 a.which a.totals.demand a.totals.supply a.sheet.now.words.now c.if-round-eq1.false c.if-round-last_round.false
     (omega (arith, c.if-round-le32.false)))

@@ -1,6 +1,5 @@
 -- What holds at each turn of the loops of `weighted`. Assumes nothing.
 use mathlib.Core.Path.{◌≡◌}
-use Prim.Native.Nat.{◌-◌, ◌≤◌}
 use lib.ListN.{length, take}
 use Rattle.fields.specs.Amount.{amounts}
 use Rattle.weights.specs.Rows.{weights, amount_scheme}
@@ -9,7 +8,4 @@ use Rattle.openings.proofs.amount.weighted.Given as goal
 
 abbrev pub invariant-loop-i : goal.invariant-loop-i
 invariant-loop-i l =
-    (l.i ≤ l.n) × (length l.terms ≡ 9) × (take l.i l.terms ≡ take l.i (products amounts (weights amount_scheme l.n) l.words))
-
-abbrev pub decreases-loop-i : goal.decreases-loop-i
-decreases-loop-i l = l.n - l.i
+    (length l.terms ≡ 9) × (take l.i l.terms ≡ take l.i (products amounts (weights amount_scheme l.n) l.words))

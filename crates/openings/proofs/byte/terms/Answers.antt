@@ -1,7 +1,7 @@
 -- `terms` meets its contract: after j sums the exponent is that of the word with its weight, j times its point. Assumes nothing.
 use mathlib.Core.Path.{◌≡◌, refl, sym, ap, ap₂, ◌∙◌}
 use mathlib.Core.List.{[], ◌∷◌}
-use Prim.Native.Nat.{ℕ, suc, ◌+◌, ◌-◌, ◌<◌}
+use Prim.Native.Nat.{ℕ, suc, ◌+◌, ◌<◌}
 use native.Mathlib.Omega.{arith}
 use lib.ListN.{get_or}
 use Rattle.fields.specs.Byte.{product, bytes}
@@ -24,7 +24,6 @@ pub loop-j-init : goal.loop-j-init
 unfolding moments packed
 loop-j-init c =
     let a = c.args in (
-      omega arith,
       c.exponent-at.type_inv,
       ap power (c.exponent-at.ensures ∙ ap₂ added c.log.ensures c.log-2.ensures)
           ∙ power_added (get_or logarithms a.weight 0) (get_or logarithms a.word 0)
@@ -43,14 +42,10 @@ module _ (c : After-power) where
   logged = c.log-step.ensures
 
   made : c.power.result ≡ multiplied c.args.point c.loop-j.j (product c.args.weight c.args.word)
-  made = c.power.ensures ∙ power_entry c.loop-j.at c.loop-j.invariant.1 ∙ c.loop-j.invariant.2
-
-pub overflow_shl-all : goal.overflow_shl-all
-overflow_shl-all c =
-    let l = c.loop-j in omega (arith, l.invariant.0, c.loop-j-test.true, c.requires.2)
+  made = c.power.ensures ∙ power_entry c.loop-j.at c.loop-j.invariant.0 ∙ c.loop-j.invariant.1
 
 pub overflow_add-all : goal.overflow_add-all
-overflow_add-all c = record { fits = shifted_fits _ _ _ _ _ (omega arith) (weighted_lt c) (few c) c.loop-j.invariant.3 (made c) }
+overflow_add-all c = record { fits = shifted_fits _ _ _ _ _ (omega arith) (weighted_lt c) (few c) c.loop-j.invariant.2 (made c) }
 
 pub loop-j-preserved : goal.loop-j-preserved
 loop-j-preserved c =
@@ -58,18 +53,17 @@ loop-j-preserved c =
     let a = c.args in
     let z = product a.weight a.word in
     let next : l.j + 1 ≡ suc l.j = omega arith in (
-      omega (arith, c.loop-j-test.true),
       c.exponent-at-in-loop-j.type_inv,
       ap power (c.exponent-at-in-loop-j.ensures ∙ ap (added l.at) (logged (goal.at.loop-j-preserved c).After-power)) ∙ power_added l.at (get_or logarithms a.point 0)
-          ∙ ap₂ product l.invariant.2 (power_log a.point (omega arith) (omega (arith, c.requires)))
+          ∙ ap₂ product l.invariant.1 (power_log a.point (omega arith) (omega (arith, c.requires)))
           ∙ byte_field.ring.mul_comm (multiplied a.point l.j z) a.point (multiplied_lt a.point l.j z (omega arith) (weighted_lt (goal.at.loop-j-preserved c).After-power)) (omega arith)
           ∙ sym (ap (λ (k : ℕ). multiplied a.point k z) next ∙ multiplied_next a.point l.j z),
-      shifted_in _ _ _ _ _ (omega arith) (weighted_lt (goal.at.loop-j-preserved c).After-power) (few (goal.at.loop-j-preserved c).After-power) l.invariant.3 (made (goal.at.loop-j-preserved c).After-power),
+      shifted_in _ _ _ _ _ (omega arith) (weighted_lt (goal.at.loop-j-preserved c).After-power) (few (goal.at.loop-j-preserved c).After-power) l.invariant.2 (made (goal.at.loop-j-preserved c).After-power),
     )
 
 pub returns : goal.returns
 returns c =
     let l = c.loop-j in
     let a = c.args in
-    let e : l.j ≡ a.count = omega (arith, l.invariant.0) in
-    l.invariant.3 ∙ ap (λ (k : ℕ). packed (moments bytes k (a.point ∷ []) (product a.weight a.word ∷ []))) e
+    let e : l.j ≡ a.count = omega arith in
+    l.invariant.2 ∙ ap (λ (k : ℕ). packed (moments bytes k (a.point ∷ []) (product a.weight a.word ∷ []))) e

@@ -1,6 +1,6 @@
 -- `open_all` meets its contract: the first i sessions are opened. Assumes nothing.
-use mathlib.Core.Path.{◌≡◌, ap, ◌∙◌}
-use Prim.Native.Nat.{◌+◌, ◌-◌, ◌*◌, ◌≤◌, ◌<◌}
+use mathlib.Core.Path.{◌≡◌, refl, ap, ◌∙◌}
+use Prim.Native.Nat.{ℕ, ◌+◌, ◌-◌, ◌*◌, ◌≤◌, ◌<◌}
 use native.Mathlib.Omega.{arith}
 use lib.ListN.{length}
 use Rattle.record.specs.declared.Reply.{Reply}
@@ -12,13 +12,16 @@ use Rattle.panel.proofs.parties.open_all.Goals as goal
 use Rattle.panel.proofs.parties.open_all.Goals.{In-loop-i}
 
 -- there is room for a part more
-fits : (c : In-loop-i) → c.loop-i.at + 2 * c.args.k ≤ length c.loop-i.totals
+fits : (c : In-loop-i) → c.loop-i.i * (2 * c.args.k) + 2 * c.args.k ≤ length c.loop-i.totals
 fits c =
     let l = c.loop-i in
-    omega (arith, room (2 * c.args.k) c.args.n l.i c.loop-i-test.true, l.invariant.1, l.invariant.2.long, c.requires.2)
+    omega (arith, room (2 * c.args.k) c.args.n l.i c.loop-i-test.true, l.invariant.0.long, c.requires.2)
 
 pub loop-i-init : goal.loop-i-init
-loop-i-init c = (omega arith, omega arith, spread_start _ _ _ _, rowed_start _ _ _ _)
+loop-i-init c = (spread_start _ _ _ _, rowed_start _ _ _ _)
+
+pub overflow_mul-at : goal.overflow_mul-at
+overflow_mul-at c = omega (arith, fits c, c.well_formed, c.requires.0, c.requires.1)
 
 pub overflow_add-next : goal.overflow_add-next
 overflow_add-next c = omega (arith, fits c, c.well_formed, c.requires.0, c.requires.1)
@@ -34,21 +37,17 @@ loop-i-preserved c =
     let l = c.loop-i in
     let a = c.args in
     let h : l.i < a.n = c.loop-i-test.true in
-    let k : l.at + 2 * a.k - l.at ≡ 2 * a.k = omega arith in
-    let p = lent (2 * a.k) a.n _ a.totals.now l.totals l.i l.at _ l.invariant.2 h l.invariant.1 k in (
-      omega arith,
-      omega (arith, l.invariant.1),
-      spread_more (2 * a.k) a.n _ a.totals.now l.totals l.i l.at _ _ l.invariant.2 c.requires.2 h l.invariant.1 k c.totals-1.given.0
+    let at : ℕ = l.i * (2 * a.k) in
+    let k : at + 2 * a.k - at ≡ 2 * a.k = omega arith in
+    let p = lent (2 * a.k) a.n _ a.totals.now l.totals l.i at _ l.invariant.0 h refl k in (
+      spread_more (2 * a.k) a.n _ a.totals.now l.totals l.i at _ _ l.invariant.0 c.requires.2 h refl k c.totals-1.given.0
           (c.open-reply.ensures.1 ∙ ap (open_left a.n (l.i + 1) a.k a.last) p),
-      rowed_more blank a.n _ _ l.parties l.i _ l.invariant.3 (omega arith)
+      rowed_more blank a.n _ _ l.parties l.i _ l.invariant.1 (omega arith)
           (c.returned.ensures ∙ ap (λ (r : Reply). r.party) (c.open-reply.ensures.0 ∙ ap (open_reply a.n (l.i + 1) a.k a.last) p)),
     )
-
-pub shape_of-totals : goal.shape_of-totals
-shape_of-totals c = c.loop-i.invariant.2.long
 
 pub returns : goal.returns
 returns c i h =
     let l = c.loop-i in
     let m : i < l.i = omega (arith, c.loop-i-test.false) in
-    (l.invariant.3.done i m, l.invariant.2.done i m)
+    (l.invariant.1.done i m, l.invariant.0.done i m)

@@ -1,6 +1,5 @@
 -- What holds at each turn of the loops of `open_all`. Assumes nothing.
-use mathlib.Core.Path.{◌≡◌}
-use Prim.Native.Nat.{◌+◌, ◌-◌, ◌*◌, ◌≤◌}
+use Prim.Native.Nat.{◌+◌, ◌*◌}
 use Rattle.record.specs.Record.{blank}
 use Rattle.session.specs.Open.{open_reply, open_left}
 use Rattle.panel.specs.Parties.{part}
@@ -9,10 +8,5 @@ use Rattle.panel.proofs.parties.open_all.Given as goal
 
 abbrev pub invariant-loop-i : goal.invariant-loop-i
 invariant-loop-i l =
-    (l.i ≤ l.n)
-    × (l.at ≡ l.i * (2 * l.k))
-    × Spread (2 * l.k) l.n (λ j. open_left l.n (j + 1) l.k l.last (part (2 * l.k) j l.initial.totals)) l.initial.totals l.totals l.i
+    Spread (2 * l.k) l.n (λ j. open_left l.n (j + 1) l.k l.last (part (2 * l.k) j l.initial.totals)) l.initial.totals l.totals l.i
     × Rowed blank l.n (λ j. (open_reply l.n (j + 1) l.k l.last (part (2 * l.k) j l.initial.totals)).party) l.initial.parties l.parties l.i
-
-abbrev pub decreases-loop-i : goal.decreases-loop-i
-decreases-loop-i l = l.n - l.i

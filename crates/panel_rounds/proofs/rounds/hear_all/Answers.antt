@@ -11,7 +11,7 @@ use Rattle.panel.proofs.Parts.{room, rowed_start, rowed_more, getD_there}
 use Rattle.panel_rounds.proofs.rounds.hear_all.Goals as goal
 
 pub loop-i-init : goal.loop-i-init
-loop-i-init c = (omega arith, rowed_start _ _ _ _)
+loop-i-init c = rowed_start _ _ _ _
 
 pub hear_one-requires : goal.hear_one-requires
 hear_one-requires c =
@@ -28,12 +28,10 @@ unfolding heard_by
 loop-i-preserved c =
     let l = c.loop-i in
     let a = c.args in
-    let there = getD_there a.parties l.i _ blank (omega (arith, c.well_formed, c.requires.0, c.loop-i-test.true)) in (
-      omega arith,
-      rowed_more blank a.n _ _ l.after l.i _ l.invariant.1 (omega (arith, c.well_formed, c.requires.0))
-          (c.hear_one.ensures
-          ∙ ap (λ (q : Party). (hear_reply q (part (2 * a.k) l.i a.totals.now) (part a.lent l.i a.sheets.now) a.messages.now a.present.now).party) there),
-    )
+    let there = getD_there a.parties l.i _ blank (omega (arith, c.well_formed, c.requires.0, c.loop-i-test.true)) in
+    rowed_more blank a.n _ _ l.after l.i _ l.invariant (omega (arith, c.well_formed, c.requires.0))
+    (c.hear_one.ensures
+    ∙ ap (λ (q : Party). (hear_reply q (part (2 * a.k) l.i a.totals.now) (part a.lent l.i a.sheets.now) a.messages.now a.present.now).party) there)
 
 pub returns : goal.returns
-returns c i h = c.loop-i.invariant.1.done i (omega (arith, c.loop-i-test.false))
+returns c i h = c.loop-i.invariant.done i (omega (arith, c.loop-i-test.false))

@@ -1,5 +1,5 @@
 -- `say_all` meets its contract: the first i parties have said their words. Assumes nothing.
-use mathlib.Core.Path.{◌≡◌, ap₂, ◌∙◌}
+use mathlib.Core.Path.{◌≡◌, refl, ap₂, ◌∙◌}
 use mathlib.Core.List.{List}
 use Prim.Native.Nat.{ℕ, ◌+◌, ◌-◌, ◌*◌, ◌≤◌, ◌<◌}
 use native.Mathlib.Omega.{arith}
@@ -15,13 +15,16 @@ use Rattle.panel_rounds.proofs.rounds.say_all.Goals as goal
 use Rattle.panel_rounds.proofs.rounds.say_all.Goals.{In-loop-i}
 
 -- there is room for a part more
-fits : (c : In-loop-i) → c.loop-i.at + c.args.width ≤ length c.loop-i.messages
+fits : (c : In-loop-i) → c.loop-i.i * c.args.width + c.args.width ≤ length c.loop-i.messages
 fits c =
     let l = c.loop-i in
-    omega (arith, room c.args.width c.args.n l.i c.loop-i-test.true, l.invariant.1, l.invariant.2.long, c.requires.4)
+    omega (arith, room c.args.width c.args.n l.i c.loop-i-test.true, l.invariant.long, c.requires.4)
 
 pub loop-i-init : goal.loop-i-init
-loop-i-init c = (omega arith, omega arith, spread_start _ _ _ _)
+loop-i-init c = spread_start _ _ _ _
+
+pub overflow_mul-at : goal.overflow_mul-at
+overflow_mul-at c = omega (arith, fits c, c.well_formed)
 
 pub overflow_add-next : goal.overflow_add-next
 overflow_add-next c = omega (arith, fits c, c.well_formed)
@@ -49,19 +52,14 @@ loop-i-preserved c =
     let a = c.args in
     let h : l.i < a.n = c.loop-i-test.true in
     let q = getD_there a.parties l.i _ blank (omega (arith, c.well_formed, c.requires.0, h)) in
-    let k : l.at + a.width - l.at ≡ a.width = omega arith in
-    let p = lent a.width a.n _ a.messages.now l.messages l.i l.at _ l.invariant.2 h l.invariant.1 k in (
-      omega arith,
-      omega (arith, l.invariant.1),
-      spread_more a.width a.n _ a.messages.now l.messages l.i l.at _ _ l.invariant.2 c.requires.4 h l.invariant.1 k c.messages-1.given.0
-          (c.say_one.ensures
-          ∙ ap₂ (λ (q : Party) (said : List ℕ). say_left q (part (2 * a.k) l.i a.totals.now) (part a.lent l.i a.sheets.now) said) q p),
-    )
-
-pub shape_of-messages : goal.shape_of-messages
-shape_of-messages c = c.loop-i.invariant.2.long
+    let at : ℕ = l.i * a.width in
+    let k : at + a.width - at ≡ a.width = omega arith in
+    let p = lent a.width a.n _ a.messages.now l.messages l.i at _ l.invariant h refl k in
+    spread_more a.width a.n _ a.messages.now l.messages l.i at _ _ l.invariant c.requires.4 h refl k c.messages-1.given.0
+    (c.say_one.ensures
+    ∙ ap₂ (λ (q : Party) (said : List ℕ). say_left q (part (2 * a.k) l.i a.totals.now) (part a.lent l.i a.sheets.now) said) q p)
 
 pub returns : goal.returns
 returns c i h =
     let l = c.loop-i in
-    l.invariant.2.done i (omega (arith, c.loop-i-test.false))
+    l.invariant.done i (omega (arith, c.loop-i-test.false))

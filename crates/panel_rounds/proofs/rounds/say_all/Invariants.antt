@@ -1,6 +1,4 @@
 -- What holds at each turn of the loops of `say_all`. Assumes nothing.
-use mathlib.Core.Path.{◌≡◌}
-use Prim.Native.Nat.{◌-◌, ◌*◌, ◌≤◌}
 use Rattle.panel.specs.Parties.{part}
 use Rattle.panel_rounds.specs.Round.{said_by}
 use Rattle.panel.proofs.Parts.{Spread}
@@ -8,7 +6,4 @@ use Rattle.panel_rounds.proofs.rounds.say_all.Given as goal
 
 abbrev pub invariant-loop-i : goal.invariant-loop-i
 invariant-loop-i l =
-    (l.i ≤ l.n) × (l.at ≡ l.i * l.width) × Spread l.width l.n (λ j. said_by l.k l.lent l.parties l.totals l.sheets j (part l.width j l.initial.messages)) l.initial.messages l.messages l.i
-
-abbrev pub decreases-loop-i : goal.decreases-loop-i
-decreases-loop-i l = l.n - l.i
+    Spread l.width l.n (λ j. said_by l.k l.lent l.parties l.totals l.sheets j (part l.width j l.initial.messages)) l.initial.messages l.messages l.i

@@ -1,50 +1,38 @@
--- `gather` meets its contract: of the parties before i those who were present stand in the two lists. Assumes nothing.
-use mathlib.Core.Path.{◌≡◌, refl, sym, ◌∙◌}
-use mathlib.Core.Logic.{⊎_elim, inl, inr}
-use mathlib.Core.List.{List}
-use Prim.Native.Nat.{ℕ, ◌+◌, ◌-◌, ◌<◌}
-use native.Mathlib.Nat.{add_comm}
-use native.Mathlib.Omega.{arith}
-use lib.ListN.{length, take, get_or, length-set}
-use borrow.Author.Tests.{eq-eqb, ne_eqb}
-use Rattle.ranges.specs.Lists.{from}
-use Rattle.ranges.proofs.Loops.{length_from, getD_from}
-use Rattle.presence.proofs.Loops.{chosen_next, chosen_all}
+-- `gather` meets its contract: of the parties so far those who were present stand in the two lists. Assumes nothing.
+use Rattle.std.proofs.Common.{◌<◌, length, ap, ◌∙◌, arith, length-set}
+use Rattle.presence.proofs.Loops.{chosen_next, not_chosen, number_next}
 use Rattle.presence.proofs.gathering.gather.Goals as goal
-use Rattle.presence.proofs.gathering.gather.Goals.{then-present-i-eq1, else-present-i-eq1}
 
-pub loop-i-init : goal.loop-i-init
-loop-i-init c = (omega arith, omega arith, refl, refl, refl, refl)
+pub loop-i-preserved-then-mark-eq1 : goal.loop-i-preserved-then-mark-eq1
+loop-i-preserved-then-mark-eq1 c =
+    let l = c.loop-i in
+    let v = l.invariant in
+    let e = c.in-Some.ensures.steps in
+    let m = c.if-mark-eq1.true in
+    let long : l.count < 9 = omega (arith, v.0, v.2, ap length e.0.0, c.requires) in
+    let number = number_next _ _ _ _ _ _ e.0.0 e.1 e.2 in (
+      omega (arith, v.0, ap length e.0.0, e.2),
+      omega (arith, v.1, ap length e.0.0, ap length e.0.1),
+      omega (arith, v.2, e.2),
+      simp length-set v.3,
+      simp length-set v.4,
+      v.5 ∙ chosen_next _ _ _ e.0.0 _ _ _ number l.parties l.count (omega (arith, long, v.3)) m,
+      v.6 ∙ chosen_next _ _ _ e.0.0 _ _ _ e.0.1 l.chosen l.count (omega (arith, long, v.4)) m,
+    )
 
 pub loop-i-preserved : goal.loop-i-preserved
 loop-i-preserved c =
     let l = c.loop-i in
-    let a = c.args in
-    let marks = a.present.now in
-    let h : l.i < length marks = c.loop-i-test.true in
-    let k : l.i < length a.words.now = omega (arith, c.requires, h) in
-    let all : List ℕ = from 1 (length marks) in
-    let m : l.i < length all = omega (arith, length_from 1 (length marks), h) in
-    let number : l.i + 1 ≡ get_or all l.i 0 = add_comm l.i 1 ∙ sym (getD_from 1 (length marks) l.i h) in
-    let next = chosen_next marks l.count l.i c.if-present-i-eq1.count h
-    (elim c.if-present-i-eq1.branch [
-      | then-present-i-eq1 w ↦ inl (eq-eqb 1 _ (sym w.if-present-i-eq1.true), w.count-is)
-      | else-present-i-eq1 w ↦ inr (ne_eqb 1 _ (λ e. w.if-present-i-eq1.false (sym e)), w.count-is)
-    ]) in (
-      omega arith,
-      elim c.if-present-i-eq1.branch [ then-present-i-eq1 w ↦ omega arith | else-present-i-eq1 w ↦ omega arith ],
-      simp length-set l.invariant.2,
-      simp length-set l.invariant.3,
-      l.invariant.4 ∙ next all l.parties (l.i + 1) m number (omega (arith, l.invariant, c.requires, h)),
-      l.invariant.5 ∙ next a.words.now l.chosen _ k refl (omega (arith, l.invariant, c.requires, h)),
+    let v = l.invariant in
+    let e = c.in-Some.ensures.steps in
+    let m = c.if-mark-eq1.false in
+    let long : l.count < 9 = omega (arith, v.0, v.2, ap length e.0.0, c.requires) in
+    let number = number_next _ _ _ _ _ _ e.0.0 e.1 e.2 in (
+      omega (arith, v.0, ap length e.0.0, e.2),
+      omega (arith, v.1, ap length e.0.0, ap length e.0.1),
+      omega (arith, v.2, e.2),
+      simp length-set v.3,
+      simp length-set v.4,
+      v.5 ∙ not_chosen _ _ _ e.0.0 _ _ _ number l.parties l.count (omega (arith, long, v.3)) m,
+      v.6 ∙ not_chosen _ _ _ e.0.0 _ _ _ e.0.1 l.chosen l.count (omega (arith, long, v.4)) m,
     )
-
-pub returns : goal.returns
-returns c =
-    let l = c.loop-i in
-    let marks = c.args.present.now in
-    record {
-      few = (omega (arith, l.invariant, c.requires), l.invariant.2, l.invariant.3);
-      parties = sym (l.invariant.4 ∙ chosen_all marks (from 1 (length marks)) l.i (take l.count l.parties) c.loop-i-test.false);
-      words = sym (l.invariant.5 ∙ chosen_all marks c.args.words.now l.i (take l.count l.chosen) c.loop-i-test.false);
-    }

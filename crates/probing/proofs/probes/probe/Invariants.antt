@@ -1,6 +1,5 @@
 -- What holds at each turn of the loops of `probe`. Assumes nothing.
 use mathlib.Core.List.{List}
-use Prim.Native.Nat.{◌-◌, ◌≤◌}
 use Rattle.search.specs.declared.searches.Search.{Search}
 use Rattle.ways.specs.Way.{way_of}
 use Rattle.comparison.specs.Probe.{SheetCoins}
@@ -13,15 +12,11 @@ use Rattle.standing.specs.Numbered.{rehearsed}
 use Rattle.standing.proofs.Standing.{Stands}
 use Rattle.probing.proofs.probes.probe.Given as goal
 
-abbrev pub invariant-loop-i : goal.invariant-loop-i
-invariant-loop-i l =
-    (l.i ≤ 32)
-    × ((bids : List Bid) (c : Coins) → IsAuction (rehearsed l.n l.k bids) → InRange (rehearsed l.n l.k bids) c
+abbrev pub invariant-loop : goal.invariant-loop
+invariant-loop l =
+    (bids : List Bid) (c : Coins) → IsAuction (rehearsed l.n l.k bids) → InRange (rehearsed l.n l.k bids) c
     → (here : Search) (s : SheetCoins) (ss : List SheetCoins) → Ready (rehearsed l.n l.k bids) c here s ss
     → Stands (rehearsed l.n l.k bids) c (fresh_stage here) l.initial.after l.totals l.sheets
     → Stands (rehearsed l.n l.k bids) c
-    (stage_of (way_of last_rehearsed) here (probe_of (rehearsed l.n l.k bids) (polynomials (rehearsed l.n l.k bids) c) here s) l.i)
-    l.after l.totals l.sheets)
-
-abbrev pub decreases-loop-i : goal.decreases-loop-i
-decreases-loop-i l = 32 - l.i
+    (stage_of (way_of last_rehearsed) here (probe_of (rehearsed l.n l.k bids) (polynomials (rehearsed l.n l.k bids) c) here s) l.counter)
+    l.after l.totals l.sheets

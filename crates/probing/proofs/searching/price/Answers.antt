@@ -3,8 +3,8 @@ use mathlib.Core.Path.{sym, ap, ◌∙◌}
 use Rattle.probing.specs.Follows.{priced}
 use Rattle.probing.proofs.searching.price.Goals as goal
 
-pub returns-in-Cleared : goal.returns-in-Cleared
-returns-in-Cleared c = sym (ap priced (sym c.answer-reply.ensures ∙ c.in-Cleared.is))
+pub returns-in-Ok : goal.returns-in-Ok
+returns-in-Ok c = sym (ap priced (sym c.answer-reply.ensures ∙ c.in-Ok.is))
 
-pub returns-in-Refused : goal.returns-in-Refused
-returns-in-Refused c = sym (ap priced (sym c.answer-reply.ensures ∙ c.in-Refused.is))
+pub returns-in-Err : goal.returns-in-Err
+returns-in-Err c = sym (ap priced (sym c.answer-reply.ensures ∙ c.in-Err.is))

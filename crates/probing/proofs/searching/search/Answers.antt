@@ -23,20 +23,15 @@ use Rattle.probing.proofs.searching.search.Goals as goal
 use Rattle.probing.proofs.searching.search.Goals.{In-loop-done}
 
 inside : (c : In-loop-done) → c.loop-done.done < most_listed
-inside c = let l = c.loop-done in ltb-true l.done most_listed (and_left (ltb l.done most_listed) l.more c.loop-done-test.true)
+inside c =
+    let l = c.loop-done in
+    ltb-true l.done most_listed (and_left (ltb l.done most_listed) c.going.result c.loop-done-test.true)
 
 pub loop-done-init : goal.loop-done-init
-loop-done-init c =
-    let parties = c.args.parties in
-    let long : length parties ≡ 9 = search rules in
-    let first = getD_there parties 0 _ blank (omega arith) in
-    (omega arith, refl, refl, long, c.going-more.ensures ∙ ap (λ q. not (finished q.search)) first, λ bids d A C H. led_start _ _ bids d A C _ _ _ _ _ H)
+loop-done-init c = (omega arith, search rules, search rules, λ bids d A C H. led_start _ _ bids d A C _ _ _ _ H)
 
-pub bounds-index-done : goal.bounds-index-done
-bounds-index-done c = inside (goal.at.bounds-index-done c).In-loop-done
-
-pub bounds-verdict-done : goal.bounds-verdict-done
-bounds-verdict-done c = inside (goal.at.bounds-verdict-done c).In-loop-done
+pub bounds-trail-done : goal.bounds-trail-done
+bounds-trail-done c = omega (arith, inside (goal.at.bounds-trail-done c).In-loop-done, c.loop-done.invariant.1)
 
 pub loop-done-smaller : goal.loop-done-smaller
 loop-done-smaller c = omega (arith, inside (goal.at.loop-done-smaller c).In-loop-done)
@@ -45,22 +40,20 @@ pub loop-done-preserved : goal.loop-done-preserved
 loop-done-preserved c =
     let l = c.loop-done in
     let a = c.args in
-    let t = c.loop-done-test.true in
     let h : l.done < most_listed = inside (goal.at.loop-done-preserved c).In-loop-done in
     let after = c.probe-after in
     let long : length after.result ≡ 9 = search rules in
-    let here = getD_there l.here 0 _ blank (omega (arith, l.invariant.3)) in
+    let here = getD_there l.here 0 _ blank (omega (arith, l.invariant.2)) in
     let next = getD_there after.result 0 _ blank (omega arith) in
-    let g : finished (get_or l.here 0 blank).search ≡ false = not-true _ (sym l.invariant.4 ∙ and_right (ltb l.done most_listed) l.more t) in (
+    let on = not-true _ (sym c.going.ensures ∙ and_right (ltb l.done most_listed) c.going.result c.loop-done-test.true) in
+    let g : finished (get_or l.here 0 blank).search ≡ false = ap (λ (q : Party). finished q.search) (sym here) ∙ on in (
       omega arith,
       simp length-set l.invariant.1,
-      simp length-set l.invariant.2,
       long,
-      c.going-more-in-loop-done.ensures ∙ ap (λ q. not (finished q.search)) next,
       λ bids d A C H.
-          led_more a.n a.k bids d A C a.totals.now a.sheets.now l.here after.result l.index l.verdict l.done
-          (l.invariant.5 bids d A C H) g after.ensures _ _ (c.probed-at.ensures ∙ ap (λ q. middle q.search.bracket) here)
-          (c.decided-heard.ensures ∙ ap₂ (λ (q r : Party). verdict_read q.search r.search) here next) l.invariant.1 l.invariant.2 h,
+          led_more a.n a.k bids d A C a.totals.now a.sheets.now l.here after.result l.trail l.done
+          (l.invariant.3 bids d A C H) g after.ensures _ (c.probed.ensures ∙ ap (λ (q : Party). middle q.search.bracket) here)
+          (c.decided.ensures ∙ ap₂ (λ (q r : Party). verdict_read q.search r.search) here next) (omega (arith, h, l.invariant.1)),
     )
 
 pub returns : goal.returns
@@ -69,15 +62,18 @@ returns c =
     let a = c.args in
     let closed = c.open_totals-closed in
     let long : length closed.result ≡ 9 = search rules in
-    let last = getD_there closed.result 0 _ blank (omega arith) in (
+    let last = getD_there closed.result 0 _ blank (omega arith) in
+    let here = getD_there l.here 0 _ blank (omega (arith, l.invariant.2)) in
+    let told_on = c.going.ensures ∙ ap (λ (q : Party). not (finished q.search)) here in (
       l.invariant.0,
       λ bids d A C H.
-          let L = l.invariant.5 bids d A C H in
+          let L = l.invariant.3 bids d A C H in
           let over =
-          led_over a.n a.k bids d A C a.totals.now a.sheets.now l.here l.index l.verdict l.done L c.requires.1
-          (stopped l.done most_listed l.more _ c.loop-done-test.false l.invariant.4) in (
-            follows a.n a.k bids d A C a.totals.now a.sheets.now l.here closed.result l.index l.verdict l.done L over
-                closed.ensures _ refl refl refl (c.price-answer.ensures ∙ ap (λ q. priced (answer_reply q)) last) (ap (λ q. q.demand) last) (ap (λ q. q.supply) last),
-            subst (FleetTold _) (sym last) (told a.n a.k bids d A C a.totals.now a.sheets.now l.here closed.result l.index l.verdict l.done L over closed.ensures),
+          led_over a.n a.k bids d A C a.totals.now a.sheets.now l.here l.trail l.done L c.requires.1
+          (stopped l.done most_listed c.going.result _ c.loop-done-test.false told_on) in (
+            follows a.n a.k bids d A C a.totals.now a.sheets.now l.here closed.result l.trail l.done L over
+                closed.ensures _ refl refl (c.price-answer.ensures ∙ ap (λ (q : Party). priced (answer_reply q)) last)
+                (ap (λ (q : Party). q.demand) last) (ap (λ (q : Party). q.supply) last),
+            subst (FleetTold _) (sym last) (told a.n a.k bids d A C a.totals.now a.sheets.now l.here closed.result l.trail l.done L over closed.ensures),
           ),
     )

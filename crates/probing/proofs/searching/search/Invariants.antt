@@ -1,11 +1,9 @@
 -- What holds at each turn of the loops of `search`. Assumes nothing.
 use mathlib.Core.Path.{◌≡◌}
-use mathlib.Core.Bool.{not}
 use mathlib.Core.List.{List}
 use Prim.Native.Nat.{◌-◌, ◌≤◌}
-use lib.ListN.{length, get_or}
-use Rattle.search.specs.Searches.{first_search, finished}
-use Rattle.record.specs.Record.{blank}
+use lib.ListN.{length}
+use Rattle.search.specs.Searches.{first_search}
 use Rattle.auction.specs.Auction.{Bid, IsAuction}
 use Rattle.auction.specs.Coins.{Coins, InRange}
 use Rattle.auction.proofs.Closed.{fresh_stage}
@@ -18,13 +16,11 @@ use Rattle.probing.proofs.searching.search.Given as goal
 abbrev pub invariant-loop-done : goal.invariant-loop-done
 invariant-loop-done l =
     (l.done ≤ most_listed)
-    × (length l.index ≡ most_listed)
-    × (length l.verdict ≡ most_listed)
+    × (length l.trail ≡ most_listed)
     × (length l.here ≡ 9)
-    × (l.more ≡ not (finished (get_or l.here 0 blank).search))
     × ((bids : List Bid) (c : Coins) → IsAuction (rehearsed l.n l.k bids) → InRange (rehearsed l.n l.k bids) c
     → Stands (rehearsed l.n l.k bids) c (fresh_stage (first_search l.k)) l.initial.here l.totals l.sheets
-    → Led (rehearsed l.n l.k bids) c l.here l.totals l.sheets l.index l.verdict l.done)
+    → Led (rehearsed l.n l.k bids) c l.here l.totals l.sheets l.trail l.done)
 
 abbrev pub decreases-loop-done : goal.decreases-loop-done
 decreases-loop-done l = most_listed - l.done

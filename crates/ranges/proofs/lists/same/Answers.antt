@@ -1,24 +1,22 @@
--- `same` meets its contract: what was joined is 0 where the bytes before `at` are the same. Assumes nothing.
-use Rattle.std.proofs.Common.{◌<◌, length, sym, refl, ap, ◌∙◌, arith}
-use Rattle.ranges.proofs.Compared.{same_differ, same_more, same_end}
+-- `same` meets its contract: what was joined is 0 where the bytes before are the same. Assumes nothing.
+use Rattle.std.proofs.Common.{◌&&◌, eqb, length, sym, ap, ap₂, ◌∙◌, arith}
+use mathlib.Core.Logic.{⊎_elim, inl, inr}
+use Rattle.ranges.specs.Lists.{same}
+use Rattle.ranges.proofs.Compared.{same_differ, same_next, same_over}
 use Rattle.ranges.proofs.lists.same.Goals as goal
 
 pub returns-then-left-right : goal.returns-then-left-right
 returns-then-left-right c = sym (same_differ _ _ (λ e. c.if-left-right.true (ap length e)))
 
-pub loop-at-init : goal.loop-at-init
-loop-at-init c = (omega arith, c.if-left-right.false, refl)
-
-pub loop-at-preserved : goal.loop-at-preserved
-loop-at-preserved c =
-    let given = c.args in
-    let more : c.loop-at.at < length given.left.now = c.loop-at-test.true in (
-      omega arith,
-      c.loop-at.invariant.1,
-      c.loop-at.invariant.2 ∙ same_more given.left.now given.right.now c.loop-at.at c.loop-at.differ more (omega (arith, c.loop-at.invariant.1)),
+pub loop-x-preserved : goal.loop-x-preserved
+loop-x-preserved c =
+    let l = c.loop-x in
+    let e = c.in-Some.ensures.steps in (
+      omega (arith, sym (ap length e.0) ∙ l.invariant.0 ∙ ap length e.1),
+      l.invariant.1 ∙ ap (λ b. eqb l.differ 0 && b) (ap₂ same e.0 e.1) ∙ same_next l.differ _ _ _ _,
     )
 
 pub returns : goal.returns
 returns c =
-    let end = c.loop-at-test.false in
-    sym (c.loop-at.invariant.2 ∙ same_end _ _ c.loop-at.at c.loop-at.differ end (omega (arith, end, c.loop-at.invariant.1)))
+    let l = c.loop-x in
+    sym (l.invariant.1 ∙ same_over l.differ _ _ l.invariant.0 (⊎_elim (λ w. inl w.1.0) (λ w. inr w.1.0) c.in-None.ensures.steps))

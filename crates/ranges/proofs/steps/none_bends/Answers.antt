@@ -1,52 +1,47 @@
--- `none_bends` meets its contract: where what was seen is below 2^63, each step before i passes. Assumes nothing.
-use Rattle.std.proofs.Common.{◌≡◌, ℕ, ◌+◌, ◌%◌, ◌^◌, ◌<◌, Bool, true, false, cond, ◌&&◌, get_or, sym, ap, ◌∙◌, ap₂, arith, ltb-true, le-leb}
+-- `none_bends` meets its contract: where what was seen is below 2^63, each step so far passes. Assumes nothing.
+use Rattle.std.proofs.Common.{◌≡◌, ℕ, ◌+◌, ◌-◌, ◌%◌, ◌^◌, ◌<◌, Bool, true, false, cond, ◌&&◌, sym, ap, ◌∙◌, ap₂, arith, ltb-true, le-leb}
 use lib.Bits.{bit_or}
+use mathlib.Core.Logic.{⊎_elim, inl, inr}
 use Rattle.ranges.specs.Steps.{in_order}
-use Rattle.ranges.proofs.Bends.{steps_more, steps_end}
+use Rattle.ranges.proofs.Bends.{behind_next, steps_more, steps_end, steps_short}
 use Rattle.ranges.proofs.Joined.{left_le, right_le}
 use Rattle.ranges.proofs.steps.none_bends.Goals as goal
-use Rattle.ranges.proofs.steps.none_bends.Goals.{then-rising, else-rising, then-rising-2, else-rising-2}
+use Rattle.ranges.proofs.steps.none_bends.Goals.{then-rising, else-rising}
 
 -- a difference that does not wrap
-ordered : (rising : Bool) (x y low high d : ℕ) → low ≡ cond rising x y → high ≡ cond rising y x → (d + low) % 2 ^ 64 ≡ high
-    → low < 2 ^ 63 → d < 2 ^ 63 → in_order rising x y ≡ true
-ordered true x y low high d e f g h l = le-leb x y (omega arith)
-ordered false x y low high d e f g h l = le-leb y x (omega arith)
+ordered : (rising : Bool) (x y : ℕ) (pair : ℕ × ℕ) → pair ≡ cond rising (x, y) (y, x) → pair.0 < 2 ^ 63 → (pair.1 + (2 ^ 64 - pair.0)) % 2 ^ 64 < 2 ^ 63
+    → in_order rising x y ≡ true
+ordered true x y pair e l d = le-leb x y (omega (arith, ap (λ (p : ℕ × ℕ). p.0) e, ap (λ (p : ℕ × ℕ). p.1) e, l, d))
+ordered false x y pair e l d = le-leb y x (omega (arith, ap (λ (p : ℕ × ℕ). p.0) e, ap (λ (p : ℕ × ℕ). p.1) e, l, d))
 
 -- what was seen before, the lower word and the difference are all below
-below : (s low d : ℕ) → bit_or (bit_or s low) d < 2 ^ 63 → (s < 2 ^ 63) × (low < 2 ^ 63) × (d < 2 ^ 63)
+below : (s low d : ℕ) → bit_or s (bit_or low d) < 2 ^ 63 → (s < 2 ^ 63) × (low < 2 ^ 63) × (d < 2 ^ 63)
 below s low d h =
-    (omega (arith, left_le s low, left_le (bit_or s low) d), omega (arith, right_le s low, left_le (bit_or s low) d), omega (arith, right_le (bit_or s low) d))
+    (omega (arith, left_le s (bit_or low d), h), omega (arith, left_le low d, right_le s (bit_or low d), h), omega (arith, right_le low d, right_le s (bit_or low d), h))
 
-pub loop-i-init : goal.loop-i-init
-loop-i-init c = (omega arith, λ h e. e)
+pub returns-in_default : goal.returns-in_default
+returns-in_default c = λ e. steps_short _ _ c.in_default.len_below
 
-pub overflow_add-i : goal.overflow_add-i
-overflow_add-i c = omega (arith, c.well_formed)
-
-pub loop-i-preserved : goal.loop-i-preserved
-loop-i-preserved c =
-    let words = c.args.words.now in
-    let rising = c.args.rising in
-    let x : ℕ = get_or words c.loop-i.i 0 in
-    let y : ℕ = get_or words (c.loop-i.i + 1) 0 in
-    let low : c.if-rising.low ≡ cond rising x y =
+pub loop-x-preserved : goal.loop-x-preserved
+loop-x-preserved c =
+    let l = c.loop-x in
+    let x = c.in-Some.x.now in
+    let y = c.in-Some.y.now in
+    let e = c.in-Some.ensures.steps in
+    let h = l.invariant.0 in
+    let pair : c.if-rising.low ≡ cond c.args.rising (x, y) (y, x) =
     elim c.if-rising.branch [
-      | then-rising w ↦ w.low-is ∙ sym (ap (λ (b : Bool). cond b x y) w.if-rising.true)
-      | else-rising w ↦ w.low-is ∙ sym (ap (λ (b : Bool). cond b x y) w.if-rising.false)
-    ] in
-    let high : c.if-rising-2.high ≡ cond rising y x =
-    elim c.if-rising-2.branch [
-      | then-rising-2 w ↦ w.high-is ∙ sym (ap (λ (b : Bool). cond b y x) w.if-rising-2.true)
-      | else-rising-2 w ↦ w.high-is ∙ sym (ap (λ (b : Bool). cond b y x) w.if-rising-2.false)
+      | then-rising w ↦ w.low-is ∙ sym (ap (λ (b : Bool). cond b (x, y) (y, x)) w.if-rising.true)
+      | else-rising w ↦ w.low-is ∙ sym (ap (λ (b : Bool). cond b (x, y) (y, x)) w.if-rising.false)
     ] in (
-      omega arith,
-      λ h e.
-          let parts = below c.loop-i.seen c.if-rising.low c.wrapping_sub_u64.result h in
-          c.loop-i.invariant.1 parts.0
-          (steps_more (in_order rising) words c.loop-i.i c.loop-i-test.true
-          ∙ ap₂ ◌&&◌ (ordered rising x y _ _ c.wrapping_sub_u64.result low high c.wrapping_sub_u64.ensures.value parts.1 parts.2) e),
+      (y, behind_next _ _ h _ _ x y e.0 e.1),
+      λ s t.
+          let parts = below l.seen _ _ s in
+          l.invariant.1 parts.0
+          (steps_more _ _ h _ _ x y e.0 e.1 (in_order c.args.rising) ∙ ap₂ ◌&&◌ (ordered c.args.rising x y _ pair parts.1 parts.2) t),
     )
 
 pub returns : goal.returns
-returns c = λ e. c.loop-i.invariant.1 (ltb-true _ _ e) (steps_end _ _ _ c.loop-i-test.false)
+returns c =
+    let l = c.loop-x in
+    λ e. l.invariant.1 (ltb-true _ _ e) (steps_end _ _ l.invariant.0 (⊎_elim (λ w. inl w.1.0) (λ w. inr w.1.0) c.in-None.ensures.steps) _)

@@ -1,11 +1,11 @@
--- What holds at each turn of the loops of `none_bends`. Assumes nothing.
-use Rattle.std.proofs.Common.{◌≡◌, ◌-◌, ◌^◌, ◌<◌, ◌≤◌, true, length, drop}
+-- What holds at each turn of the loops of `none_bends`: later words are those that are left but for one. Assumes nothing.
+use Rattle.std.proofs.Common.{◌≡◌, ◌^◌, ◌<◌, true}
 use Rattle.ranges.specs.Steps.{steps, in_order}
+use Rattle.ranges.proofs.Bends.{Behind}
 use Rattle.ranges.proofs.steps.none_bends.Given as goal
 
-abbrev pub invariant-loop-i : goal.invariant-loop-i
-invariant-loop-i l =
-    (l.i ≤ length l.words) × (l.seen < 2 ^ 63 → steps (in_order l.rising) (drop l.i l.words) ≡ true → steps (in_order l.rising) l.words ≡ true)
-
-abbrev pub decreases-loop-i : goal.decreases-loop-i
-decreases-loop-i l = length l.words - l.i
+abbrev pub invariant-loop-x : goal.invariant-loop-x
+invariant-loop-x l =
+    let left = l.x-iterator.a.rest.now in
+    let test = in_order l.rising in
+    Behind left l.x-iterator.b.rest.now × (l.seen < 2 ^ 63 → steps test left ≡ true → steps test l.words ≡ true)

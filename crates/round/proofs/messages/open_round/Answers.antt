@@ -5,7 +5,7 @@ use Prim.Native.Nat.{ℕ, ◌≤◌}
 use native.Mathlib.Omega.{arith}
 use lib.Dec.{ltb, eqb}
 use borrow.Author.Tests.{eqb-false, ltb-false}
-use Rattle.openings.specs.declared.opening.Opening.{Opening}
+use Rattle.openings.specs.Opening.{Opening}
 use Rattle.round.specs.Round.{sum_of, verdict_of, total_of}
 use Rattle.round.proofs.Opened.{heard_factors, heard_verdict, heard_amount}
 use Rattle.round.proofs.messages.open_round.Goals as goal

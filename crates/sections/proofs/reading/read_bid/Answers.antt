@@ -1,14 +1,16 @@
 -- `read_bid` meets its contract: the table that was read is judged. Assumes nothing.
+use Rattle.std.specs.Prelude.{Ok, Err}
+use Rattle.std.proofs.lemmas.Result.{err_from_is_err_and}
 use mathlib.Core.Path.{◌≡◌, sym, ap, ◌∙◌}
 use mathlib.Core.List.{List}
 use Prim.Native.Nat.{ℕ, ◌+◌, ◌*◌, ◌<◌}
 use native.Mathlib.Omega.{arith}
 use lib.ListN.{length, drop}
-use Rattle.sections.specs.declared.table.Fault.TheVariants.{At}
+use Rattle.refusal.specs.declared.Refusal.TheVariants.{Malformed}
 use Rattle.lines.specs.Lines.{numbers, bytes_of, formed}
-use Rattle.sections.specs.Sections.{table_fault}
+use Rattle.sections.specs.Sections.{at_line, table_fault, unless}
 use Rattle.lines.proofs.Again.{formed_most, length_numbers}
-use Rattle.sections.proofs.Bids.{torn, whole}
+use Rattle.sections.proofs.Bids.{torn, whole, sound, faulty}
 use Rattle.sections.proofs.reading.read_bid.Goals as goal
 use Rattle.sections.proofs.reading.read_bid.Goals.{After-read_numbers-read}
 
@@ -28,16 +30,34 @@ tbl c = c.read_numbers-read.ensures.0 ∙ ap (λ (j : ℕ). numbers j (bytes c))
 len : (c : After-read_numbers-read) → length c.read_numbers-read.new.into ≡ 2 * c.args.k
 len c = ap length (tbl c) ∙ length_numbers (2 * c.args.k) (bytes c)
 
-pub overflow_add-result : goal.overflow_add-result
-overflow_add-result c =
-    omega (arith, snd (goal.at.overflow_add-result c).After-read_numbers-read, formed_most (2 * c.args.k) (bytes (goal.at.overflow_add-result c).After-read_numbers-read), c.requires)
+abbrev Next : After-read_numbers-read → ℕ
+Next c = c.args.at + bytes_of (2 * c.args.k) (bytes c)
 
-pub returns-then-formed-table : goal.returns-then-formed-table
-returns-then-formed-table c =
-    let h : formed (2 * c.args.k) (bytes (goal.at.returns-then-formed-table c).After-read_numbers-read) < 2 * c.args.k = omega (arith, c.if-formed-table.true, snd (goal.at.returns-then-formed-table c).After-read_numbers-read, len (goal.at.returns-then-formed-table c).After-read_numbers-read, formed_most (2 * c.args.k) (bytes (goal.at.returns-then-formed-table c).After-read_numbers-read)) in
-    (ap (λ (j : ℕ). At 13 (c.args.line + j)) (snd (goal.at.returns-then-formed-table c).After-read_numbers-read) ∙ sym (torn c.args.k c.args.line (bytes (goal.at.returns-then-formed-table c).After-read_numbers-read) h), nxt (goal.at.returns-then-formed-table c).After-read_numbers-read)
+pub overflow_add-line : goal.overflow_add-line
+overflow_add-line c =
+    let s = (goal.at.overflow_add-line c).After-read_numbers-read in
+    omega (arith, snd s, formed_most (2 * c.args.k) (bytes s), c.requires)
+
+pub returns-then-read-table : goal.returns-then-read-table
+returns-then-read-table c =
+    let s = (goal.at.returns-then-read-table c).After-read_numbers-read in
+    let h : formed (2 * c.args.k) (bytes s) < 2 * c.args.k = omega (arith, c.if-read-table.true, snd s, len s, formed_most (2 * c.args.k) (bytes s)) in
+    ap Err c.new.ensures ∙ ap (λ (j : ℕ). Err (at_line Malformed (c.args.line + j))) (snd s)
+    ∙ sym (ap (λ f. unless f (Next s)) (torn c.args.k c.args.line (bytes s) h))
+
+pub returns-in_err-table_fault : goal.returns-in_err-table_fault
+returns-in_err-table_fault c =
+    let s = (goal.at.returns-in_err-table_fault c).After-read_numbers-read in
+    let h : formed (2 * c.args.k) (bytes s) ≡ 2 * c.args.k = omega (arith, c.if-read-table.false, snd s, len s) in
+    let p = err_from_is_err_and c.from_residual.result c.from_residual.ensures.1 in
+    let e = faulty (table_fault c.args.k c.args.line c.read_numbers-read.new.into) tt _ (sym c.table_fault.ensures ∙ c.in_err-table_fault.was) in
+    rw (p.1, p.2)
+    (sym (ap (λ f. unless f (Next s)) (whole c.args.k c.args.line (bytes s) h ∙ ap (table_fault c.args.k c.args.line) (sym (tbl s)) ∙ e)))
 
 pub returns : goal.returns
 returns c =
-    let h : formed (2 * c.args.k) (bytes (goal.at.returns c).After-read_numbers-read) ≡ 2 * c.args.k = omega (arith, c.if-formed-table.false, snd (goal.at.returns c).After-read_numbers-read, len (goal.at.returns c).After-read_numbers-read) in
-    (c.table_fault.ensures ∙ ap (table_fault c.args.k c.args.line) (tbl (goal.at.returns c).After-read_numbers-read) ∙ sym (whole c.args.k c.args.line (bytes (goal.at.returns c).After-read_numbers-read) h), nxt (goal.at.returns c).After-read_numbers-read)
+    let s = (goal.at.returns c).After-read_numbers-read in
+    let h : formed (2 * c.args.k) (bytes s) ≡ 2 * c.args.k = omega (arith, c.if-read-table.false, snd s, len s) in
+    let e = sound (table_fault c.args.k c.args.line c.read_numbers-read.new.into) tt _ (sym c.table_fault.ensures ∙ c.in_ok-table_fault.was) in
+    ap Ok (nxt s)
+    ∙ sym (ap (λ f. unless f (Next s)) (whole c.args.k c.args.line (bytes s) h ∙ ap (table_fault c.args.k c.args.line) (sym (tbl s)) ∙ e.0))

@@ -1,20 +1,14 @@
--- `first_large` meets its contract: the amounts before i pass. Assumes nothing.
-use mathlib.Core.Path.{sym, ◌∙◌}
-use native.Mathlib.Nat.{zero-add}
-use native.Mathlib.Omega.{arith}
-use borrow.Author.Tests.{le-leb, lt-leb}
-use Rattle.sections.proofs.Counts.{passed_more, passed_fails, passed_ends}
+-- `first_large` meets its contract: what the search passed by is small, and where it stopped is not. Assumes nothing.
+use Rattle.std.proofs.Common.{◌∙◌, ◌≤◌, ◌<◌, leb, rules}
+use borrow.Author.Tests.{tests, le-leb, lt-leb}
+use Rattle.std.proofs.lemmas.Iterator.{IsFirst-from_position, YieldsList-from_slice}
+use Rattle.bid.specs.Table.{most}
+use Rattle.sections.proofs.Counts.{passed_found}
 use Rattle.sections.proofs.table.first_large.Goals as goal
 
-pub loop-i-init : goal.loop-i-init
-loop-i-init c = (omega arith, sym (zero-add _))
-
-pub returns-then-table-i-gt-MOST : goal.returns-then-table-i-gt-MOST
-returns-then-table-i-gt-MOST c = sym (c.loop-i.invariant.1 ∙ passed_fails _ _ _ c.loop-i-test.true (lt-leb _ _ c.if-table-i-gt-MOST.true))
-
-pub loop-i-preserved : goal.loop-i-preserved
-loop-i-preserved c =
-    (omega arith, c.loop-i.invariant.1 ∙ passed_more _ _ _ c.loop-i-test.true (le-leb _ _ c.if-table-i-gt-MOST.false))
-
 pub returns : goal.returns
-returns c = sym (c.loop-i.invariant.1 ∙ passed_ends _ _ _ c.loop-i-test.false)
+returns c =
+    c.unwrap_or.ensures
+    ∙ passed_found (λ a. leb a most) (λ x. most < x) (λ x. x ≤ most) (λ x h. lt-leb _ _ h) (λ x h. le-leb _ _ h) c.args.table.now c.position.result
+    (IsFirst-from_position _ _ _ (λ x. most < x) (λ x. x ≤ most) c.position.ensures.ran (YieldsList-from_slice c.args.table.now cc)
+    (λ x q k. search (rules, tests)) (λ x q k. search (rules, tests)))

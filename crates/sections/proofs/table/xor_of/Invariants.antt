@@ -1,12 +1,9 @@
--- What holds at each turn of the loops of `xor_of`. Assumes nothing.
+-- What holds at each turn of the loop of `xor_of`. Assumes nothing.
 use mathlib.Core.Path.{◌≡◌}
-use Prim.Native.Nat.{◌≤◌}
-use lib.ListN.{length, drop}
+use lib.Bits.{bit_xor}
+use lib.ListN.{drop}
 use Rattle.sections.specs.Sections.{xor_of}
 use Rattle.sections.proofs.table.xor_of.Given as goal
 
-abbrev pub invariant-loop-i : goal.invariant-loop-i
-invariant-loop-i l = (l.i ≤ length l.seeds) × (l.xor ≡ xor_of (drop l.i l.seeds))
-
-abbrev pub decreases-loop-i : goal.decreases-loop-i
-decreases-loop-i l = l.i
+abbrev pub invariant-loop-seed : goal.invariant-loop-seed
+invariant-loop-seed l = bit_xor l.xor (xor_of (drop l.seed-index l.seeds)) ≡ xor_of l.seeds

@@ -3,8 +3,7 @@ use mathlib.Core.Path.{◌≡◌, sym, ap, ◌∙◌}
 use mathlib.Core.Bool.{false, not}
 use Prim.Native.Nat.{ℕ}
 use Rattle.record.specs.Record.{sound}
-use Rattle.session.specs.declared.reply.Answer.TheVariants.{Cleared}
-use Rattle.session.specs.Answer.{answer_judgement}
+use Rattle.session.specs.Answer.{the_answer, answer_judgement}
 use Rattle.refusal.proofs.Judging.{refuses, passes, all_passed}
 use Rattle.session.proofs.Answered.{answered_accepted, answered_refused}
 use Rattle.session.proofs.answering.answer_judged.Goals as goal
@@ -29,5 +28,5 @@ unfolding answer_judgement
 returns c =
     let s = c.args.q.search in
     let turn = ap not (sym c.ended.ensures) ∙ c.if-not-ended.false-raw in
-    ap (λ (index : ℕ). Cleared index s.probes) c.price.ensures
+    ap (λ (index : ℕ). the_answer index s.probes) c.price.ensures
     ∙ sym (answered_accepted _ _ (passes _ _ _ (whole (goal.at.returns c).Else-not-whole) ∙ passes _ _ _ turn ∙ all_passed))

@@ -1,4 +1,5 @@
 -- `read_lines` meets its contract: the pairs before `pair` are read, from the bytes before `at`. Assumes nothing.
+use Rattle.std.specs.Prelude.{None, Some}
 use mathlib.Core.Path.{◌≡◌, refl, sym, ap, ap₂, ◌∙◌}
 use mathlib.Core.Bool.{Bool, true, false, cond, ◌&&◌}
 use mathlib.Core.List.{List, [], ◌∷◌, ◌++◌, append_assoc, append-nil}
@@ -7,14 +8,14 @@ use native.Mathlib.Numerals.{add-one}
 use native.Mathlib.Omega.{arith}
 use lib.ListN.{length, take, drop, set, length-drop, length-set}
 use lib.Seq.{take_all, drop-drop, take-suc-set}
-use borrow.Author.Tests.{not-true, not-false}
 use Rattle.ranges.specs.Sizes.{highest_price}
-use Rattle.settlement_page.specs.Line.{wanted_on, got_on, begins, fits}
+use Rattle.settlement_page.specs.declared.line.PairRead.{PairRead}
+use Rattle.settlement_page.specs.Line.{wanted_on, got_on, begins, fits, shown_at, pair_read}
 use Rattle.settlement.specs.Read.{shown, laid_out}
 use Rattle.settlement_page.proofs.Fits.{taken, taken_inside}
 use Rattle.settlement.proofs.Back.{shown_more, shown_end, laid, laid_step, laid_end}
 use Rattle.settlement.proofs.reading.read_lines.Goals as goal
-use Rattle.settlement.proofs.reading.read_lines.Goals.{After-read_pair-read}
+use Rattle.settlement.proofs.reading.read_lines.Goals.{After-read_pair}
 
 -- one pair more, of the rest of the page
 module _ (price : ℕ) (page into : List ℕ) (at pair : ℕ) (p : price ≤ highest_price) (real : pair < 2000) (inside : at ≤ length page)
@@ -70,7 +71,7 @@ module _ (price : ℕ) (page into : List ℕ) (at pair : ℕ) (p : price ≤ hig
         ∙ ap (λ (l : List ℕ). l ++ shown left (pair + 1) (drop (at + taken pair rest) page)) (sym front)
 
 -- what is read of a pair, told of the rest of the page
-module _ (c : After-read_pair-read) where
+module _ (c : After-read_pair) where
   abbrev page : List ℕ
   page = c.args.page.now
 
@@ -80,70 +81,86 @@ module _ (c : After-read_pair-read) where
   abbrev at : ℕ
   at = c.loop-pair.at
 
-  real : pair < 2000
-  real = c.loop-pair-test.true
+  long : length c.loop-pair.shown ≡ 4000
+  long = c.loop-pair.auto.shown ∙ c.requires.1
 
-  told : (c.read_pair-read.result.fits ≡ fits c.args.price pair (drop at page))
-      × (c.read_pair-read.result.fits ≡ true
-      → (c.read_pair-read.result.wanted ≡ cond (begins pair (drop at page)) (wanted_on (drop at page)) 0)
-      × (c.read_pair-read.result.got ≡ cond (begins pair (drop at page)) (got_on (drop at page)) 0)
-      × (c.read_pair-read.result.bytes ≡ taken pair (drop at page)))
-  told = rw (lent c.args.price page c.loop-pair.shown at pair c.requires.0 real c.loop-pair.invariant.1 c.loop-pair.invariant.2) at c.read_pair-read.ensures
+  told : c.read_pair.result ≡ pair_read c.args.price pair (drop at page)
+  told = rw (lent c.args.price page c.loop-pair.shown at pair c.requires.0 c.loop-pair-test.true c.loop-pair.invariant.0 long) at c.read_pair.ensures
 
-  laid_here : laid_out c.args.price page
-      ≡ c.read_pair-read.result.fits && laid c.args.price (2000 - (pair + 1)) (pair + 1) (drop (at + taken pair (drop at page)) page)
+  abbrev further : Bool → Bool
+  further t = t && laid c.args.price (2000 - (pair + 1)) (pair + 1) (drop (at + taken pair (drop at page)) page)
+
+  laid_here : laid_out c.args.price page ≡ further (fits c.args.price pair (drop at page))
   laid_here =
-      c.loop-pair.invariant.3
-      ∙ laid_more c.args.price page c.loop-pair.shown at pair c.requires.0 real c.loop-pair.invariant.1 c.loop-pair.invariant.2
-      ∙ ap (λ (t : Bool). t && laid c.args.price (2000 - (pair + 1)) (pair + 1) (drop (at + taken pair (drop at page)) page)) (sym told.0)
+      c.loop-pair.invariant.1
+      ∙ laid_more c.args.price page c.loop-pair.shown at pair c.requires.0 c.loop-pair-test.true c.loop-pair.invariant.0 long
 
-  -- a pair that fits
-  module _ (e : c.read_pair-read.result.fits ≡ true) where
-    next_is : at + c.read_pair-read.result.bytes ≡ at + taken pair (drop at page)
-    next_is = ap (λ (m : ℕ). at + m) (told.1 e).2
+-- what `read_pair` was given, by what it answers
+module _ (price pair : ℕ) (page : List ℕ) where
+  some : (t : Bool) (s r : PairRead) → cond t (Some s) None ≡ Some r → (t ≡ true) × (s ≡ r)
+  some true s r e = (refl, cc)
+  some false s r e = (cc, cc)
 
-    next_fits : at + c.read_pair-read.result.bytes ≤ length page
-    next_fits =
-        omega (
-          arith,
-          next_is,
-          next_inside c.args.price page c.loop-pair.shown at pair c.requires.0 real c.loop-pair.invariant.1 c.loop-pair.invariant.2 (sym told.0 ∙ e),
-        )
+  none : (t : Bool) (s : PairRead) → cond t (Some s) None ≡ None → t ≡ false
+  none true s e = cc
+  none false s e = refl
+
+  fit : (r : PairRead) → pair_read price pair page ≡ Some r → (fits price pair page ≡ true) × (shown_at pair page ≡ r)
+  fit r e = some (fits price pair page) (shown_at pair page) r e
+
+  unfit : pair_read price pair page ≡ None → fits price pair page ≡ false
+  unfit e = none (fits price pair page) (shown_at pair page) e
 
 pub loop-pair-init : goal.loop-pair-init
 unfolding laid_out laid
-loop-pair-init c = (omega arith, omega arith, c.requires.1, refl, refl)
+loop-pair-init c = (omega arith, refl, refl)
 
-pub read_pair-read-requires : goal.read_pair-read-requires
-read_pair-read-requires c = (c.requires.0, c.loop-pair-test.true)
+pub read_pair-requires : goal.read_pair-requires
+read_pair-requires c = (c.requires.0, c.loop-pair-test.true)
 
-pub returns-then-not-read : goal.returns-then-not-read
-returns-then-not-read c =
-    let fails : c.read_pair-read.result.fits ≡ false = not-true _ c.if-not-read.true in (
-      sym (laid_here (goal.at.returns-then-not-read c).After-read_pair-read ∙ ap (λ (t : Bool). t && laid c.args.price (2000 - (pair (goal.at.returns-then-not-read c).After-read_pair-read + 1)) (pair (goal.at.returns-then-not-read c).After-read_pair-read + 1) (drop (at (goal.at.returns-then-not-read c).After-read_pair-read + taken (pair (goal.at.returns-then-not-read c).After-read_pair-read) (drop (at (goal.at.returns-then-not-read c).After-read_pair-read) (page (goal.at.returns-then-not-read c).After-read_pair-read))) (page (goal.at.returns-then-not-read c).After-read_pair-read))) fails),
+pub returns-in_default : goal.returns-in_default
+returns-in_default c =
+    let s = (goal.at.returns-in_default c).After-read_pair in (
+      sym (laid_here s ∙ ap (further s) (unfit _ _ _ (sym (told s) ∙ c.in_default.is))),
       λ z. let w : ◌≡◌ {A = ℕ} 0 1 = cc in absurd (omega arith),
     )
 
-pub bounds-shown-pair-in-loop-pair : goal.bounds-shown-pair-in-loop-pair
-bounds-shown-pair-in-loop-pair c =
-    let l = c.loop-pair in
-    omega (arith, length-set l.shown (2 * l.pair) c.read_pair-read.result.wanted, l.invariant.2)
+-- where the next pair is
+next_is : (s : After-read_pair) (r : PairRead) → shown_at (pair s) (drop (at s) (page s)) ≡ r → at s + r.bytes ≡ at s + taken (pair s) (drop (at s) (page s))
+next_is s r e = ap (λ (r : PairRead). at s + r.bytes) (sym e)
+
+next_fits : (s : After-read_pair) (r : PairRead) → fits s.args.price (pair s) (drop (at s) (page s)) ≡ true → shown_at (pair s) (drop (at s) (page s)) ≡ r
+    → at s + r.bytes ≤ length (page s)
+next_fits s r f e =
+    omega (
+      arith,
+      next_is s r e,
+      next_inside s.args.price (page s) s.loop-pair.shown (at s) (pair s) s.requires.0 s.loop-pair-test.true s.loop-pair.invariant.0 (long s) f,
+    )
 
 pub overflow_add-at : goal.overflow_add-at
 overflow_add-at c =
-    record { fits = omega (arith, next_fits (goal.at.overflow_add-at c).After-read_pair-read (not-false _ c.if-not-read.false), c.well_formed) }
+    let s = (goal.at.overflow_add-at c).After-read_pair in
+    let r = fit _ _ _ _ (sym (told s) ∙ c.in-Some.is) in
+    record { fits = omega (arith, next_fits s _ r.0 r.1, c.well_formed) }
 
 pub loop-pair-preserved : goal.loop-pair-preserved
 loop-pair-preserved c =
-    let e : c.read_pair-read.result.fits ≡ true = not-false _ c.if-not-read.false in
-    let l = c.loop-pair in (
-      omega (arith, real (goal.at.loop-pair-preserved c).After-read_pair-read),
-      next_fits (goal.at.loop-pair-preserved c).After-read_pair-read e,
-      length_after c.args.price (page (goal.at.loop-pair-preserved c).After-read_pair-read) l.shown (at (goal.at.loop-pair-preserved c).After-read_pair-read) (pair (goal.at.loop-pair-preserved c).After-read_pair-read) c.requires.0 (real (goal.at.loop-pair-preserved c).After-read_pair-read) l.invariant.1 l.invariant.2 _ _ ((told (goal.at.loop-pair-preserved c).After-read_pair-read).1 e).0 ((told (goal.at.loop-pair-preserved c).After-read_pair-read).1 e).1,
-      laid_here (goal.at.loop-pair-preserved c).After-read_pair-read
-          ∙ ap₂ (λ (t : Bool) (m : ℕ). t && laid c.args.price (2000 - (pair (goal.at.loop-pair-preserved c).After-read_pair-read + 1)) (pair (goal.at.loop-pair-preserved c).After-read_pair-read + 1) (drop m (page (goal.at.loop-pair-preserved c).After-read_pair-read))) e (sym (next_is (goal.at.loop-pair-preserved c).After-read_pair-read e)),
-      shown_next c.args.price (page (goal.at.loop-pair-preserved c).After-read_pair-read) l.shown (at (goal.at.loop-pair-preserved c).After-read_pair-read) (pair (goal.at.loop-pair-preserved c).After-read_pair-read) c.requires.0 (real (goal.at.loop-pair-preserved c).After-read_pair-read) l.invariant.1 l.invariant.2 _ _ ((told (goal.at.loop-pair-preserved c).After-read_pair-read).1 e).0 ((told (goal.at.loop-pair-preserved c).After-read_pair-read).1 e).1 _ l.invariant.4
-          ∙ ap (λ (m : ℕ). take (2 * (pair (goal.at.loop-pair-preserved c).After-read_pair-read + 1)) (set (set l.shown (2 * pair (goal.at.loop-pair-preserved c).After-read_pair-read) c.read_pair-read.result.wanted) (2 * pair (goal.at.loop-pair-preserved c).After-read_pair-read + 1) c.read_pair-read.result.got) ++ shown (2000 - (pair (goal.at.loop-pair-preserved c).After-read_pair-read + 1)) (pair (goal.at.loop-pair-preserved c).After-read_pair-read + 1) (drop m (page (goal.at.loop-pair-preserved c).After-read_pair-read))) (sym (next_is (goal.at.loop-pair-preserved c).After-read_pair-read e)),
+    let s = (goal.at.loop-pair-preserved c).After-read_pair in
+    let l = c.loop-pair in
+    let price = c.args.price in
+    let i = l.pair in
+    let bytes = c.args.page.now in
+    let read = c.in-Some.read in
+    let r = fit _ _ _ _ (sym (told s) ∙ c.in-Some.is) in
+    let next = sym (next_is s read r.1) in (
+      next_fits s read r.0 r.1,
+      laid_here s ∙ ap₂ (λ (t : Bool) (m : ℕ). t && laid price (2000 - (i + 1)) (i + 1) (drop m bytes)) r.0 next,
+      shown_next price bytes l.shown l.at i c.requires.0 c.loop-pair-test.true l.invariant.0 (long s) read.wanted read.got
+          (ap (λ (r : PairRead). r.wanted) (sym r.1)) (ap (λ (r : PairRead). r.got) (sym r.1)) _ l.invariant.2
+          ∙ ap
+          (λ (m : ℕ). take (2 * (i + 1)) (set (set l.shown (2 * i) read.wanted) (2 * i + 1) read.got) ++ shown (2000 - (i + 1)) (i + 1) (drop m bytes))
+          next,
     )
 
 pub returns : goal.returns
@@ -151,11 +168,11 @@ returns c =
     let l = c.loop-pair in
     let page = c.args.page.now in
     let none : 2000 - l.pair ≡ 0 = omega (arith, c.loop-pair-test.false) in (
-      sym (l.invariant.3 ∙ ap (λ (m : ℕ). laid c.args.price m l.pair (drop l.at page)) none ∙ laid_end _ l.pair l.at page l.invariant.1),
+      sym (l.invariant.1 ∙ ap (λ (m : ℕ). laid c.args.price m l.pair (drop l.at page)) none ∙ laid_end _ l.pair l.at page l.invariant.0),
       λ _.
           sym
-          (l.invariant.4
+          (l.invariant.2
           ∙ ap (λ (m : List ℕ). take (2 * l.pair) l.shown ++ m) (shown_end (2000 - l.pair) l.pair (drop l.at page) none)
           ∙ append-nil (take (2 * l.pair) l.shown)
-          ∙ take_all (2 * l.pair) l.shown (omega (arith, l.invariant.2, c.loop-pair-test.false))),
+          ∙ take_all (2 * l.pair) l.shown (omega (arith, l.auto.shown, c.requires.1, c.loop-pair-test.false))),
     )

@@ -1,4 +1,4 @@
--- What holds at each turn of the loops of `read_lines`. Assumes nothing.
+-- What holds at each turn of the loop of `read_lines`. Assumes nothing.
 use mathlib.Core.Path.{◌≡◌}
 use mathlib.Core.List.{◌++◌}
 use Prim.Native.Nat.{◌-◌, ◌*◌, ◌≤◌}
@@ -9,8 +9,5 @@ use Rattle.settlement.proofs.reading.read_lines.Given as goal
 
 abbrev pub invariant-loop-pair : goal.invariant-loop-pair
 invariant-loop-pair l =
-    (l.pair ≤ 2000) × (l.at ≤ length l.page) × (length l.shown ≡ 4000) × (laid_out l.price l.page ≡ laid l.price (2000 - l.pair) l.pair (drop l.at l.page))
+    (l.at ≤ length l.page) × (laid_out l.price l.page ≡ laid l.price (2000 - l.pair) l.pair (drop l.at l.page))
     × (entries_on l.page ≡ take (2 * l.pair) l.shown ++ shown (2000 - l.pair) l.pair (drop l.at l.page))
-
-abbrev pub decreases-loop-pair : goal.decreases-loop-pair
-decreases-loop-pair l = 2000 - l.pair

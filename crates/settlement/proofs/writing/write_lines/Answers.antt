@@ -8,7 +8,7 @@ use lib.ListN.{length, take, drop, get_or, length-append, length-drop}
 use lib.Seq.{length-take-le, take_all, take_at}
 use Rattle.ranges.proofs.Loops.{and-true}
 use Rattle.settlement_page.specs.Page.{line_of, lines, in_range, all_in_range}
-use Rattle.settlement.proofs.Pairs.{range_more, lines_more, lines_end}
+use Rattle.settlement.proofs.Pairs.{range_more, lines_more, lines_end, real, here, over}
 use Rattle.settlement.proofs.writing.write_lines.Goals as goal
 
 -- one pair more
@@ -57,45 +57,42 @@ module _ (price : ℕ) (entries page : List ℕ) (at pair : ℕ) (long : length 
         ∙ take_at (take at page ++ text) (drop next page) next front))
 
 pub loop-pair-init : goal.loop-pair-init
-loop-pair-init c = (omega arith, refl, c.requires.2, omega (arith, c.requires.3), refl)
+loop-pair-init c = (c.requires.2, omega (arith, c.requires.3), refl)
 
 pub put_pair-at-requires : goal.put_pair-at-requires
 put_pair-at-requires c =
-    let real = c.loop-pair-test.true in
-    let entries = c.args.entries.now in (
+    let l = c.loop-pair in
+    let entries = c.args.entries.now in
+    let few = real entries _ l.pair c.requires.1 c.pairs-wanted-items.ensures c.loop-pair-test.true in
+    rw (here entries c.pairs-wanted-items.result.now l.pair c.requires.1 c.pairs-wanted-items.ensures c.loop-pair-test.true) (
       c.requires.0,
-      real,
-      (ranges c.args.price entries c.loop-pair.page c.loop-pair.at c.loop-pair.pair c.requires.1 real c.loop-pair.invariant.2 c.loop-pair.invariant.3).0,
-      fits c.args.price entries c.loop-pair.page c.loop-pair.at c.loop-pair.pair c.requires.1 real c.loop-pair.invariant.2 c.loop-pair.invariant.3,
+      few,
+      (ranges c.args.price entries l.page l.at l.pair c.requires.1 few l.invariant.0 l.invariant.1).0,
+      fits c.args.price entries l.page l.at l.pair c.requires.1 few l.invariant.0 l.invariant.1,
     )
 
 pub loop-pair-preserved : goal.loop-pair-preserved
 loop-pair-preserved c =
-    let real = c.loop-pair-test.true in
+    let l = c.loop-pair in
     let price = c.args.price in
     let entries = c.args.entries.now in
-    let page = c.loop-pair.page in
-    let after = c.put_pair-at.new.page in
-    let next = c.put_pair-at.result in
-    let e = c.put_pair-at.ensures.0 in
-    let f = c.put_pair-at.ensures.1 in (
-      omega arith,
-      length_after price entries page c.loop-pair.at c.loop-pair.pair c.requires.1 real c.loop-pair.invariant.2 c.loop-pair.invariant.3 after next e f ∙ c.loop-pair.invariant.1,
-      (ranges price entries page c.loop-pair.at c.loop-pair.pair c.requires.1 real c.loop-pair.invariant.2 c.loop-pair.invariant.3).1,
-      size_after price entries page c.loop-pair.at c.loop-pair.pair c.requires.1 real c.loop-pair.invariant.2 c.loop-pair.invariant.3 after next e f,
-      text_after price entries page c.loop-pair.at c.loop-pair.pair c.requires.1 real c.loop-pair.invariant.2 c.loop-pair.invariant.3 after next e f _ c.loop-pair.invariant.4,
+    let few = real entries _ l.pair c.requires.1 c.pairs-wanted-items.ensures c.loop-pair-test.true in
+    let put =
+    rw (here entries c.pairs-wanted-items.result.now l.pair c.requires.1 c.pairs-wanted-items.ensures c.loop-pair-test.true)
+    at c.put_pair-at.ensures in (
+      (ranges price entries l.page l.at l.pair c.requires.1 few l.invariant.0 l.invariant.1).1,
+      size_after price entries l.page l.at l.pair c.requires.1 few l.invariant.0 l.invariant.1 _ _ put.0 put.1,
+      text_after price entries l.page l.at l.pair c.requires.1 few l.invariant.0 l.invariant.1 _ _ put.0 put.1 _ l.invariant.2,
     )
-
-pub shape_of-page : goal.shape_of-page
-shape_of-page c = c.loop-pair.invariant.1
 
 pub returns : goal.returns
 returns c =
     let l = c.loop-pair in
     let entries = c.args.entries.now in
-    let none = lines_end entries l.pair (omega (arith, c.loop-pair-test.false, c.requires.1)) c.args.price l.pair in
+    let end = over entries _ l.pair c.requires.1 c.pairs-wanted-items.ensures c.loop-pair-test.false in
+    let none = lines_end entries l.pair end c.args.price l.pair in
     sym
-    (l.invariant.4
+    (l.invariant.2
     ∙ ap (λ (m : List ℕ). take l.at l.page ++ m) none
     ∙ append-nil (take l.at l.page)
-    ∙ take_all l.at l.page (omega (arith, l.invariant.3, ap length none)))
+    ∙ take_all l.at l.page (omega (arith, l.invariant.1, ap length none)))

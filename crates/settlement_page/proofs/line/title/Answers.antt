@@ -13,10 +13,10 @@ told c columns e =
     title_columns c.args.pair c.requires _ _ _ _ columns c.digit_or_space-a.ensures
     c.digit_or_space-b.ensures c.digit_or_space-c.ensures c.last_digit-d.ensures e
 
-pub returns-then-pair-eq0 : goal.returns-then-pair-eq0
-returns-then-pair-eq0 c =
-    told (goal.at.returns-then-pair-eq0 c).After-last_digit-d _ (right_buy c.args.pair c.if-pair-eq0.true)
+pub returns-then-buys : goal.returns-then-buys
+returns-then-buys c =
+    told (goal.at.returns-then-buys c).After-last_digit-d _ (right_buy c.args.pair c.if-buys.true)
 
 pub returns : goal.returns
 returns c =
-    told (goal.at.returns c).After-last_digit-d _ (right_sell c.args.pair c.if-pair-eq0.false)
+    told (goal.at.returns c).After-last_digit-d _ (right_sell c.args.pair c.if-buys.false)

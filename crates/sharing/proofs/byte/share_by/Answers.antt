@@ -1,79 +1,55 @@
--- `share_by` meets its contract: the sum so far is the value of the coefficients that were passed. Assumes nothing.
-use mathlib.Core.Path.{◌≡◌, sym, ap, ◌∙◌}
-use mathlib.Core.List.{List}
-use Prim.Native.Nat.{ℕ, ◌-◌, ◌≤◌, ◌<◌}
-use native.Mathlib.Omega.{arith}
-use borrow.Author.Rules.{rules}
+-- `share_by` meets its contract: the sum so far is the value of the coins that were passed. Assumes nothing.
+use Rattle.std.proofs.Common.{rules, ◌≡◌, ◌∷◌, [], ◌++◌, List, ℕ, sym, ap, ◌∙◌}
 use lib.Bits.{xor_zero_r}
-use lib.ListN.{length, drop, get_or}
 use Rattle.fields.specs.Byte.{xor, product, bytes}
-use Rattle.byte_rows.specs.Row.{multiples}
 use Rattle.fields.proofs.Bytes.{product_zero}
-use Rattle.byte_rows.proofs.Rows.{by_row}
 use Rattle.sharing.specs.Polynomial.{value}
-use Rattle.sharing.proofs.Horner.{none, one_more}
+use Rattle.sharing.proofs.Horner.{Passed, none, one_more, all}
 use Rattle.sharing.proofs.byte.share_by.Goals as goal
-use Rattle.sharing.proofs.byte.share_by.Goals.{then-i-gt0, else-i-gt0}
+use Rattle.sharing.proofs.byte.share_by.Goals.{in-Some-next, in_default-next}
 
 -- a constant
 alone : (a x : ℕ) → a ≡ xor a (product x 0)
 unfolding xor
 alone a x = sym (ap (xor a) (product_zero x) ∙ xor_zero_r a)
 
--- a product, from the row
-read : (row : List ℕ) (point b : ℕ) → row ≡ multiples point → b < 256 → get_or row b 0 ≡ product point b
-read row point b e h = ap (λ (r : List ℕ). get_or r b 0) e ∙ by_row point b h
-
 module _ (coins : List ℕ) (point : ℕ) where
   -- the last coin
-  last : 0 < length coins → get_or coins (length coins - 1) 0 ≡ value bytes (drop (length coins - 1) coins) point
-  last h = alone (get_or coins (length coins - 1) 0) point ∙ one_more bytes coins point (length coins) 0 h (omega arith) (sym (none bytes coins point))
+  last : (rest rest' : List ℕ) (coin : ℕ) → rest ≡ coins → rest ≡ rest' ++ (coin ∷ []) → Passed bytes point coins rest' coin
+  last rest rest' coin e m = rw (alone coin point) (one_more bytes point coins rest rest' coin 0 m (none bytes point coins rest e))
 
-  -- one coin more
-  more : (row : List ℕ) (i sum : ℕ) → row ≡ multiples point → 0 < i → i ≤ length coins → sum < 256 → sum ≡ value bytes (drop i coins) point
-      → xor (get_or coins (i - 1) 0) (get_or row sum 0) ≡ value bytes (drop (i - 1) coins) point
-  more row i sum e h l small v = ap (xor (get_or coins (i - 1) 0)) (read row point sum e small) ∙ one_more bytes coins point i sum h l v
-
-pub returns-then-i-eq0 : goal.returns-then-i-eq0
+pub returns-in_default : goal.returns-in_default
 unfolding value
-returns-then-i-eq0 c =
+returns-in_default c =
     let a = c.args in
-    let e : length a.coins.now ≡ 0 = c.if-i-eq0.true in
-    alone a.secret a.point
-    ∙ ap (λ (v : ℕ). xor a.secret (product a.point v))
-    (sym (none bytes a.coins.now a.point) ∙ ap (λ (k : ℕ). value bytes (drop k a.coins.now) a.point) e)
+    let e : c.rev-left.result.iter.rest.now ≡ a.coins.now = search rules in
+    alone a.secret a.row.now.byte
+    ∙ ap (λ (v : ℕ). xor a.secret (product a.row.now.byte v))
+    (all bytes a.row.now.byte a.coins.now _ _ c.in_default.ensures.steps.0 (none bytes a.row.now.byte a.coins.now _ e))
 
--- the last coin is a byte
-pub overflow_cast-sum : goal.overflow_cast-sum
-overflow_cast-sum c = omega (arith, c.shared_slice_known-1.given (length c.args.coins.now - 1))
-
-pub bounds-row-sum : goal.bounds-row-sum
-bounds-row-sum c = omega (arith, c.shared_slice_known-1.given (length c.args.coins.now - 1))
-
-pub loop-i-init : goal.loop-i-init
+pub loop-coin-init : goal.loop-coin-init
 unfolding xor
-loop-i-init c =
+loop-coin-init c =
     let a = c.args in
-    let n = length a.coins.now in
-    let one = last a.coins.now a.point (omega arith) in
-    elim c.if-i-gt0.branch [
-      | then-i-gt0 w ↦ rw (w.i-is, w.sum-is) (omega arith, more a.coins.now a.point a.row.now (n - 1) _ c.requires w.if-i-gt0.true (omega arith) (omega (arith, c.shared_slice_known-1.given (n - 1))) one)
-      | else-i-gt0 w ↦ rw (w.i-is, w.sum-is) (omega arith, one)
+    let e : c.rev-left.result.iter.rest.now ≡ a.coins.now = search rules in
+    let one = last a.coins.now a.row.now.byte _ _ _ e c.in-Some.ensures.steps in
+    rw c.into_iter-coin-iterator.ensures.into_iter_gives
+    elim c.match-next-2.branch [
+      | in-Some-next w ↦ rw (w.sum-is, w.product.ensures) (one_more bytes a.row.now.byte a.coins.now _ _ _ _ w.in-Some-next.ensures.steps one)
+      | in_default-next w ↦ rw (w.sum-is, w.in_default-next.ensures.steps.1) one
     ]
 
-pub loop-i-preserved : goal.loop-i-preserved
+pub loop-coin-preserved : goal.loop-coin-preserved
 unfolding xor
-loop-i-preserved c =
-    let l = c.loop-i in
+loop-coin-preserved c =
+    let l = c.loop-coin in
     let a = c.args in
-    (omega arith, more a.coins.now a.point a.row.now l.i l.sum c.requires (omega arith) l.invariant.0 (omega arith) l.invariant.1)
+    rw c.product-in-loop-coin.ensures (one_more bytes a.row.now.byte a.coins.now _ _ _ l.sum c.in-Some-coin.ensures.steps l.invariant)
 
 pub returns : goal.returns
 unfolding value xor
 returns c =
-    let l = c.loop-i in
+    let l = c.loop-coin in
     let a = c.args in
-    let done : l.i ≡ 0 = omega arith in
     ap (xor a.secret)
-    (read a.row.now a.point l.sum c.requires (omega arith)
-    ∙ ap (product a.point) (l.invariant.1 ∙ ap (λ (k : ℕ). value bytes (drop k a.coins.now) a.point) done))
+    (c.product-2.ensures ∙ ap (product a.row.now.byte) (all bytes a.row.now.byte a.coins.now _ _ c.in-None.ensures.steps.0 l.invariant))

@@ -1,13 +1,7 @@
--- What holds at each turn of the loops of `share_by`. Assumes nothing.
-use mathlib.Core.Path.{◌≡◌}
-use Prim.Native.Nat.{◌-◌, ◌≤◌}
-use lib.ListN.{length, drop}
+-- What holds at each turn of the loop of `share_by`. Assumes nothing.
 use Rattle.fields.specs.Byte.{bytes}
-use Rattle.sharing.specs.Polynomial.{value}
+use Rattle.sharing.proofs.Horner.{Passed}
 use Rattle.sharing.proofs.byte.share_by.Given as goal
 
-abbrev pub invariant-loop-i : goal.invariant-loop-i
-invariant-loop-i l = (l.i ≤ length l.coins) × (l.sum ≡ value bytes (drop l.i l.coins) l.point)
-
-abbrev pub decreases-loop-i : goal.decreases-loop-i
-decreases-loop-i l = l.i
+abbrev pub invariant-loop-coin : goal.invariant-loop-coin
+invariant-loop-coin l = Passed bytes l.row.byte l.coins l.coin-iterator.iter.rest.now l.sum
