@@ -9,11 +9,12 @@ use lib.Dec.{T, eqb, eqb→eq}
 use lib.ListN.{get_or}
 use borrow.Author.Tests.{lt-ltb}
 use Rattle.fields.specs.Amount.{p, amounts}
+use Rattle.fields.specs.Ring.{sub}
 use Rattle.fields.specs.Byte.{xor, product, bytes}
 use Rattle.fields.specs.Gap.{amount_inverses, amount_gap, byte_inverses, byte_gap}
 use Rattle.fields.specs.Table.{logarithms, powers, added}
 use Rattle.fields.proofs.Amounts.{mul_mod}
-use Rattle.fields.proofs.Bytes.{zero_product}
+use Rattle.fields.proofs.Bytes.{zero_product, product_zero}
 use Rattle.fields.proofs.Fields.{byte_field}
 use Rattle.fields.proofs.Tables.{power, power_entry, power_log, power_added}
 use Rattle.fields.proofs.Test.{below, at}
@@ -51,6 +52,11 @@ inverse_power zero h k = absurd (h refl)
 inverse_power (suc d) h k =
     sym (power_entry (255 - get_or logarithms (suc d) 0) (omega arith))
     ∙ eqb→eq (get_or powers (255 - get_or logarithms (suc d) 0) 0) (get_or byte_inverses (suc d) 0) (at has_inverse 15 inverses_rule d (omega arith))
+
+-- a line through a word at 0 has that word there
+pub at_nought : (y x z : ℕ) → line bytes byte_gap 0 y x z ≡ y
+at_nought y x z =
+    ap (λ (s : ℕ). xor y (product (sub bytes y z) s)) (zero_product (byte_gap x 0)) ∙ ap (xor y) (product_zero (sub bytes y z)) ∙ xors.right_zero y
 
 module _ (r x : ℕ) (r_some : 0 < r) (after : r < x) (most : x ≤ 9) where
   apart : xor x r ≡ 0 → ⊥

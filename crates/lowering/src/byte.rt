@@ -13,7 +13,11 @@ use fields::{ByteTables, exponent};
 impl Lines for ByteTables {
     ghost line = { pair_line };
 
+    // The line through a word at 0 has that word there; and 0 has no logarithm.
     fn at_zero(&self, r: u64, y: u64, x: u64, z: u64) -> u64 {
+        if r == 0 {
+            return y % 65536;
+        }
         let by = step(r as u8, x as u8, self);
         let low = line(by, (y % 256) as u8, (z % 256) as u8, self);
         let high = line(by, (y / 256 % 256) as u8, (z / 256 % 256) as u8, self);

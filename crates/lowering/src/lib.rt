@@ -6,4 +6,4 @@ mod byte;
 mod words;
 
 pub use amount::Amounts;
-pub use words::{Lines, descend};
+pub use words::{Lines, descend, lower};

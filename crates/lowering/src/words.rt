@@ -8,7 +8,7 @@ pub trait Lines {
     ghost line: { ℕ → ℕ → ℕ → ℕ → ℕ };
 
     fn at_zero(&self, r: u64, y: u64, x: u64, z: u64) -> u64
-        requires { (0 < r) × (r < x) × (x ≤ 9) }
+        requires { (r < x) × (x ≤ 9) }
         ensures { result ≡ line r y x z };
 }
 
@@ -31,8 +31,8 @@ pub fn descend<L: Lines>(lines: &L, t: usize, points: &[u64], words: &mut [u64])
 }
 
 // Of each word, the value at 0 of the line through it and the word that is given.
-fn lower<L: Lines>(lines: &L, point: u64, word: u64, points: &[u64], words: &mut [u64])
-    requires { (0 < point) × Rising point points.now × (length words.old ≡ length points.now) }
+pub fn lower<L: Lines>(lines: &L, point: u64, word: u64, points: &[u64], words: &mut [u64])
+    requires { Rising point points.now × (length words.old ≡ length points.now) }
     ensures { words.new ≡ lowered_by L.line point word points.now words.old }
 {
     // The index stands for a `zip` with the points, after which nothing would be known of what is written.

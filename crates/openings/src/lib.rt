@@ -1,4 +1,5 @@
-// Opening all n shares, in both fields.
+// Opening all n shares, in both fields. They share no code: sums of amounts are made of halves and reduced once, those of bytes
+// are made of exponents, all in one word.
 #![tactic(auto)]
 
 mod amount;

@@ -9,7 +9,7 @@ use bid::split;
 use record::Party;
 use session::add;
 
-// Room for a party's shares.
+// Room for a party's shares: an array, since there is no heap.
 fn zeros() -> [u64; 512]
     ensures { result ≡ replicate 512 0 }
 {
@@ -39,7 +39,7 @@ fn add_one(
     returned(reply)
 }
 
-// The same for all parties.
+// The same for all parties, by number: of chunks that are lent to be written nothing would be known afterwards.
 pub fn add_all(
     n: u64,
     k: u64,

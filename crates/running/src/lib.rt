@@ -38,12 +38,12 @@ fn hold(
     search(n, k, parties, &totals[..], &sheets[..])
 }
 
-// Room for the totals of nine parties.
+// Room for the totals of nine parties: an array, since there is no heap.
 fn no_totals() -> [u64; 4608] {
     [0u64; 4608]
 }
 
-// Room for eighteen sheets of each of nine parties.
+// Room for eighteen sheets of each of nine parties, likewise.
 fn no_sheets() -> [u64; 20574] {
     [0u64; 20574]
 }

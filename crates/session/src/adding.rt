@@ -21,7 +21,8 @@ pub fn add(q: Party, totals: &mut [u64], bidder: u64, shares: &[u64]) -> Reply
     add_judged(q, sound(q), totals, bidder, shares)
 }
 
-// The same, of a record that who calls has judged where it stands.
+// The same, of a record that who calls has judged where it stands. The two stay apart: a struct of
+// them would be made for this one call, and taken apart in it.
 pub fn add_judged(q: Party, whole: bool, totals: &mut [u64], bidder: u64, shares: &[u64]) -> Reply
     requires { whole ≡ sound q }
     ensures { (result ≡ add_reply q totals.old bidder shares.now)

@@ -14,7 +14,8 @@ pub fn answer(q: Party) -> Result<Answer, Refusal>
     answer_judged(q, sound(q))
 }
 
-// The same, of a record that who calls has judged where it stands.
+// The same, of a record that who calls has judged where it stands. The two stay apart: a struct of
+// them would be made for this one call, and taken apart in it.
 pub fn answer_judged(q: Party, whole: bool) -> Result<Answer, Refusal>
     requires { whole ≡ sound q }
     ensures { result ≡ answer_reply q }

@@ -57,7 +57,7 @@ fn settle_good(input: &[u8], shape: Shape, out: &mut [u8]) -> usize
     write_page(price, &entries, out)
 }
 
-// Room for the entries.
+// Room for the entries: an array, since there is no heap.
 fn no_entries() -> [u64; ENTRIES]
     ensures { result ≡ replicate 4000 0 }
 {
