@@ -137,10 +137,11 @@ fn write(t: usize, own: u64, table: &[u64], coins: &[u64], shares: &mut [u64])
         × (t ≤ 4) × (own ≤ 9) }
     ensures { shares.new ≡ bid_shares t own table.now coins.now }
 {
+    let mut at = 0;
     for (i, amount) in table.iter().enumerate() {
-        let at = i * t;
         let next = at + t;
         shares[i] = share(*amount, &coins[at..next], own);
+        at = next;
     }
 }
 

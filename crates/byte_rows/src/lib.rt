@@ -5,12 +5,12 @@ ghost use Rattle.std.specs.Prelude.{◌≡◌};
 ghost use Rattle.fields.specs.Byte.{xtimes, bytes};
 ghost use Rattle.byte_rows.specs.Row.{multiples};
 
-// A byte and every product of it: a point with the row that products by it are read from.
+// A byte and every product of it: a point with the row that products by it are read from. Who has the row makes it of that.
 #[derive(Drop)]
 pub struct ByteRow {
     pub byte: u8,
-    products: [u8; 256],
-    ghost are_multiples: { products ≡ multiples byte },
+    pub products: [u8; 256],
+    pub ghost are_multiples: { products ≡ multiples byte },
 }
 
 impl ByteRow {

@@ -42,12 +42,13 @@ const POWERS: [u8; 256] = *b"\
     \x12\x36\x5a\xee\x29\x7b\x8d\x8c\x8f\x8a\x85\x94\xa7\xf2\x0d\x17\
     \x39\x4b\xdd\x7c\x84\x97\xa2\xfd\x1c\x24\x6c\xb4\xc7\x52\xf6\x01";
 
-// Both tables. A ghost field says that they are those of the definition, so no function asks it of who lends them.
+// Both tables. A ghost field says that they are those of the definition, so no function asks it of who lends them; who
+// has them in arrays makes it of these.
 #[derive(Drop)]
 pub struct ByteTables {
-    log_table: [u8; 256],
-    power_table: [u8; 256],
-    ghost are_tables: { Tables log_table power_table },
+    pub log_table: [u8; 256],
+    pub power_table: [u8; 256],
+    pub ghost are_tables: { Tables log_table power_table },
 }
 
 impl ByteTables {
@@ -72,18 +73,33 @@ impl ByteTables {
         self.power_table[n as usize]
     }
 
-    // Of bytes that are no shares too. The exponents of the factors are added; 0 has none.
+    // Of bytes that are no shares too.
     pub fn product(&self, a: u8, b: u8) -> u8
         ensures { result ≡ bytes.mul a b }
     {
-        if a == 0 {
-            return 0;
-        }
-        if b == 0 {
-            return 0;
-        }
-        self.power(exponent(self.log(a), self.log(b)))
+        product_by(a, b, &self.log_table, &self.power_table)
     }
+}
+
+// The same by tables that stand apart. The exponents of the factors are added; 0 has none.
+pub fn product_by(a: u8, b: u8, logs: &[u8; 256], powers: &[u8; 256]) -> u8
+    requires { Tables logs.now powers.now }
+    ensures { result ≡ bytes.mul a b }
+{
+    if a == 0 {
+        return 0;
+    }
+    if b == 0 {
+        return 0;
+    }
+    powers[exponent(logs[a as usize], logs[b as usize]) as usize]
+}
+
+// A product by itself.
+pub(crate) fn product(a: u8, b: u8) -> u8
+    ensures { result ≡ bytes.mul a b }
+{
+    product_by(a, b, &LOGARITHMS, &POWERS)
 }
 
 // The exponent of a product: 03h to the power of 255 is 1, so what wraps is 1 too small.

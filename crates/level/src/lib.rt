@@ -98,8 +98,10 @@ impl Level<'_> {
         requires { length said.old ≡ width tree self.now.round }
         ensures { said.new ≡ level_words self.now.round self.now.sum self.now.kept.now self.now.sheet.now }
     {
+        // A level of its own: through the reference each word would read the round and both slices again.
+        let level = *self;
         for (j, said) in said.iter_mut().enumerate() {
-            *said = self.word(j);
+            *said = level.word(j);
         }
     }
 

@@ -1,15 +1,15 @@
 -- The lines of the listing. Assumes nothing.
-use mathlib.Core.Path.{◌≡◌, refl, sym, ap, ◌∙◌}
-use mathlib.Core.List.{List, [], ◌∷◌, ◌++◌, map, append_assoc, append-nil}
+use mathlib.Core.Path.{◌≡◌, refl, sym, ap, ap₂, ◌∙◌}
+use mathlib.Core.List.{List, [], ◌∷◌, ◌++◌, append_assoc, append-nil}
 use Prim.Native.Nat.{ℕ, zero, suc, ◌+◌, ◌≤◌, ◌<◌}
 use native.Mathlib.Nat.{add-zero}
+use native.Mathlib.Numerals.{add-one}
 use native.Mathlib.Omega.{arith}
-use lib.ListN.{length, take, get_or}
-use Rattle.std.proofs.Math.Seq.{take-length}
-use Rattle.std.proofs.lemmas.List.{length-map, length-take-le, map-append, take_more}
+use lib.ListN.{length, take, get_or, length-append}
+use Rattle.std.proofs.lemmas.List.{get_or_default, get_or-take}
 use Rattle.decimal.specs.Decimal.{decimal}
 use Rattle.listing.specs.declared.course.Probe.{Probe}
-use Rattle.listing.specs.Lines.{probe_line, probe_lines, no_price_line, clears_line, totals_line, course_trail}
+use Rattle.listing.specs.Lines.{probe_line, probe_lines, no_price_line, clears_line, totals_line, not_noted, course_trail}
 
 pub clears_none : (answer price : ℕ) → answer ≡ 0 → clears_line answer price ≡ no_price_line
 unfolding clears_line
@@ -33,9 +33,10 @@ unfolding totals_line
 totals_some zero demand supply h = absurd (h refl)
 totals_some (suc i) demand supply h = refl
 
-pub length_course : (trail : List Probe) (m : ℕ) → m ≤ length trail → length (course_trail trail m) ≡ m
+pub length_course : (trail : List Probe) (m : ℕ) → length (course_trail trail m) ≡ m
 unfolding course_trail
-length_course trail m h = length-map (take m trail) _ ∙ length-take-le m trail h
+length_course trail zero = refl
+length_course trail (suc m) = length-append (course_trail trail m) _ ∙ omega (arith, length_course trail m)
 
 -- the line of one probe more
 pub probes_more : (probe : ℕ) (ps : List (ℕ × ℕ)) (p : ℕ × ℕ) → probe_lines probe (ps ++ (p ∷ [])) ≡ probe_lines probe ps ++ probe_line (probe + length ps) p
@@ -48,18 +49,26 @@ probes_more probe (q ∷ ps) p =
     shift : (a b : ℕ) → suc a + b ≡ a + suc b
     shift a b = omega arith
 
+-- one probe more
+pub course_suc : (trail : List Probe) (i : ℕ) (p : Probe) → i < length trail
+    → course_trail trail (i + 1) ≡ course_trail trail i ++ (((get_or trail i p).index, (get_or trail i p).verdict) ∷ [])
+unfolding course_trail
+course_suc trail i p h =
+    ap (course_trail trail) (add-one i)
+    ∙ ap (λ (q : Probe). course_trail trail i ++ ((q.index, q.verdict) ∷ [])) (get_or_default trail i not_noted p h)
+
 pub course_more : (trail : List Probe) (i : ℕ) (p : Probe) → i < length trail
     → probe_lines 1 (course_trail trail (i + 1)) ≡ probe_lines 1 (course_trail trail i) ++ probe_line (i + 1) ((get_or trail i p).index, (get_or trail i p).verdict)
-unfolding course_trail
 course_more trail i p h =
-    let entry : Probe → ℕ × ℕ = λ q. (q.index, q.verdict) in
-    let f : 1 + length (course_trail trail i) ≡ i + 1 = omega (arith, length_course trail i (omega arith)) in
-    ap (λ (ps : List Probe). probe_lines 1 (map entry ps)) (take_more trail i p h)
-    ∙ ap (probe_lines 1) (map-append entry (take i trail) (get_or trail i p ∷ []))
-    ∙ probes_more 1 (course_trail trail i) (entry (get_or trail i p))
-    ∙ ap (λ (j : ℕ). probe_lines 1 (course_trail trail i) ++ probe_line j (entry (get_or trail i p))) f
+    let f : 1 + length (course_trail trail i) ≡ i + 1 = omega (arith, length_course trail i) in
+    ap (probe_lines 1) (course_suc trail i p h)
+    ∙ probes_more 1 (course_trail trail i) _
+    ∙ ap (λ (j : ℕ). probe_lines 1 (course_trail trail i) ++ probe_line j ((get_or trail i p).index, (get_or trail i p).verdict)) f
 
--- at the end of the probes that are listed, all are
-pub course_whole : (trail : List Probe) (m i : ℕ) → i ≡ length (take m trail) → course_trail (take m trail) i ≡ course_trail trail m
+-- those that are listed are among the first m
+pub course_within : (trail : List Probe) (m i : ℕ) → i ≤ m → m ≤ length trail → course_trail (take m trail) i ≡ course_trail trail i
 unfolding course_trail
-course_whole trail m i e = ap (map _) (ap (λ (j : ℕ). take j (take m trail)) e ∙ take-length (take m trail))
+course_within trail m zero h k = refl
+course_within trail m (suc i) h k =
+    ap₂ (λ (ps : List (ℕ × ℕ)) (q : Probe). ps ++ ((q.index, q.verdict) ∷ []))
+    (course_within trail m i (omega arith) k) (get_or-take m trail i not_noted (omega arith))

@@ -1,5 +1,5 @@
 -- The lines of a listing, as bytes. Assumes nothing.
-use Rattle.std.specs.Prelude.{cond, List, [], ◌∷◌, ◌++◌, map, ℕ, zero, suc, ◌+◌, ◌*◌, eqb, length, take}
+use Rattle.std.specs.Prelude.{cond, List, [], ◌∷◌, ◌++◌, ℕ, zero, suc, ◌+◌, ◌*◌, eqb, length, get_or}
 use Rattle.decimal.specs.Decimal.{decimal}
 use Rattle.listing.specs.declared.course.Probe.{Probe}
 
@@ -66,6 +66,10 @@ course_lines probes answer price demand supply =
 
 -- ---- the probes of both searches, as they are noted
 
--- the first m probes
+abbrev pub not_noted : Probe
+not_noted = record { index = 0; verdict = 0 }
+
+-- the first m probes; of more than are noted, zeros
 unfoldable pub course_trail : List Probe → ℕ → List (ℕ × ℕ)
-course_trail trail m = map (λ p. (p.index, p.verdict)) (take m trail)
+course_trail trail zero = []
+course_trail trail (suc m) = course_trail trail m ++ (((get_or trail m not_noted).index, (get_or trail m not_noted).verdict) ∷ [])

@@ -3,13 +3,12 @@ use Rattle.std.specs.Prelude.{Ok}
 use mathlib.Core.Path.{◌≡◌, refl, sym, ap, ap₂, subst, ◌∙◌}
 use mathlib.Core.Bool.{Bool, true, false, cond, not}
 use mathlib.Core.List.{List, [], ◌∷◌, ◌++◌, map, append_assoc, append-nil}
-use Prim.Native.Nat.{ℕ, suc, ◌+◌, ◌≤◌, ◌<◌}
+use Prim.Native.Nat.{ℕ, zero, suc, ◌+◌, ◌≤◌, ◌<◌}
 use native.Mathlib.Numerals.{add-one}
 use native.Mathlib.Omega.{arith}
 use lib.Dec.{eqb, leb}
-use lib.ListN.{length, take, drop, set, get_or}
-use lib.Seq.{drop-cons, take-suc-set}
-use Rattle.std.proofs.lemmas.List.{map-append}
+use lib.ListN.{length, drop, set, get_or}
+use lib.Seq.{get_or-set_same, get_or-set_other, drop-cons}
 use borrow.Author.Tests.{eq-eqb, ne_eqb}
 use Rattle.verdict.specs.Verdict.{verdict}
 use Rattle.search.specs.declared.bracket.Bracket.{Bracket}
@@ -41,22 +40,30 @@ use Rattle.auction.proofs.Hours.{fleet_told}
 use Rattle.auction.proofs.Whole.{last, end, end_search, end_totals, end_sane, end_over}
 use Rattle.listing.specs.declared.course.Course.{Course}
 use Rattle.listing.specs.declared.course.Probe.{Probe}
-use Rattle.listing.specs.Lines.{most_listed, course_trail}
+use Rattle.listing.specs.Lines.{most_listed, not_noted, course_trail}
 use Rattle.probing.specs.Follows.{as_listed, priced, Follows, moved_end, verdict_read}
 use Rattle.panel.proofs.Parts.{sheets_eighteen}
 use Rattle.standing.specs.Numbered.{rehearsed}
 use Rattle.standing.proofs.Standing.{Stands, verdict_at, Probes, Closes}
 use Rattle.standing.proofs.Rounds.{first_record}
 
+-- a later note leaves the earlier ones
+earlier : (trail : List Probe) (done : ℕ) (p : Probe) (m : ℕ) → m ≤ done → course_trail (set trail done p) m ≡ course_trail trail m
+unfolding course_trail
+earlier trail done p zero h = refl
+earlier trail done p (suc m) h =
+    let apart : m ≡ done → ⊥ = λ e. omega arith in
+    ap₂ (λ (ps : List (ℕ × ℕ)) (q : Probe). ps ++ ((q.index, q.verdict) ∷ []))
+    (earlier trail done p m (omega arith)) (get_or-set_other trail done m p not_noted apart)
+
 -- what is noted of one probe more
 noted_more : (trail : List Probe) (done : ℕ) (p : Probe) → done < length trail
     → course_trail (set trail done p) (done + 1) ≡ course_trail trail done ++ ((p.index, p.verdict) ∷ [])
 unfolding course_trail
 noted_more trail done p h =
-    let entry : Probe → ℕ × ℕ = λ q. (q.index, q.verdict) in
-    ap (λ (m : ℕ). map entry (take m (set trail done p))) (add-one done)
-    ∙ ap (map entry) (take-suc-set trail done p h)
-    ∙ map-append entry (take done trail) (p ∷ [])
+    ap (course_trail (set trail done p)) (add-one done)
+    ∙ ap₂ (λ (ps : List (ℕ × ℕ)) (q : Probe). ps ++ ((q.index, q.verdict) ∷ []))
+    (earlier trail done p done (omega arith)) (get_or-set_same trail done p not_noted h)
 
 -- ---- the verdict is read off the searches
 

@@ -1,5 +1,5 @@
 -- Steps that are tested from the left until one fails. Assumes nothing.
-use Rattle.std.proofs.Common.{◌≡◌, ℕ, suc, ◌+◌, ◌<◌, ◌≤◌, Bool, true, false, cond, not, ◌&&◌, ◌||◌, eqb, ltb, leb, List, [], ◌∷◌, length, get_or, drop, sym, refl, ap, ◌∙◌, true≢false, add-one, arith, drop-cons, ltb-false, ltb-true, eq-eqb, ne_eqb, le-leb}
+use Rattle.std.proofs.Common.{◌≡◌, ℕ, suc, ◌+◌, ◌-◌, ◌<◌, ◌≤◌, Bool, true, false, cond, not, ◌&&◌, ◌||◌, eqb, ltb, leb, List, [], ◌∷◌, length, get_or, drop, sym, refl, ap, ◌∙◌, true≢false, add-one, arith, length-drop, drop-cons, ltb-false, ltb-true, eq-eqb, ne_eqb, le-leb}
 use mathlib.Core.List.{tail-eq_of_cons-eq}
 use mathlib.Core.Logic.{◌⊎◌, ⊎_elim}
 use borrow.Author.Tests.{lt-leb}
@@ -27,10 +27,6 @@ module _ (left later : List ℕ) (h : Behind left later) where
     unfolding bend
     bend_fails test t = let n = behind_next in rw (e, n, t)
 
-    pub steps_more : (test : ℕ → ℕ → Bool) → steps test left ≡ test x y && steps test left'
-    unfolding steps
-    steps_more test = let n = behind_next in rw (e, n)
-
   module _ (over : (length left ≡ 0) ⊎ (length later ≡ 0)) where
     pub one_left : left ≡ h.0 ∷ []
     one_left = h.1 ∙ ap (λ (l : List ℕ). h.0 ∷ l) (⊎_elim (λ n. absurd (omega (arith, n, ap length h.1))) (λ n. nil_from_length later n) over)
@@ -39,9 +35,26 @@ module _ (left later : List ℕ) (h : Behind left later) where
     unfolding bend
     bend_ends test = let n = one_left in rw n
 
-    pub steps_end : (test : ℕ → ℕ → Bool) → steps test left ≡ true
-    unfolding steps
-    steps_end test = let n = one_left in rw n
+-- one step before what is left, and none
+pub steps_back : (test : ℕ → ℕ → Bool) (xs : List ℕ) (i : ℕ) → 1 ≤ i → i < length xs
+    → steps test (drop (i - 1) xs) ≡ test (get_or xs (i - 1) 0) (get_or xs i 0) && steps test (drop i xs)
+unfolding steps
+steps_back test xs i h k = rw (two, first xs i k)
+  where
+    two : drop (i - 1) xs ≡ get_or xs (i - 1) 0 ∷ get_or xs i 0 ∷ drop (i + 1) xs
+    two =
+        first xs (i - 1) (omega arith)
+        ∙ ap (λ (j : ℕ). get_or xs (i - 1) 0 ∷ drop j xs) (omega arith)
+        ∙ ap (λ (l : List ℕ). get_or xs (i - 1) 0 ∷ l) (first xs i k)
+
+pub steps_last : (test : ℕ → ℕ → Bool) (xs : List ℕ) (i : ℕ) → length xs ≤ i + 1 → steps test (drop i xs) ≡ true
+unfolding steps
+steps_last test xs i l = short (drop i xs) (omega (arith, length-drop i xs))
+  where
+    short : (ys : List ℕ) → length ys ≤ 1 → steps test ys ≡ true
+    short [] h = refl
+    short (y ∷ []) h = refl
+    short (y ∷ z ∷ zs) h = absurd (omega arith)
 
 pub steps_short : (test : ℕ → ℕ → Bool) (xs : List ℕ) → length xs < 1 → steps test xs ≡ true
 unfolding steps

@@ -30,12 +30,12 @@ pub fn first_bend(words: &[u64], rising: bool) -> usize
 fn none_bends(words: &[u64], rising: bool) -> bool
     ensures { result ≡ true → steps (in_order rising) words.now ≡ true }
 {
-    let [_, later @ ..] = words else {
-        return true;
-    };
     let mut seen: u64 = 0;
-    for (x, y) in words.iter().zip(later) {
-        let (low, high) = if rising { (*x, *y) } else { (*y, *x) };
+    // By number: a `zip` of the words and the later ones asks both at each turn, and words are taken one by one.
+    for i in 1..words.len() {
+        let x = words[i - 1];
+        let y = words[i];
+        let (low, high) = if rising { (x, y) } else { (y, x) };
         seen |= low | high.wrapping_sub(low);
     }
     seen < HIGH

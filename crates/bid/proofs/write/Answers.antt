@@ -1,5 +1,5 @@
--- `write` meets its contract: the shares before i are written, each from the t coins that begin at i * t. Assumes nothing.
-use mathlib.Core.Path.{◌≡◌, sym, ap, ◌∙◌}
+-- `write` meets its contract: the shares before i are written, from the i * t coins before `at`. Assumes nothing.
+use mathlib.Core.Path.{◌≡◌, sym, ap₂, ◌∙◌}
 use mathlib.Core.List.{List, ◌∷◌}
 use Prim.Native.Nat.{ℕ, ◌+◌, ◌-◌, ◌*◌, ◌≤◌, ◌<◌}
 use native.Mathlib.Nat.{mul-le-mul_right}
@@ -15,22 +15,20 @@ use Rattle.bid.proofs.write.Goals as goal
 use Rattle.bid.proofs.write.Goals.{In-loop-i}
 
 -- the coins of an amount are there
-room : (m t i : ℕ) → i < m → i * t + t ≤ m * t
-room m t i h =
+room : (m t at i : ℕ) → at ≡ i * t → i < m → at + t ≤ m * t
+room m t at i e h =
     let l : (i + 1) * t ≤ m * t = mul-le-mul_right t (omega arith) in
     omega arith
 
-fits : (c : In-loop-i) → c.loop-i.i * c.args.t + c.args.t ≤ length c.args.coins.now
-fits c = omega (arith, room (length c.args.table.now) c.args.t c.loop-i.i c.loop-i-test.true, c.requires.0)
+fits : (c : In-loop-i) → c.loop-i.at + c.args.t ≤ length c.args.coins.now
+fits c =
+    omega (arith, room (length c.args.table.now) c.args.t c.loop-i.at c.loop-i.i c.loop-i.invariant.0 c.loop-i-test.true, c.requires.0)
 
 -- and they are the amount's own
-taken : (coins : List ℕ) (t at own a : ℕ) → value amounts (a ∷ take (at + t - at) (drop at coins)) own ≡ value amounts (a ∷ take t (drop at coins)) own
-taken coins t at own a =
+taken : (coins : List ℕ) (t at i own a : ℕ) → at ≡ i * t → value amounts (a ∷ take (at + t - at) (drop at coins)) own ≡ value amounts (a ∷ take t (drop (i * t) coins)) own
+taken coins t at i own a e =
     let j : at + t - at ≡ t = omega arith in
-    ap (λ (k : ℕ). value amounts (a ∷ take k (drop at coins)) own) j
-
-pub overflow_mul-at : goal.overflow_mul-at
-overflow_mul-at c = omega (arith, fits (goal.at.overflow_mul-at c).In-loop-i, c.well_formed)
+    ap₂ (λ (k m : ℕ). value amounts (a ∷ take k (drop m coins)) own) j e
 
 pub overflow_add-next : goal.overflow_add-next
 overflow_add-next c = omega (arith, fits (goal.at.overflow_add-next c).In-loop-i, c.well_formed)
@@ -52,15 +50,17 @@ pub loop-i-preserved : goal.loop-i-preserved
 loop-i-preserved c =
     let l = c.loop-i in
     let a = c.args in
-    let h : l.i < length a.table.now = c.loop-i-test.true in
-    fill l.shares (bid_shares a.t a.own a.table.now a.coins.now) l.i c.share.result (omega (arith, c.requires))
-    (rw length_shares h)
-    (c.share.ensures ∙ taken a.coins.now a.t (l.i * a.t) a.own _ ∙ sym (entry a.t a.own a.table.now a.coins.now l.i h))
-    l.invariant
+    let h : l.i < length a.table.now = c.loop-i-test.true in (
+      omega (arith, l.invariant.0),
+      fill l.shares (bid_shares a.t a.own a.table.now a.coins.now) l.i c.share.result (omega (arith, c.requires))
+          (rw length_shares h)
+          (c.share.ensures ∙ taken a.coins.now a.t l.at l.i a.own _ l.invariant.0 ∙ sym (entry a.t a.own a.table.now a.coins.now l.i h))
+          l.invariant.1,
+    )
 
 pub returns : goal.returns
 returns c =
     let l = c.loop-i in
     let a = c.args in
-    sym (take_all l.i l.shares (omega (arith, c.requires))) ∙ l.invariant
+    sym (take_all l.i l.shares (omega (arith, c.requires))) ∙ l.invariant.1
     ∙ take_all l.i (bid_shares a.t a.own a.table.now a.coins.now) (omega (arith, length_shares a.t a.own a.table.now a.coins.now))

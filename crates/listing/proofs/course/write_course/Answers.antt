@@ -15,7 +15,7 @@ pub returns : goal.returns
 unfolding rounds_line
 returns c =
     let a = c.args in
-    let e : length (course_trail a.course.trail a.course.probes) ≡ a.course.probes = length_course _ _ (omega (arith, c.well_formed)) in
+    let e : length (course_trail a.course.trail a.course.probes) ≡ a.course.probes = length_course _ _ in
     let many = c.rounds.ensures ∙ ap (λ (m : ℕ). rounds_of m a.course.answer) (sym e) in (
       λ h. then c.write_probes-probes.ensures.0
           (then c.write_clears-clears.ensures.0 (then c.write_totals-totals.ensures.0 (wrote_same (ap rounds_line many) c.append_last.ensures.0))),

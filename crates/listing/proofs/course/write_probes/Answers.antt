@@ -1,11 +1,12 @@
 -- `write_probes` meets its contract: the lines of i probes are written. Assumes nothing.
-use mathlib.Core.Path.{◌≡◌, refl, sym, ap}
+use mathlib.Core.Path.{◌≡◌, refl, sym, ap, ◌∙◌}
+use Prim.Native.Nat.{◌≤◌}
 use native.Mathlib.Omega.{arith}
-use lib.ListN.{length, take}
+use lib.ListN.{length}
 use Rattle.std.proofs.lemmas.List.{length-take-le}
 use Rattle.listing.specs.Lines.{probe_lines, course_trail}
 use Rattle.listing.proofs.Writing.{then, wrote_same}
-use Rattle.listing.proofs.Telling.{course_more, course_whole}
+use Rattle.listing.proofs.Telling.{course_more, course_within}
 use Rattle.listing.proofs.course.write_probes.Goals as goal
 
 pub loop-i-init : goal.loop-i-init
@@ -27,8 +28,8 @@ loop-i-preserved c =
 pub returns : goal.returns
 returns c =
     let l = c.loop-i in
-    let h = length-take-le c.args.course.probes c.args.course.trail in
-    let e : l.i ≡ length (take c.args.course.probes c.args.course.trail) = omega arith in (
-      wrote_same (ap (probe_lines 1) (course_whole c.args.course.trail c.args.course.probes l.i e)) l.invariant.0,
-      omega (arith, l.invariant.1, c.requires, h),
+    let h : c.args.course.probes ≤ length c.args.course.trail = omega (arith, c.requires, c.well_formed) in
+    let e : l.i ≡ c.args.course.probes = omega (arith, length-take-le c.args.course.probes c.args.course.trail h, c.loop-i-test.false) in (
+      wrote_same (ap (probe_lines 1) (course_within c.args.course.trail c.args.course.probes l.i (omega (arith, e)) h ∙ ap (course_trail c.args.course.trail) e)) l.invariant.0,
+      omega (arith, l.invariant.1, c.requires, e),
     )

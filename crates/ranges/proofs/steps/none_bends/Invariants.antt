@@ -1,11 +1,9 @@
--- What holds at each turn of the loops of `none_bends`: later words are those that are left but for one. Assumes nothing.
-use Rattle.std.proofs.Common.{◌≡◌, ◌^◌, ◌<◌, true}
+-- What holds at each turn of the loop of `none_bends`. Assumes nothing.
+use Rattle.std.proofs.Common.{◌≡◌, ◌-◌, ◌^◌, ◌<◌, ◌≤◌, true, drop}
 use Rattle.ranges.specs.Steps.{steps, in_order}
-use Rattle.ranges.proofs.Bends.{Behind}
 use Rattle.ranges.proofs.steps.none_bends.Given as goal
 
-abbrev pub invariant-loop-x : goal.invariant-loop-x
-invariant-loop-x l =
-    let left = l.x-iterator.a.rest.now in
+abbrev pub invariant-loop-i : goal.invariant-loop-i
+invariant-loop-i l =
     let test = in_order l.rising in
-    Behind left l.x-iterator.b.rest.now × (l.seen < 2 ^ 63 → steps test left ≡ true → steps test l.words ≡ true)
+    (1 ≤ l.i) × (l.seen < 2 ^ 63 → steps test (drop (l.i - 1) l.words) ≡ true → steps test l.words ≡ true)
