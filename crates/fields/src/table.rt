@@ -1,4 +1,4 @@
-// Logarithms and powers on the generator 03h. A constant is written to the stack wherever it is named: so what
+// Logarithms and powers on the generator 03h. A constant array is written to the stack where it is handed out: so what
 // makes many products asks for the tables once, and lends them to all that reads them.
 ghost use Rattle.std.specs.Prelude.{◌≡◌, slice_index};
 ghost use Rattle.fields.specs.Byte.{bytes};

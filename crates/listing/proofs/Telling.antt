@@ -49,21 +49,24 @@ probes_more probe (q ∷ ps) p =
     shift : (a b : ℕ) → suc a + b ≡ a + suc b
     shift a b = omega arith
 
--- one probe more
-pub course_suc : (trail : List Probe) (i : ℕ) (p : Probe) → i < length trail
-    → course_trail trail (i + 1) ≡ course_trail trail i ++ (((get_or trail i p).index, (get_or trail i p).verdict) ∷ [])
+-- one probe more; of more than are noted, zeros
+pub course_next : (trail : List Probe) (i : ℕ)
+    → probe_lines 1 (course_trail trail (i + 1))
+    ≡ probe_lines 1 (course_trail trail i) ++ probe_line (i + 1) ((get_or trail i not_noted).index, (get_or trail i not_noted).verdict)
 unfolding course_trail
-course_suc trail i p h =
-    ap (course_trail trail) (add-one i)
-    ∙ ap (λ (q : Probe). course_trail trail i ++ ((q.index, q.verdict) ∷ [])) (get_or_default trail i not_noted p h)
+course_next trail i =
+    let q : Probe = get_or trail i not_noted in
+    let f : 1 + length (course_trail trail i) ≡ i + 1 = omega (arith, length_course trail i) in
+    ap (λ (j : ℕ). probe_lines 1 (course_trail trail j)) (add-one i)
+    ∙ probes_more 1 (course_trail trail i) (q.index, q.verdict)
+    ∙ ap (λ (j : ℕ). probe_lines 1 (course_trail trail i) ++ probe_line j (q.index, q.verdict)) f
 
+-- of one that is noted, whatever is read past the trail
 pub course_more : (trail : List Probe) (i : ℕ) (p : Probe) → i < length trail
     → probe_lines 1 (course_trail trail (i + 1)) ≡ probe_lines 1 (course_trail trail i) ++ probe_line (i + 1) ((get_or trail i p).index, (get_or trail i p).verdict)
 course_more trail i p h =
-    let f : 1 + length (course_trail trail i) ≡ i + 1 = omega (arith, length_course trail i) in
-    ap (probe_lines 1) (course_suc trail i p h)
-    ∙ probes_more 1 (course_trail trail i) _
-    ∙ ap (λ (j : ℕ). probe_lines 1 (course_trail trail i) ++ probe_line j ((get_or trail i p).index, (get_or trail i p).verdict)) f
+    course_next trail i
+    ∙ ap (λ (q : Probe). probe_lines 1 (course_trail trail i) ++ probe_line (i + 1) (q.index, q.verdict)) (get_or_default trail i not_noted p h)
 
 -- those that are listed are among the first m
 pub course_within : (trail : List Probe) (m i : ℕ) → i ≤ m → m ≤ length trail → course_trail (take m trail) i ≡ course_trail trail i

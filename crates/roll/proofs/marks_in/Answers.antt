@@ -1,4 +1,4 @@
--- `marks_in` meets its contract: the marks of the words so far are counted. Assumes nothing.
+-- `marks_in` meets its contract: the marks of the words before i are counted. Assumes nothing.
 use mathlib.Core.Path.{◌≡◌, ap, ◌∙◌}
 use Prim.Native.Nat.{ℕ, ◌+◌, ◌*◌, ◌/◌, ◌%◌}
 use native.Mathlib.Omega.{arith}
@@ -23,21 +23,21 @@ step roll i =
     let place : (64 * i + j) % 64 ≡ j = omega arith in
     rw (at, place)))
 
-pub loop-word-init : goal.loop-word-init
+pub loop-i-init : goal.loop-i-init
 unfolding count
-loop-word-init c = omega arith
+loop-i-init c = omega arith
 
 pub overflow_add-sum : goal.overflow_add-sum
-overflow_add-sum c = omega (arith, c.loop-word.invariant.0, c.loop-word-test.true, c.requires, c.set_bits-sum.ensures.1)
+overflow_add-sum c = omega (arith, c.set_bits-sum.ensures.1)
 
-pub loop-word-preserved : goal.loop-word-preserved
-loop-word-preserved c =
+pub loop-i-preserved : goal.loop-i-preserved
+loop-i-preserved c =
     let e = c.set_bits-sum.ensures in
-    omega (arith, c.loop-word.invariant, e, step (record { words = c.args.words.now }) c.loop-word.word-index)
+    omega (arith, step (record { words = c.args.words.now }) c.loop-i.i)
 
 pub returns : goal.returns
 unfolding marks
 returns c =
-    let l = c.loop-word in
-    let end : 64 * l.word-index ≡ 1024 = omega (arith, c.loop-word-test.false, l.auto.word-index-end, c.requires) in
-    l.invariant.1 ∙ ap (count (marked (record { words = c.args.words.now }))) end
+    let l = c.loop-i in
+    let end : 64 * l.i ≡ 1024 = omega arith in
+    l.invariant.2 ∙ ap (count (marked (record { words = c.args.words.now }))) end

@@ -4,6 +4,6 @@ use Rattle.ranges.specs.Lists.{count}
 use Rattle.roll.specs.Marks.{marked}
 use Rattle.roll.proofs.marks_in.Given as goal
 
-abbrev pub invariant-loop-word : goal.invariant-loop-word
-invariant-loop-word l =
-    (l.sum ≤ 64 * l.word-index) × (l.sum ≡ count (marked (record { words = l.words })) (64 * l.word-index))
+abbrev pub invariant-loop-i : goal.invariant-loop-i
+invariant-loop-i l =
+    (l.i ≤ 16) × (l.sum ≤ 64 * l.i) × (l.sum ≡ count (marked (record { words = l.words })) (64 * l.i))
